@@ -1,0 +1,9 @@
+-- The proofs of the statements in specs/Theorems.antt, and the laws that the functions' proofs cite.
+pub mod SignedFields
+pub mod Refusals
+pub mod Opcodes
+pub mod Ranges
+pub mod ReadAfterWrite
+pub mod WriteAfterRead
+pub mod Examples
+mod Casts
