@@ -1,0 +1,126 @@
+-- A step takes an interrupt exactly when rule 2 applies to it: "ready and enable are both set and the priority is below 4". "Otherwise the
+-- word at PC is fetched and obeyed." By the plans: what an instruction does is never the entry for an interrupt, in either mode.
+use Prim.Native.Nat.{ℕ}
+use mathlib.Core.Path.{_≡_, refl, ap, _∙_}
+use mathlib.Core.Bool.{Bool, true, false, cond, _&&_, not}
+use mathlib.Core.List.{List}
+use lib.Dec.{leb, ltb, eqb}
+use lib.ListN.{getD}
+use Rattle.word.specs.Reading.{readOf}
+use Rattle.machine.specs.declared.Machine.{Machine}
+use Rattle.machine.specs.declared.Plan.{Plan}
+use Rattle.machine.specs.declared.Plan.the-variants.{Move, Put, Jump, Load, LoadBy, Store, StoreBy, Call, Illegal, Return}
+use Rattle.machine.specs.declared.Pending.the-variants.{Nothing, Interrupt}
+use Rattle.machine.specs.Words.{next}
+use Rattle.machine.specs.Psr.{inUserMode, priorityOf, kept}
+use Rattle.machine.specs.Outcome.{Reason, trap, privilege, illegal, access, Outcome, plainOutcome, withReads, afterInstruction}
+use Rattle.machine.specs.Keys.{afterKeys}
+use Rattle.machine.specs.Interrupts.{keyboardVector, keyboardPriority, pendingInterrupt}
+use Rattle.machine.specs.Protection.{denied}
+use Rattle.machine.specs.Entry.{entry, raised, interrupted}
+use Rattle.machine.specs.Devices.{KBSR, KBDR, DSR, DDR, PSR, isDevice, kbsrStore, psrStore, mcrStore, ddrStore, deviceStore, stored}
+use Rattle.machine.specs.Access.{checked, loadTo, storeAt, byPointer}
+use Rattle.machine.specs.Return.{popped, return}
+use Rattle.machine.specs.Plan.{planOf}
+use Rattle.machine.specs.Step.{perform, obeyed, interruptedOrObeyed, ended, stepOf}
+use Rattle.machine.specs.Causes.{isTrapOrException, takesInterrupt}
+use Rattle.machine.proofs.Tests.{either-branch}
+use Rattle.machine.proofs.TwoSteps.{no-interrupt-is-obeyed}
+
+abbrev NoInterruptTaken : Outcome → Type 0
+NoInterruptTaken o = takesInterrupt (o .cause) ≡ false
+
+trap-or-exception-is-no-interrupt : (reason : Reason) (pc : ℕ) (m : Machine) (mem : List ℕ) → isTrapOrException reason ≡ true
+    → NoInterruptTaken (raised reason pc m mem)
+unfolding raised entry
+trap-or-exception-is-no-interrupt reason pc m mem t = ap not t
+
+checked-is-no-interrupt : (a : ℕ) (m : Machine) (mem : List ℕ) (o : Outcome) → NoInterruptTaken o → NoInterruptTaken (checked a m mem o)
+checked-is-no-interrupt a m mem o h =
+    either-branch NoInterruptTaken (denied (m .psr) a) (trap-or-exception-is-no-interrupt access (m .pc) m mem refl) h
+
+device-store-is-no-interrupt : (v a : ℕ) (m : Machine) (mem : List ℕ) → NoInterruptTaken (deviceStore v a m mem)
+unfolding deviceStore ddrStore
+device-store-is-no-interrupt v a m mem = go (eqb a KBSR) (eqb a KBDR) (eqb a DSR) (eqb a DDR) (eqb a PSR)
+  where
+    go : (b₁ b₂ b₃ b₄ b₅ : Bool)
+        → NoInterruptTaken
+        (cond b₁ (plainOutcome (kbsrStore v m) mem)
+        (cond b₂ (plainOutcome m mem)
+        (cond b₃ (plainOutcome m mem)
+        (cond b₄ (ddrStore v m mem) (cond b₅ (plainOutcome (psrStore v m) mem) (plainOutcome (mcrStore v m) mem))))))
+    go true b₂ b₃ b₄ b₅ = refl
+    go false true b₃ b₄ b₅ = refl
+    go false false true b₄ b₅ = refl
+    go false false false true b₅ = refl
+    go false false false false true = refl
+    go false false false false false = refl
+
+store-is-no-interrupt : (v a : ℕ) (m : Machine) (mem : List ℕ) → NoInterruptTaken (stored v a m mem)
+unfolding stored
+store-is-no-interrupt v a m mem = either-branch NoInterruptTaken (isDevice a) (device-store-is-no-interrupt v a m mem) refl
+
+loadTo-is-no-interrupt : (r a : ℕ) (m : Machine) (mem : List ℕ) → NoInterruptTaken (loadTo r a m mem)
+unfolding loadTo
+loadTo-is-no-interrupt r a m mem = checked-is-no-interrupt a m mem _ refl
+
+storeAt-is-no-interrupt : (v a : ℕ) (m : Machine) (mem : List ℕ) → NoInterruptTaken (storeAt v a m mem)
+unfolding storeAt
+storeAt-is-no-interrupt v a m mem =
+    checked-is-no-interrupt a m mem _ (store-is-no-interrupt v a (afterInstruction (m .regs) (next (m .pc)) kept m) mem)
+
+byPointer-is-no-interrupt : (a : ℕ) (data-access : ℕ → Machine → List ℕ → Outcome) (m : Machine) (mem : List ℕ)
+    → ((b : ℕ) (n : Machine) → NoInterruptTaken (data-access b n mem)) → NoInterruptTaken (byPointer a data-access m mem)
+unfolding byPointer withReads
+byPointer-is-no-interrupt a data-access m mem h = checked-is-no-interrupt a m mem _ (h _ _)
+
+return-is-no-interrupt : (m : Machine) (mem : List ℕ) → NoInterruptTaken (return m mem)
+unfolding return popped
+return-is-no-interrupt m mem =
+    either-branch NoInterruptTaken (inUserMode (m .psr)) (trap-or-exception-is-no-interrupt privilege (m .pc) m mem refl) refl
+
+plan-is-no-interrupt : (p : Plan) (m : Machine) (mem : List ℕ) → NoInterruptTaken (perform p m mem)
+unfolding perform
+plan-is-no-interrupt (Move r v pc) m mem = refl
+plan-is-no-interrupt (Put r v pc) m mem = refl
+plan-is-no-interrupt (Jump pc) m mem = refl
+plan-is-no-interrupt (Load r a) m mem = loadTo-is-no-interrupt r a m mem
+plan-is-no-interrupt (LoadBy r a) m mem = byPointer-is-no-interrupt a (loadTo r) m mem (λ b n. loadTo-is-no-interrupt r b n mem)
+plan-is-no-interrupt (Store v a) m mem = storeAt-is-no-interrupt v a m mem
+plan-is-no-interrupt (StoreBy v a) m mem = byPointer-is-no-interrupt a (storeAt v) m mem (λ b n. storeAt-is-no-interrupt v b n mem)
+plan-is-no-interrupt (Call vector) m mem = trap-or-exception-is-no-interrupt (trap vector) (next (m .pc)) m mem refl
+plan-is-no-interrupt Illegal m mem = trap-or-exception-is-no-interrupt illegal (m .pc) m mem refl
+plan-is-no-interrupt Return m mem = return-is-no-interrupt m mem
+
+instruction-is-no-interrupt : (m : Machine) (mem : List ℕ) → NoInterruptTaken (obeyed m mem)
+unfolding obeyed withReads
+instruction-is-no-interrupt m mem =
+    checked-is-no-interrupt (m .pc) m mem _
+    (plan-is-no-interrupt (planOf (m .regs) (m .pc) (m .psr) (readOf (getD mem (m .pc) 0))) m mem)
+
+pending-is-taken : (vector priority : ℕ) (m : Machine) (mem : List ℕ)
+    → takesInterrupt (interruptedOrObeyed (Interrupt vector priority) m mem .cause) ≡ true
+unfolding interruptedOrObeyed interrupted entry
+pending-is-taken vector priority m mem = refl
+
+none-pending-is-none-taken : (m : Machine) (mem : List ℕ) → takesInterrupt (interruptedOrObeyed Nothing m mem .cause) ≡ false
+unfolding interruptedOrObeyed
+none-pending-is-none-taken m mem = instruction-is-no-interrupt m mem
+
+pub interrupt-is-taken-by-rule-2 : (keys : List ℕ) (m : Machine) (mem : List ℕ)
+    → takesInterrupt (stepOf keys m mem .cause) ≡ (leb 0xC000 (afterKeys keys m .kbsr) && ltb (priorityOf (m .psr)) 4)
+unfolding stepOf ended pendingInterrupt afterKeys
+interrupt-is-taken-by-rule-2 keys m mem = go (leb 0xC000 (afterKeys keys m .kbsr) && ltb (priorityOf (m .psr)) 4)
+  where
+    go : (rule-2 : Bool)
+        → takesInterrupt (interruptedOrObeyed (cond rule-2 (Interrupt keyboardVector keyboardPriority) Nothing) (afterKeys keys m) mem .cause) ≡ rule-2
+    go true = pending-is-taken keyboardVector keyboardPriority (afterKeys keys m) mem
+    go false = none-pending-is-none-taken (afterKeys keys m) mem
+
+pub otherwise-the-word-is-obeyed : (keys : List ℕ) (m : Machine) (mem : List ℕ)
+    → (leb 0xC000 (afterKeys keys m .kbsr) && ltb (priorityOf (m .psr)) 4) ≡ false
+    → stepOf keys m mem ≡ ended (obeyed (afterKeys keys m) mem)
+unfolding stepOf ended
+otherwise-the-word-is-obeyed keys m mem e =
+    let n : Machine = afterKeys keys m in
+    ap ended (no-interrupt-is-obeyed (pendingInterrupt n) n mem (interrupt-is-taken-by-rule-2 keys m mem ∙ e))

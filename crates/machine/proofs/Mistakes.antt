@@ -1,0 +1,19 @@
+-- No step makes one of the mistakes that invite: each of the steps is computed.
+use mathlib.Core.Path.{refl}
+use Rattle.machine.specs.Mistakes.{NoInvitedMistake}
+use Rattle.machine.proofs.Opened.{opened}
+
+pub no-invited-mistake : NoInvitedMistake
+unfolding opened
+no-invited-mistake = record {
+  vector-after-pushes = refl;
+  psr-from-supervisor-stack = refl;
+  check-before-read = refl;
+  lea-keeps-codes = refl;
+  ready-kept-at-entry = refl;
+  add-adds = refl;
+  jsrr-by-old-base = refl;
+  own-address-pushed = refl;
+  mode-not-stored = refl;
+  ldi-data-checked = refl;
+}

@@ -1,0 +1,50 @@
+-- `step::devices::load` meets its contract: each arm of the match knows its address; the last one knows that it is no device's.
+use borrow.Author.Needs.{needs}
+use borrow.Author.Tests.{ne-eqb}
+use Rattle.machine.specs.Devices.{isDevice, deviceValue, loadedValue, kbsrAfterLoad}
+use Rattle.machine.proofs.DeviceLaws.{no-device}
+use Rattle.step.proofs.devices.load.Statement.{statement}
+use Rattle.step.proofs.devices.load.Tie as tie
+
+returns : tie.Need-returns
+unfolding loadedValue isDevice deviceValue kbsrAfterLoad
+returns c =
+    λ regs clock. rw (c .match .keys1)
+
+returns-2 : tie.Need-returns-2
+unfolding loadedValue isDevice deviceValue kbsrAfterLoad
+returns-2 c =
+    λ regs clock. rw (c .match .keys2)
+
+returns-3 : tie.Need-returns-3
+unfolding loadedValue isDevice deviceValue kbsrAfterLoad
+returns-3 c =
+    λ regs clock. rw (c .match .keys3)
+
+returns-4 : tie.Need-returns-4
+unfolding loadedValue isDevice deviceValue kbsrAfterLoad
+returns-4 c =
+    λ regs clock. rw (c .match .keys4)
+
+returns-5 : tie.Need-returns-5
+unfolding loadedValue isDevice deviceValue kbsrAfterLoad
+returns-5 c =
+    λ regs clock. rw (c .match .keys5)
+
+returns-6 : tie.Need-returns-6
+unfolding loadedValue isDevice deviceValue kbsrAfterLoad
+returns-6 c =
+    λ regs clock. rw (c .match .keys6)
+
+returns-7 : tie.Need-returns-7
+unfolding loadedValue kbsrAfterLoad
+returns-7 c =
+    λ regs clock.
+    let a = c .before .before .before .args .a in
+    let r = c .before .match .rest in
+    rw (no-device a (r .0 .0 .0 .0 .0 .1) (r .0 .0 .0 .0 .1) (r .0 .0 .0 .1) (r .0 .0 .1) (r .0 .1) (r .1), ne-eqb a 0xFE02 (r .0 .0 .0 .0 .1), c .word-at .ensures)
+
+pub load-spec : {M : Type 1} → statement M
+load-spec =
+    tie.close
+    (tie.spec (λ c κs. search needs) returns returns-2 returns-3 returns-4 returns-5 returns-6 returns-7)

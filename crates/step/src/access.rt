@@ -1,0 +1,124 @@
+// The accesses of LD, LDR, LDI, ST, STR, STI: each address is checked first, then the access is made.
+use crate::Obeyed;
+use crate::devices::load;
+use crate::devices::store;
+use crate::devices::unshown;
+use crate::entry::raise;
+use crate::protection::is_denied;
+use crate::psr::with_codes;
+use crate::words::next;
+use crate::words::set_register;
+use machine::Control;
+ghost use mathlib.Core.Path.{_≡_};
+ghost use mathlib.Core.List.{List};
+ghost use Prim.Native.Nat.{ℕ};
+ghost use lib.ListN.{length};
+ghost use Rattle.machine.specs.Words.{withRegister};
+ghost use Rattle.machine.specs.Record.{whole};
+ghost use Rattle.machine.specs.Psr.{kept, setFrom};
+ghost use Rattle.machine.specs.Outcome.{afterInstruction};
+ghost use Rattle.machine.specs.Devices.{kbsrAfterLoad, afterLoad};
+ghost use Rattle.machine.specs.Access.{loadTo, storeAt, byPointer};
+ghost use Rattle.step.specs.Delivery.{effect, quiet, after, delivered};
+
+// An instruction that puts a value in a register and sets the codes from it.
+pub fn move_to(c: Control, regs: &mut [u16; 8], r: u8, v: u16, pc: u16) -> Control
+    ensures { λ n. ⌜ ((clock : ℕ) → whole (now (regs .exit)) clock n ≡ afterInstruction (withRegister (now (regs .entry)) r v) pc (setFrom v) (whole (now (regs .entry)) clock c)) ⌝ }
+{
+    let mut n = c;
+    set_register(regs, r, v);
+    n.pc = pc;
+    n.psr = with_codes(c.psr, v);
+    n
+}
+
+// An instruction that puts a value in a register.
+pub fn put_in(c: Control, regs: &mut [u16; 8], r: u8, v: u16, pc: u16) -> Control
+    ensures { λ n. ⌜ ((clock : ℕ) → whole (now (regs .exit)) clock n ≡ afterInstruction (withRegister (now (regs .entry)) r v) pc kept (whole (now (regs .entry)) clock c)) ⌝ }
+{
+    let mut n = c;
+    set_register(regs, r, v);
+    n.pc = pc;
+    n
+}
+
+// An instruction that goes on at this PC.
+pub fn go_on_at(c: Control, pc: u16) -> Control
+    ensures { λ n. ⌜ ((regs : List ℕ) (clock : ℕ) → whole regs clock n ≡ afterInstruction regs pc kept (whole regs clock c)) ⌝ }
+{
+    let mut n = c;
+    n.pc = pc;
+    n
+}
+
+// The record after a load, by its KBSR.
+fn after_load(c: Control, kbsr: u16) -> Control
+    ensures { λ n. ⌜ ((a clock : ℕ) (regs : List ℕ) → kbsr ≡ kbsrAfterLoad a (c .kbsr) → whole regs clock n ≡ afterLoad a (whole regs clock c)) ⌝ }
+{
+    let mut n = c;
+    n.kbsr = kbsr;
+    n
+}
+
+pub fn load_to(c: Control, regs: &mut [u16; 8], memory: &mut [u16], r: u8, a: u16) -> Control
+    requires { ⌜ length (now memory) ≡ 65536 ⌝ }
+    ensures { λ n. ⌜ ((clock : ℕ) → quiet (whole (now (regs .exit)) clock n) (now (memory .exit)) ≡ effect (loadTo r a (whole (now (regs .entry)) clock c) (now (memory .entry)))) ⌝ }
+{
+    if is_denied(c.psr, a) {
+        return raise(c, regs, memory, 0x0102, c.pc);
+    }
+    let l = load(c, memory, a);
+    let n = after_load(c, l.kbsr);
+    move_to(n, regs, r, l.value, next(c.pc))
+}
+
+pub fn store_at(
+    c: Control,
+    regs: &mut [u16; 8],
+    memory: &mut [u16],
+    output: &mut [u8],
+    v: u16,
+    a: u16,
+) -> Obeyed
+    requires { ⌜ length (now memory) ≡ 65536 ⌝ }
+    ensures { λ o. ⌜ ((clock : ℕ) → after o (now (regs .exit)) clock (now (memory .exit)) (now (output .exit)) ≡ delivered (now (regs .entry)) (now (memory .entry)) (now (output .entry)) (effect (storeAt v a (whole (now (regs .entry)) clock c) (now (memory .entry))))) ⌝ }
+{
+    if is_denied(c.psr, a) {
+        return unshown(raise(c, regs, memory, 0x0102, c.pc));
+    }
+    let n = go_on_at(c, next(c.pc));
+    store(n, memory, output, v, a)
+}
+
+// LDI: the pointer is loaded, then the word that it points to.
+pub fn load_by(c: Control, regs: &mut [u16; 8], memory: &mut [u16], r: u8, a: u16) -> Control
+    requires { ⌜ length (now memory) ≡ 65536 ⌝ }
+    ensures { λ n. ⌜ ((clock : ℕ) → quiet (whole (now (regs .exit)) clock n) (now (memory .exit)) ≡ effect (byPointer a (loadTo r) (whole (now (regs .entry)) clock c) (now (memory .entry)))) ⌝ }
+{
+    if is_denied(c.psr, a) {
+        return raise(c, regs, memory, 0x0102, c.pc);
+    }
+    let l = load(c, memory, a);
+    let n = after_load(c, l.kbsr);
+    load_to(n, regs, memory, r, l.value)
+}
+
+// STI: the pointer is loaded, then the value is stored where it points.
+pub fn store_by(
+    c: Control,
+    regs: &mut [u16; 8],
+    memory: &mut [u16],
+    output: &mut [u8],
+    v: u16,
+    a: u16,
+) -> Obeyed
+    requires { ⌜ length (now memory) ≡ 65536 ⌝ }
+    ensures { λ o. ⌜ ((clock : ℕ) → after o (now (regs .exit)) clock (now (memory .exit)) (now (output .exit)) ≡ delivered (now (regs .entry)) (now (memory .entry)) (now (output .entry)) (effect (byPointer a (storeAt v) (whole (now (regs .entry)) clock c) (now (memory .entry))))) ⌝ }
+{
+    if is_denied(c.psr, a) {
+        return unshown(raise(c, regs, memory, 0x0102, c.pc));
+    }
+    let l = load(c, memory, a);
+    let n = after_load(c, l.kbsr);
+    store_at(n, regs, memory, output, v, l.value)
+}

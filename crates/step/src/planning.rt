@@ -1,0 +1,73 @@
+// What each instruction asks for, from registers, PC and PSR alone.
+use crate::psr::is_taken;
+use crate::words::bit_and;
+use crate::words::complement;
+use crate::words::next;
+use crate::words::register;
+use machine::Plan;
+use word::Instruction;
+ghost use mathlib.Core.Path.{_≡_};
+ghost use mathlib.Core.Bool.{cond};
+ghost use Prim.Native.Nat.{_+_};
+ghost use Rattle.machine.specs.Words.{wrap, plus};
+ghost use Rattle.machine.specs.Psr.{isTaken};
+ghost use Rattle.machine.specs.Plan.{planOf};
+
+fn branch(mask: u8, psr: u16, next: u16, n: i16) -> u16
+    ensures { λ r. ⌜ r ≡ cond (isTaken mask psr) (plus next n) next ⌝ }
+{
+    if is_taken(mask, psr) {
+        return word::fields::offset(next, n);
+    }
+    next
+}
+
+fn sum(a: u16, b: u16) -> u16
+    ensures { λ r. ⌜ r ≡ wrap (a + b) ⌝ }
+{
+    std::num::wrapping_add_u16(a, b)
+}
+
+pub fn plan_for(regs: &[u16; 8], pc: u16, psr: u16, i: Instruction) -> Plan
+    ensures { λ r. ⌜ r ≡ planOf (now (regs .entry)) pc psr i ⌝ }
+{
+    let next = next(pc);
+    match i {
+        Instruction::Br(mask, n) => Plan::Jump(branch(mask, psr, next, n)),
+        Instruction::AddRegister(d, a, b) => {
+            Plan::Move(d, sum(register(regs, a), register(regs, b)), next)
+        }
+        Instruction::AddImmediate(d, a, n) => {
+            Plan::Move(d, word::fields::offset(register(regs, a), n), next)
+        }
+        Instruction::Ld(d, n) => Plan::Load(d, word::fields::offset(next, n)),
+        Instruction::St(s, n) => Plan::Store(register(regs, s), word::fields::offset(next, n)),
+        Instruction::Jsr(n) => Plan::Put(7, next, word::fields::offset(next, n)),
+        Instruction::Jsrr(b) => Plan::Put(7, next, register(regs, b)),
+        Instruction::AndRegister(d, a, b) => {
+            Plan::Move(d, bit_and(register(regs, a), register(regs, b)), next)
+        }
+        Instruction::AndImmediate(d, a, n) => {
+            Plan::Move(
+                d,
+                bit_and(register(regs, a), word::fields::word_of(n)),
+                next,
+            )
+        }
+        Instruction::Ldr(d, b, n) => Plan::Load(d, word::fields::offset(register(regs, b), n)),
+        Instruction::Str(s, b, n) => {
+            Plan::Store(
+                register(regs, s),
+                word::fields::offset(register(regs, b), n),
+            )
+        }
+        Instruction::Rti => Plan::Return,
+        Instruction::Not(d, a) => Plan::Move(d, complement(register(regs, a)), next),
+        Instruction::Ldi(d, n) => Plan::LoadBy(d, word::fields::offset(next, n)),
+        Instruction::Sti(s, n) => Plan::StoreBy(register(regs, s), word::fields::offset(next, n)),
+        Instruction::Jmp(b) => Plan::Jump(register(regs, b)),
+        Instruction::Reserved(_) => Plan::Illegal,
+        Instruction::Lea(d, n) => Plan::Put(d, word::fields::offset(next, n), next),
+        Instruction::Trap(vector) => Plan::Call(vector),
+    }
+}

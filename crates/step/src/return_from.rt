@@ -1,0 +1,44 @@
+// RTI: both words are popped before R6 changes.
+use crate::entry::raise;
+use crate::memory::word_at;
+use crate::psr::defined_psr;
+use crate::words::next;
+use crate::words::register;
+use crate::words::set_register;
+use machine::Control;
+ghost use mathlib.Core.Path.{_≡_};
+ghost use Prim.Native.Nat.{ℕ};
+ghost use lib.ListN.{length};
+ghost use Rattle.machine.specs.Record.{whole};
+ghost use Rattle.machine.specs.Return.{afterReturn, return};
+ghost use Rattle.step.specs.Delivery.{effect, quiet};
+
+// The record with this PC and PSR popped, and R6 above them at sp.
+fn after_return(c: Control, regs: &mut [u16; 8], pc: u16, psr: u16, sp: u16) -> Control
+    ensures { λ r. ⌜ ((clock : ℕ) → whole (now (regs .exit)) clock r ≡ afterReturn pc psr sp (whole (now (regs .entry)) clock c)) ⌝ }
+{
+    let mut n = c;
+    n.pc = pc;
+    n.psr = psr;
+    if psr < 0x8000 {
+        set_register(regs, 6, sp);
+        return n;
+    }
+    n.saved_ssp = sp;
+    set_register(regs, 6, c.saved_usp);
+    n
+}
+
+pub fn return_from_interrupt(c: Control, regs: &mut [u16; 8], memory: &mut [u16]) -> Control
+    requires { ⌜ length (now memory) ≡ 65536 ⌝ }
+    ensures { λ r. ⌜ ((clock : ℕ) → quiet (whole (now (regs .exit)) clock r) (now (memory .exit)) ≡ effect (return (whole (now (regs .entry)) clock c) (now (memory .entry)))) ⌝ }
+{
+    if c.psr < 0x8000 {
+        let sp = register(regs, 6);
+        let pc = word_at(memory, sp);
+        let above = next(sp);
+        let psr = defined_psr(word_at(memory, above));
+        return after_return(c, regs, pc, psr, next(above));
+    }
+    raise(c, regs, memory, 0x0100, c.pc)
+}
