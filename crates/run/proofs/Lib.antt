@@ -1,0 +1,12 @@
+-- The laws of runs and calls, the loop over the steps, and the proofs of the theorems.
+pub mod RefusedCalls
+pub mod RunLaws
+pub mod RunKeeps
+pub mod Acceptance
+pub mod RefusalLaws
+pub mod LoopLaws
+pub mod Examples
+pub mod Continuing
+pub mod Bounds
+pub mod Noninterference
+pub mod TwoStarts
