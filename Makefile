@@ -1,7 +1,56 @@
-# make test   everything: formatting, the proofs, and the wrong programs that must be refused
+# make run    the demonstration: a candidate's program beside the examiner's monitor
+# make test   everything: formatting, the proofs with the wrong programs that must be refused, the host tests
+# make lib    build/liblc3.a and build/liblc3.so; the header is include/lc3.h
+# make bench  time against a plain C interpreter
+# make soak   many more random runs against the reference simulator
 
-.PHONY: test
+ARCHIVES = target/staticlib/liblc3_machine.a target/staticlib/liblc3_words.a
+CARGO = cargo test --quiet --offline --release --manifest-path host/Cargo.toml --target-dir build/cargo
 
-test:
+.PHONY: run test lib bench soak format host clean
+
+run:
+	rt check demo >/dev/null
+	@target/bin/demo
+
+# The archives are built from the crates that `rt ci` has just proved. Its verdict is repeated as the last line of all.
+test: format
+	@mkdir -p build
+	rt ci >build/ci.log 2>&1 || { cat build/ci.log; exit 1; }
+	@sed '$$d' build/ci.log
+	@$(MAKE) --no-print-directory host
+	@tail -n 1 build/ci.log
+
+format:
 	rt fmt --check
-	rt ci
+	cargo fmt --check --manifest-path host/Cargo.toml
+
+host: lib
+	host/c/run.sh
+	host/bench/symbols.sh '*::run' '*::go' '*::run_accepted'
+	host/bench/count.sh
+	$(CARGO) -- --nocapture
+	RUSTDOCFLAGS="-D warnings" cargo doc --quiet --no-deps --offline --manifest-path host/Cargo.toml --target-dir build/cargo
+
+lib: build/liblc3.so
+
+target/staticlib/lib%.a: crates.txt $(shell find crates -name '*.rt' -o -name '*.antt')
+	rt staticlib $*
+
+build/liblc3.a: $(ARCHIVES)
+	mkdir -p build/objects
+	cd build/objects && rm -f *.o && for a in $(ARCHIVES); do n=$$(basename $$a .a); mkdir -p $$n && cd $$n && ar x ../../../$$a && for o in *.o; do mv $$o ../$$n-$$o; done && cd .. && rmdir $$n; done
+	rm -f $@
+	ar rcs $@ build/objects/*.o
+
+build/liblc3.so: build/liblc3.a
+	gcc -shared -o $@ -Wl,--whole-archive $< -Wl,--no-whole-archive
+
+bench: lib
+	host/bench/run.sh
+
+soak: lib
+	LC3_RUNS=20000000 $(CARGO) --test differential soak -- --ignored --nocapture
+
+clean:
+	rm -rf target build

@@ -15,49 +15,64 @@ ghost use Prim.Native.Nat.{ℕ};
 ghost use lib.ListN.{length};
 ghost use Rattle.machine.specs.Words.{withRegister};
 ghost use Rattle.machine.specs.Record.{whole};
-ghost use Rattle.machine.specs.Psr.{kept, setFrom};
+ghost use Rattle.machine.specs.Psr.{Codes, kept, setFrom, recoded};
 ghost use Rattle.machine.specs.Outcome.{afterInstruction};
 ghost use Rattle.machine.specs.Devices.{kbsrAfterLoad, afterLoad};
 ghost use Rattle.machine.specs.Access.{loadTo, storeAt, byPointer};
 ghost use Rattle.step.specs.Delivery.{effect, quiet, after, delivered};
 
+// The record after an instruction. Every field is written out, here and wherever a `Control` is made anew: a copy that is then altered
+// lets the compiler pack neighbouring fields into one word, which costs a step a quarter more instructions.
+fn after_instruction(c: Control, pc: u16, psr: u16) -> Control
+    ensures { λ n. ⌜ ((regs : List ℕ) (clock : ℕ) (codes : Codes) → psr ≡ recoded codes (c .psr) → whole regs clock n ≡ afterInstruction regs pc codes (whole regs clock c)) ⌝ }
+{
+    Control {
+        pc,
+        psr,
+        saved_ssp: c.saved_ssp,
+        saved_usp: c.saved_usp,
+        kbsr: c.kbsr,
+        kbdr: c.kbdr,
+        mcr: c.mcr,
+    }
+}
+
 // An instruction that puts a value in a register and sets the codes from it.
 pub fn move_to(c: Control, regs: &mut [u16; 8], r: u8, v: u16, pc: u16) -> Control
     ensures { λ n. ⌜ ((clock : ℕ) → whole (now (regs .exit)) clock n ≡ afterInstruction (withRegister (now (regs .entry)) r v) pc (setFrom v) (whole (now (regs .entry)) clock c)) ⌝ }
 {
-    let mut n = c;
     set_register(regs, r, v);
-    n.pc = pc;
-    n.psr = with_codes(c.psr, v);
-    n
+    after_instruction(c, pc, with_codes(c.psr, v))
 }
 
 // An instruction that puts a value in a register.
 pub fn put_in(c: Control, regs: &mut [u16; 8], r: u8, v: u16, pc: u16) -> Control
     ensures { λ n. ⌜ ((clock : ℕ) → whole (now (regs .exit)) clock n ≡ afterInstruction (withRegister (now (regs .entry)) r v) pc kept (whole (now (regs .entry)) clock c)) ⌝ }
 {
-    let mut n = c;
     set_register(regs, r, v);
-    n.pc = pc;
-    n
+    after_instruction(c, pc, c.psr)
 }
 
 // An instruction that goes on at this PC.
 pub fn go_on_at(c: Control, pc: u16) -> Control
     ensures { λ n. ⌜ ((regs : List ℕ) (clock : ℕ) → whole regs clock n ≡ afterInstruction regs pc kept (whole regs clock c)) ⌝ }
 {
-    let mut n = c;
-    n.pc = pc;
-    n
+    after_instruction(c, pc, c.psr)
 }
 
 // The record after a load, by its KBSR.
 fn after_load(c: Control, kbsr: u16) -> Control
     ensures { λ n. ⌜ ((a clock : ℕ) (regs : List ℕ) → kbsr ≡ kbsrAfterLoad a (c .kbsr) → whole regs clock n ≡ afterLoad a (whole regs clock c)) ⌝ }
 {
-    let mut n = c;
-    n.kbsr = kbsr;
-    n
+    Control {
+        pc: c.pc,
+        psr: c.psr,
+        saved_ssp: c.saved_ssp,
+        saved_usp: c.saved_usp,
+        kbsr,
+        kbdr: c.kbdr,
+        mcr: c.mcr,
+    }
 }
 
 pub fn load_to(c: Control, regs: &mut [u16; 8], memory: &mut [u16], r: u8, a: u16) -> Control

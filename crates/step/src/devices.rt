@@ -10,7 +10,7 @@ ghost use mathlib.Core.List.{List};
 ghost use Prim.Native.Nat.{ℕ};
 ghost use lib.ListN.{length};
 ghost use Rattle.machine.specs.Record.{whole};
-ghost use Rattle.machine.specs.Devices.{ddrStore, stored};
+ghost use Rattle.machine.specs.Devices.{withDevices, ddrStore, stored};
 ghost use Rattle.step.specs.declared.Display.the-variants.{Unchanged};
 ghost use Rattle.step.specs.Delivery.{loadOf, effect, after, delivered};
 
@@ -66,29 +66,43 @@ fn show(c: Control, output: &mut [u8], v: u16) -> Obeyed
     }
 }
 
+// The record after a store to KBSR, PSR or MCR.
+fn with_devices(c: Control, kbsr: u16, psr: u16, mcr: u16) -> Control
+    ensures { λ n. ⌜ ((regs : List ℕ) (clock : ℕ) → whole regs clock n ≡ withDevices kbsr psr mcr (whole regs clock c)) ⌝ }
+{
+    Control {
+        pc: c.pc,
+        psr,
+        saved_ssp: c.saved_ssp,
+        saved_usp: c.saved_usp,
+        kbsr,
+        kbdr: c.kbdr,
+        mcr,
+    }
+}
+
 pub fn store(c: Control, memory: &mut [u16], output: &mut [u8], v: u16, a: u16) -> Obeyed
     requires { ⌜ length (now memory) ≡ 65536 ⌝ }
     ensures { λ r. ⌜ ((regs : List ℕ) (clock : ℕ) → after r regs clock (now (memory .exit)) (now (output .exit)) ≡ delivered regs (now (memory .entry)) (now (output .entry)) (effect (stored v a (whole regs clock c) (now (memory .entry))))) ⌝ }
 {
-    let mut n = c;
     match a {
         0xFE00 => {
-            n.kbsr = c.kbsr / 0x8000 * 0x8000 + v / 0x4000 % 2 * 0x4000;
-            unshown(n)
+            let kbsr = c.kbsr / 0x8000 * 0x8000 + v / 0x4000 % 2 * 0x4000;
+            unshown(with_devices(c, kbsr, c.psr, c.mcr))
         }
-        0xFE02 | 0xFE04 => unshown(n),
-        0xFE06 => show(n, output, v),
+        0xFE02 | 0xFE04 => unshown(c),
+        0xFE06 => show(c, output, v),
         0xFFFC => {
-            n.psr = c.psr / 0x8000 * 0x8000 + v / 256 % 8 * 256 + v % 8;
-            unshown(n)
+            let psr = c.psr / 0x8000 * 0x8000 + v / 256 % 8 * 256 + v % 8;
+            unshown(with_devices(c, c.kbsr, psr, c.mcr))
         }
         0xFFFE => {
-            n.mcr = v / 0x8000 * 0x8000;
-            unshown(n)
+            let mcr = v / 0x8000 * 0x8000;
+            unshown(with_devices(c, c.kbsr, c.psr, mcr))
         }
         _ => {
             set_word(memory, a, v);
-            unshown(n)
+            unshown(c)
         }
     }
 }

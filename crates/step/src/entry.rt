@@ -49,11 +49,17 @@ fn enter(
     let sp = by_mode(c.psr, c.saved_ssp, r6);
     push_two(memory, sp, c.psr, pc);
     set_register(regs, 6, before(before(sp)));
-    let mut n = c;
-    n.saved_usp = by_mode(c.psr, r6, c.saved_usp);
-    n.pc = word_at(memory, vector);
-    n.psr = psr;
-    n
+    let saved_usp = by_mode(c.psr, r6, c.saved_usp);
+    let target = word_at(memory, vector);
+    Control {
+        pc: target,
+        psr,
+        saved_ssp: c.saved_ssp,
+        saved_usp,
+        kbsr: c.kbsr,
+        kbdr: c.kbdr,
+        mcr: c.mcr,
+    }
 }
 
 // A trap or an exception: the priority stays.

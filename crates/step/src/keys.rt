@@ -13,10 +13,16 @@ ghost use Rattle.step.specs.Delivery.{arrival, arrivalOf};
 pub fn press(c: Control, byte: u8) -> Control
     ensures { λ r. ⌜ ((regs : List ℕ) (clock : ℕ) → whole regs clock r ≡ afterKeys (byte ∷ []) (whole regs clock c)) ⌝ }
 {
-    let mut n = c;
-    n.kbsr = c.kbsr % 0x8000 + 0x8000;
-    n.kbdr = byte as u16;
-    n
+    let kbsr = c.kbsr % 0x8000 + 0x8000;
+    Control {
+        pc: c.pc,
+        psr: c.psr,
+        saved_ssp: c.saved_ssp,
+        saved_usp: c.saved_usp,
+        kbsr,
+        kbdr: byte as u16,
+        mcr: c.mcr,
+    }
 }
 
 pub fn arrive(c: Control, t: u64, times: &[u64], bytes: &[u8], from: usize) -> Arrived

@@ -17,16 +17,28 @@ ghost use Rattle.step.specs.Delivery.{effect, quiet};
 fn after_return(c: Control, regs: &mut [u16; 8], pc: u16, psr: u16, sp: u16) -> Control
     ensures { λ r. ⌜ ((clock : ℕ) → whole (now (regs .exit)) clock r ≡ afterReturn pc psr sp (whole (now (regs .entry)) clock c)) ⌝ }
 {
-    let mut n = c;
-    n.pc = pc;
-    n.psr = psr;
     if psr < 0x8000 {
         set_register(regs, 6, sp);
-        return n;
+        return Control {
+            pc,
+            psr,
+            saved_ssp: c.saved_ssp,
+            saved_usp: c.saved_usp,
+            kbsr: c.kbsr,
+            kbdr: c.kbdr,
+            mcr: c.mcr,
+        };
     }
-    n.saved_ssp = sp;
     set_register(regs, 6, c.saved_usp);
-    n
+    Control {
+        pc,
+        psr,
+        saved_ssp: sp,
+        saved_usp: c.saved_usp,
+        kbsr: c.kbsr,
+        kbdr: c.kbdr,
+        mcr: c.mcr,
+    }
 }
 
 pub fn return_from_interrupt(c: Control, regs: &mut [u16; 8], memory: &mut [u16]) -> Control

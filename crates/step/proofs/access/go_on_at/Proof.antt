@@ -1,14 +1,14 @@
--- `step::access::go_on_at` meets its contract: by computation.
+-- `step::access::go_on_at` meets its contract: an instruction that keeps the codes.
 use mathlib.Core.Path.{refl}
-use Rattle.machine.specs.Psr.{recoded}
-use Rattle.machine.specs.Outcome.{afterInstruction}
+use Rattle.machine.specs.Psr.{kept, recoded}
+use borrow.Author.Needs.{needs}
 use Rattle.step.proofs.access.go_on_at.Statement.{statement}
 use Rattle.step.proofs.access.go_on_at.Tie as tie
 
 returns : tie.Need-returns
-unfolding afterInstruction recoded
+unfolding recoded
 returns c =
-    λ regs clock. refl
+    λ regs clock. c .after-instruction .ensures regs clock kept refl
 
 pub go-on-at-spec : {M : Type 1} → statement M
-go-on-at-spec = tie.close (tie.spec returns)
+go-on-at-spec = tie.close (tie.spec (λ c κs. search needs) returns)

@@ -1,35 +1,47 @@
 -- `step::devices::store` meets its contract: each arm of the match knows its address; the last one knows that it is no device's.
+use mathlib.Core.Path.{ap}
 use mathlib.Core.Logic.{⊎-elim, inl, inr}
-use Rattle.machine.specs.Devices.{isDevice, withDevices, kbsrStore, psrStore, mcrStore, deviceStore, stored}
+use Rattle.machine.specs.declared.Machine.{Machine}
+use Rattle.machine.specs.Devices.{isDevice, kbsrStore, psrStore, mcrStore, deviceStore, stored}
 use Rattle.machine.proofs.DeviceLaws.{no-device}
+use Rattle.step.specs.Delivery.{quiet, delivered}
 use borrow.Author.Needs.{needs}
 use Rattle.step.proofs.devices.store.Statement.{statement}
 use Rattle.step.proofs.devices.store.Tie as tie
 
 returns : tie.Need-returns
-unfolding stored isDevice deviceStore withDevices kbsrStore
+unfolding stored isDevice deviceStore kbsrStore
 returns c =
-    λ regs clock. rw (c .before .before .match .keys1, c .unshown .ensures)
+    λ regs clock.
+    let a = c .before .before .before .before .before .before .args in
+    rw (c .before .before .before .match .keys1, c .unshown .ensures)
+    (ap (λ (m : Machine). delivered regs (a .memory .now) (a .output .now) (quiet m (a .memory .now))) (c .before .with-devices .ensures regs clock))
 
 returns-2 : tie.Need-returns-2
-unfolding stored isDevice deviceStore withDevices
+unfolding stored isDevice deviceStore
 returns-2 c =
     λ regs clock. rw (c .unshown2 .ensures) (⊎-elim (λ h. rw h) (λ h. rw h) (c .before .match .keys2))
 
 returns-3 : tie.Need-returns-3
-unfolding stored isDevice deviceStore withDevices
+unfolding stored isDevice deviceStore
 returns-3 c =
     λ regs clock. rw (c .before .before .before .before .match .keys3) (c .before .before .show .ensures regs (c .before .before .before .before .before .before .before .args .memory .now) clock)
 
 returns-4 : tie.Need-returns-4
-unfolding stored isDevice deviceStore withDevices psrStore
+unfolding stored isDevice deviceStore psrStore
 returns-4 c =
-    λ regs clock. rw (c .before .before .match .keys4, c .unshown3 .ensures)
+    λ regs clock.
+    let a = c .before .before .before .before .before .before .args in
+    rw (c .before .before .before .match .keys4, c .unshown3 .ensures)
+    (ap (λ (m : Machine). delivered regs (a .memory .now) (a .output .now) (quiet m (a .memory .now))) (c .before .with-devices2 .ensures regs clock))
 
 returns-5 : tie.Need-returns-5
-unfolding stored isDevice deviceStore withDevices mcrStore
+unfolding stored isDevice deviceStore mcrStore
 returns-5 c =
-    λ regs clock. rw (c .before .match .keys5, c .unshown4 .ensures)
+    λ regs clock.
+    let a = c .before .before .before .before .before .args in
+    rw (c .before .before .match .keys5, c .unshown4 .ensures)
+    (ap (λ (m : Machine). delivered regs (a .memory .now) (a .output .now) (quiet m (a .memory .now))) (c .before .with-devices3 .ensures regs clock))
 
 returns-6 : tie.Need-returns-6
 unfolding stored
@@ -39,4 +51,4 @@ returns-6 c =
     rw (no-device (c .before .before .before .before .before .before .before .before .args .a) (r .0 .0 .0 .0 .1) (λ h. r .0 .0 .0 .1 (inl h)) (λ h. r .0 .0 .0 .1 (inr h)) (r .0 .0 .1) (r .0 .1) (r .1), c .unshown5 .ensures, c .before .before .before .set-word .ensures)
 
 pub store-spec : {M : Type 1} → statement M
-store-spec = tie.close (tie.spec (λ c. search needs) (λ c. search needs) (λ c. search needs) (λ c κs. search needs) (λ c κs. search needs) (λ c κs. search needs) (λ c. search needs) (λ c. search needs) (λ c. search needs) (λ c. search needs) (λ c κs. search needs) (λ c. search needs) (λ c κs. search needs) (λ c κs. search needs) (λ c κs. search needs) returns returns-2 (λ c. search needs) returns-3 returns-4 returns-5 (λ c. search needs) returns-6)
+store-spec = tie.close (tie.spec (λ c. search needs) (λ c. search needs) (λ c. search needs) (λ c κs. search needs) (λ c κs. search needs) (λ c κs. search needs) (λ c κs. search needs) (λ c. search needs) (λ c. search needs) (λ c. search needs) (λ c. search needs) (λ c κs. search needs) (λ c κs. search needs) (λ c. search needs) (λ c κs. search needs) (λ c κs. search needs) (λ c κs. search needs) (λ c κs. search needs) returns returns-2 (λ c. search needs) returns-3 returns-4 returns-5 (λ c. search needs) returns-6)

@@ -1,7 +1,7 @@
 -- `step::keys::press` meets its contract: by computation.
 use mathlib.Core.Path.{refl}
-use borrow.Author.Needs.{needs}
 use Rattle.machine.specs.Keys.{readyAfter, lastKey, afterKeys}
+use borrow.Author.Needs.{needs}
 use Rattle.step.proofs.keys.press.Statement.{statement}
 use Rattle.step.proofs.keys.press.Tie as tie
 

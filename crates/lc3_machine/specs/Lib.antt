@@ -1,0 +1,2 @@
+-- What hosts are answered.
+pub mod Answer

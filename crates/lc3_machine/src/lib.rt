@@ -1,0 +1,130 @@
+// The machine for hosts in C and Rust: document 01's fresh record, run and single step. They are those of `run`, but for refusals and
+// stops, which are answered by their numbers, since an enum can't cross to C. Nothing is required of a caller.
+use machine::Machine;
+use run::Ending;
+use run::Refusal;
+use run::Report;
+ghost use mathlib.Core.Path.{_≡_};
+ghost use Rattle.run.specs.Fresh.{freshOf};
+ghost use Rattle.run.specs.Call.{startOf, callOf};
+ghost use Rattle.run.specs.Refusals.{refusalNumber, endingRefusal, endingStop};
+ghost use Rattle.lc3_machine.specs.Answer.{answerOf, reportOf, reported, answered};
+
+// What a run answers, 72 bytes: `refusal` is 0, or 11 to 15; `stop` is done 0, halted 1, output full 2, and 0 where refused.
+#[repr(C)]
+pub struct Lc3Answer {
+    pub machine: Machine,
+    pub steps: u64,
+    pub keys: u64,
+    pub shown: u64,
+    pub refusal: u32,
+    pub stop: u32,
+}
+
+// What a single step answers beside the record that it alters, 32 bytes.
+#[repr(C)]
+pub struct Lc3Report {
+    pub steps: u64,
+    pub keys: u64,
+    pub shown: u64,
+    pub refusal: u32,
+    pub stop: u32,
+}
+
+// The numbers under which document 01 turns a run down, and those of its stops.
+fn refusal_number(refusal: Refusal) -> u32
+    ensures { λ r. ⌜ r ≡ refusalNumber refusal ⌝ }
+{
+    match refusal {
+        Refusal::MemorySize => 11,
+        Refusal::UndefinedRecord => 12,
+        Refusal::TooManySteps => 13,
+        Refusal::UnequalLists => 14,
+        Refusal::KeyOrder => 15,
+    }
+}
+
+fn ending_refusal(ending: Ending) -> u32
+    ensures { λ r. ⌜ r ≡ endingRefusal ending ⌝ }
+{
+    match ending {
+        Ending::Done => 0,
+        Ending::Halted => 0,
+        Ending::OutputFull => 0,
+        Ending::Refused(refusal) => refusal_number(refusal),
+    }
+}
+
+fn ending_stop(ending: Ending) -> u32
+    ensures { λ r. ⌜ r ≡ endingStop ending ⌝ }
+{
+    match ending {
+        Ending::Done => 0,
+        Ending::Halted => 1,
+        Ending::OutputFull => 2,
+        Ending::Refused(_) => 0,
+    }
+}
+
+// A report in numbers alone, for the run and the single step alike.
+fn report_of(report: Report) -> Lc3Report
+    ensures { λ r. ⌜ r ≡ reportOf report ⌝ }
+{
+    let ending = report.ending;
+    Lc3Report {
+        steps: report.steps,
+        keys: report.keys as u64,
+        shown: report.shown as u64,
+        refusal: ending_refusal(ending),
+        stop: ending_stop(ending),
+    }
+}
+
+// A fresh record from PC, mode and user stack pointer.
+#[no_mangle]
+pub extern "C" fn lc3_fresh(pc: u16, user: bool, stack: u16) -> Machine
+    ensures { λ r. ⌜ r ≡ freshOf pc user stack ⌝ }
+{
+    run::fresh(pc, user, stack)
+}
+
+// The run of n steps. A call that is turned down answers its number and leaves everything as it was handed in.
+#[no_mangle]
+pub extern "C" fn lc3_run(
+    m: Machine,
+    memory: &mut [u16],
+    times: &[u64],
+    bytes: &[u8],
+    output: &mut [u8],
+    n: u64,
+) -> Lc3Answer
+    ensures { λ r. ⌜ answered r (now (memory .exit)) (now (output .exit)) ≡ answerOf (callOf (startOf m (now (memory .entry)) (now (times .entry)) (now (bytes .entry)) (now (output .entry))) n) ⌝ }
+{
+    let a = run::run(m, memory, times, bytes, output, n);
+    let machine = a.machine;
+    let r = report_of(a.report);
+    Lc3Answer {
+        machine,
+        steps: r.steps,
+        keys: r.keys,
+        shown: r.shown,
+        refusal: r.refusal,
+        stop: r.stop,
+    }
+}
+
+// The single step: the run with n = 1, on a record that the host keeps. It goes through `run` as `lc3_run` does, so that the archive
+// has one loop, with the one call of the step in it.
+#[no_mangle]
+pub extern "C" fn lc3_step(
+    m: &mut Machine,
+    memory: &mut [u16],
+    times: &[u64],
+    bytes: &[u8],
+    output: &mut [u8],
+) -> Lc3Report
+    ensures { λ r. ⌜ reported (now (m .exit)) r (now (memory .exit)) (now (output .exit)) ≡ answerOf (callOf (startOf (now (m .entry)) (now (memory .entry)) (now (times .entry)) (now (bytes .entry)) (now (output .entry))) 1) ⌝ }
+{
+    let report = run::single_step(m, memory, times, bytes, output);
+    report_of(report)
+}

@@ -1,0 +1,72 @@
+// Instruction words for hosts in C and Rust: reading and writing, with an instruction as one flat record ('Instruction words' and
+// 'Write an instruction' of document 01). Both calls accept every argument. The kinds and operands are those of include/lc3.h.
+pub mod flat;
+pub mod unflat;
+
+use flat::flatten;
+use unflat::to_signed;
+use unflat::to_unsigned;
+use unflat::unflatten;
+use word::reading::read;
+use word::writing::write;
+ghost use mathlib.Core.Path.{_≡_};
+ghost use Rattle.word.specs.Reading.{readOf};
+ghost use Rattle.lc3_words.specs.Flat.{flatOf};
+ghost use Rattle.lc3_words.specs.Writing.{writtenOf};
+
+// An instruction: its kind, 0 for BR to 18 for TRAP; a, b, c its registers (of a BR, a is the mask) in the order in which the book's
+// assembler writes them; and its signed field, trap vector or reserved field. 0 stands where a kind has none.
+#[repr(C)]
+pub struct Lc3Instruction {
+    pub kind: u8,
+    pub a: u8,
+    pub b: u8,
+    pub c: u8,
+    pub value: i32,
+}
+
+// A word and 0, or word 0 and the reason of the refusal, 1 to 3.
+#[repr(C)]
+pub struct Lc3Written {
+    pub word: u16,
+    pub refusal: u16,
+}
+
+// The instruction that a word is.
+#[no_mangle]
+pub extern "C" fn lc3_read(word: u16) -> Lc3Instruction
+    ensures { λ r. ⌜ r ≡ flatOf (readOf word) ⌝ }
+{
+    flatten(read(word))
+}
+
+// The word of an instruction, or its refusal. Operands that the kind does not use are ignored. A kind after TRAP, 18, is refused as a
+// field out of range.
+#[no_mangle]
+pub extern "C" fn lc3_write(instruction: Lc3Instruction) -> Lc3Written
+    ensures { λ r. ⌜ r ≡ writtenOf instruction ⌝ }
+{
+    let kind = instruction.kind;
+    if 18 < kind {
+        return Lc3Written {
+            word: 0,
+            refusal: 2,
+        };
+    }
+    let value = instruction.value;
+    let signed = to_signed(value);
+    let unsigned = to_unsigned(value);
+    let i = unflatten(
+        kind,
+        instruction.a,
+        instruction.b,
+        instruction.c,
+        signed,
+        unsigned,
+    );
+    let written = write(i);
+    Lc3Written {
+        word: written.word,
+        refusal: written.refusal as u16,
+    }
+}

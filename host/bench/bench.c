@@ -1,0 +1,255 @@
+/*
+ * Times the library against the plain C interpreter of baseline.c.
+ *
+ *   bench check CASES       compares both on random cases; exits 1 at the first difference
+ *   bench time REPEATS MS   prints one measurement a line: name, nanoseconds
+ *
+ * Every measurement is the best of REPEATS stretches of about MS milliseconds. The two sides take
+ * turns in one process, so that whatever slows the computer down meets both.
+ */
+#define _POSIX_C_SOURCE 199309L /* clock_gettime */
+#include "baseline.h"
+#include "programs.h"
+
+#include <stdio.h>
+#include <stdlib.h>
+#include <time.h>
+
+typedef lc3_answer run_function(lc3_record, uint16_t *, size_t, const uint64_t *, size_t,
+                                const uint8_t *, size_t, uint8_t *, size_t, uint64_t);
+
+enum { KEYS = 4, OUTPUT = 4 };
+
+static uint16_t lent[LC3_MEMORY_WORDS], ours[LC3_MEMORY_WORDS], theirs[LC3_MEMORY_WORDS];
+static const uint64_t no_times[1];
+static const uint8_t no_bytes[1];
+
+/* xorshift64: the same cases in every run. */
+static uint64_t any(void) {
+    static uint64_t x = UINT64_C(88172645463325252);
+    x ^= x << 13;
+    x ^= x >> 7;
+    x ^= x << 17;
+    return x;
+}
+
+/* ---- The random comparison ---- */
+
+typedef struct {
+    lc3_record record;
+    uint64_t times[KEYS];
+    uint8_t bytes[KEYS];
+    size_t words, bytes_len, output_len;
+    uint64_t n;
+} random_case;
+
+/* An address at which something changes: a device, or the edge of the privileged addresses. */
+static uint16_t edge(void) {
+    static const uint16_t edges[] = {LC3_ADDRESS_KBSR, LC3_ADDRESS_KBDR, LC3_ADDRESS_DSR,
+                                     LC3_ADDRESS_DDR,  LC3_ADDRESS_DDR,  LC3_ADDRESS_PSR,
+                                     LC3_ADDRESS_MCR,  0x2FFF,           0x3000,
+                                     0xFDFF,           0xFFFF,           0x0000};
+    return edges[any() % (sizeof edges / sizeof *edges)];
+}
+
+/* Random words; one case in three is rich in edges and in the instructions that use pointers. */
+static void fill_memory(bool rich) {
+    for (size_t i = 0; i < LC3_MEMORY_WORDS; i++) {
+        lent[i] = any();
+        if (!rich) continue;
+        if (i % 4 == 0) lent[i] = 0xA000 | (lent[i] & 0x1FFF); /* LDI or STI */
+        if (i % 4 == 1) lent[i] = edge();
+    }
+}
+
+/* A record, keys near its clock and a small output; now and then something to refuse. */
+static random_case make_case(unsigned number) {
+    random_case c = {.words = LC3_MEMORY_WORDS, .bytes_len = KEYS};
+    for (int i = 0; i < 8; i++) c.record.regs[i] = any() % 2 ? any() : edge();
+    c.record.pc = any() % 4 ? any() : edge();
+    c.record.psr = any() & 0x8707;
+    c.record.saved_ssp = any();
+    c.record.saved_usp = any();
+    c.record.kbsr = any() & 0xC000;
+    c.record.kbdr = any() & 0x00FF;
+    c.record.mcr = any() % 32 ? 0x8000 : 0;
+    c.record.clock = any() % 1000;
+    uint64_t time = c.record.clock;
+    for (int i = 0; i < KEYS; i++) {
+        time += any() % 9;
+        c.times[i] = time;
+        c.bytes[i] = any();
+    }
+    c.output_len = any() % (OUTPUT + 1);
+    c.n = any() % 400;
+    if (number % 40 == 1) c.words--;
+    if (number % 40 == 2) c.record.psr |= 1 << any() % 16;
+    if (number % 40 == 3) c.record.clock = LC3_MAX_CLOCK - any() % 400;
+    if (number % 40 == 4) c.bytes_len--;
+    if (number % 40 == 5) c.times[any() % KEYS] -= 5;
+    return c;
+}
+
+static lc3_answer obey_case(run_function *run, const random_case *c, uint16_t *memory,
+                            uint8_t *output) {
+    memcpy(memory, lent, sizeof lent);
+    memset(output, 0xAA, OUTPUT);
+    return run(c->record, memory, c->words, c->times, KEYS, c->bytes, c->bytes_len, output,
+               c->output_len, c->n);
+}
+
+static bool same_record(const lc3_record *a, const lc3_record *b) {
+    return !memcmp(a->regs, b->regs, sizeof a->regs) && a->pc == b->pc && a->psr == b->psr &&
+           a->saved_ssp == b->saved_ssp && a->saved_usp == b->saved_usp && a->kbsr == b->kbsr &&
+           a->kbdr == b->kbdr && a->mcr == b->mcr && a->clock == b->clock;
+}
+
+static bool same_answer(const lc3_answer *a, const lc3_answer *b) {
+    return same_record(&a->record, &b->record) && a->steps == b->steps && a->keys == b->keys &&
+           a->shown == b->shown && a->refusal == b->refusal && a->stop == b->stop;
+}
+
+/* Compares whole answers, memories and outputs, and says how the cases ended. */
+static int check(unsigned cases) {
+    unsigned long stops[3] = {0}, refused = 0, steps = 0;
+    for (unsigned number = 0; number < cases; number++) {
+        fill_memory(number % 3 == 0);
+        random_case c = make_case(number);
+        uint8_t our_output[OUTPUT], their_output[OUTPUT];
+        lc3_answer a = obey_case(lc3_run, &c, ours, our_output);
+        lc3_answer b = obey_case(baseline_run, &c, theirs, their_output);
+        if (!same_answer(&a, &b) || memcmp(ours, theirs, sizeof ours) ||
+            memcmp(our_output, their_output, OUTPUT)) {
+            printf("case %u differs: refusal %u and %u, stop %u and %u, steps %lu and %lu\n",
+                   number, a.refusal, b.refusal, a.stop, b.stop, a.steps, b.steps);
+            return 1;
+        }
+        if (a.refusal) {
+            refused++;
+        } else {
+            stops[a.stop]++;
+        }
+        steps += a.steps;
+    }
+    printf("%u random cases agree, %lu steps: %lu done, %lu halted, %lu output full, %lu refused\n",
+           cases, steps, stops[LC3_DONE], stops[LC3_HALTED], stops[LC3_OUTPUT_FULL], refused);
+    return 0;
+}
+
+/* ---- The timing ---- */
+
+/* The time that this process had a processor, so that others on the computer do not count. */
+static double now(void) {
+    struct timespec t;
+    clock_gettime(CLOCK_PROCESS_CPUTIME_ID, &t);
+    return t.tv_sec * 1e9 + t.tv_nsec;
+}
+
+/* Nanoseconds per step of a program, over calls of the full length for about the given time. */
+static double time_steps(run_function *run, const program *p, double ns) {
+    uint8_t output[16];
+    lc3_record record = lc3_fresh(0x3000, true, 0xFDFF);
+    uint64_t steps = 0;
+    load_program(lent, p);
+    double start = now(), end = start;
+    while (end - start < ns) {
+        lc3_answer a = run(record, lent, LC3_MEMORY_WORDS, no_times, 0, no_bytes, 0, output,
+                           sizeof output, LC3_MAX_STEPS);
+        record = a.record;
+        steps += a.steps;
+        end = now();
+    }
+    return (end - start) / steps;
+}
+
+static void time_programs(unsigned repeats, double ns) {
+    for (int p = 0; p < PROGRAMS; p++) {
+        double library = 1e9, baseline = 1e9;
+        for (unsigned i = 0; i < repeats; i++) {
+            double a = time_steps(lc3_run, &programs[p], ns);
+            double b = time_steps(baseline_run, &programs[p], ns);
+            if (a < library) library = a;
+            if (b < baseline) baseline = b;
+        }
+        printf("%s.library %.4f\n%s.baseline %.4f\n", programs[p].name, library, programs[p].name,
+               baseline);
+    }
+}
+
+/* Each of these makes a batch of calls. The library is machine code, so none can be left out. */
+enum { BATCH = 4096 };
+static lc3_record single;
+static lc3_instruction instructions[BATCH];
+
+static lc3_answer single_run(size_t words, const uint64_t *times, size_t keys) {
+    uint8_t output[1];
+    return lc3_run(single, lent, words, times, keys, no_bytes, keys, output, 1, 1);
+}
+
+static void run_one(void) {
+    for (int i = 0; i < BATCH; i++) single = single_run(LC3_MEMORY_WORDS, no_times, 0).record;
+}
+
+static void step_one(void) {
+    uint8_t output[1];
+    for (int i = 0; i < BATCH; i++) {
+        lc3_step(&single, lent, LC3_MEMORY_WORDS, no_times, 0, no_bytes, 0, output, 1);
+    }
+}
+
+/* The first refusal that is tested, and the last: a key before the clock. */
+static void refuse_memory(void) {
+    for (int i = 0; i < BATCH; i++) single_run(LC3_MEMORY_WORDS - 1, no_times, 0);
+}
+
+static void refuse_times(void) {
+    single.clock = 1;
+    for (int i = 0; i < BATCH; i++) single_run(LC3_MEMORY_WORDS, no_times, 1);
+}
+
+/* All opcodes in turn, so that the branch predictor learns no more than in a listing. */
+static uint16_t nth_word(int i) { return i * 0x9E37; }
+
+static void read_words(void) {
+    for (int i = 0; i < BATCH; i++) lc3_read(nth_word(i));
+}
+
+static void write_words(void) {
+    for (int i = 0; i < BATCH; i++) lc3_write(instructions[i]);
+}
+
+/* Nanoseconds per call. */
+static double time_calls(void (*batch)(void), unsigned repeats, double ns) {
+    double best = 1e9;
+    single = lc3_fresh(0x3000, true, 0xFDFF);
+    load_program(lent, &programs[0]);
+    for (unsigned i = 0; i < repeats; i++) {
+        double start = now(), end = start;
+        unsigned calls = 0;
+        for (; end - start < ns; end = now(), calls += BATCH) batch();
+        if ((end - start) / calls < best) best = (end - start) / calls;
+    }
+    return best;
+}
+
+static void time_single(unsigned repeats, double ns) {
+    for (int i = 0; i < BATCH; i++) instructions[i] = lc3_read(nth_word(i));
+    printf("lc3_run %.3f\n", time_calls(run_one, repeats, ns));
+    printf("lc3_step %.3f\n", time_calls(step_one, repeats, ns));
+    printf("refused-11 %.3f\n", time_calls(refuse_memory, repeats, ns));
+    printf("refused-15 %.3f\n", time_calls(refuse_times, repeats, ns));
+    printf("lc3_read %.3f\n", time_calls(read_words, repeats, ns));
+    printf("lc3_write %.3f\n", time_calls(write_words, repeats, ns));
+}
+
+int main(int argc, char **argv) {
+    if (argc == 3 && !strcmp(argv[1], "check")) return check(atoi(argv[2]));
+    if (argc == 4 && !strcmp(argv[1], "time")) {
+        double ns = atof(argv[3]) * 1e6;
+        time_programs(atoi(argv[2]), ns);
+        time_single(atoi(argv[2]), ns / 10);
+        return 0;
+    }
+    fprintf(stderr, "usage: bench check CASES | bench time REPEATS MS\n");
+    return 2;
+}

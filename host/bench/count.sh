@@ -1,0 +1,55 @@
+#!/bin/sh
+# Counts the library's processor instructions per step, which no load on the computer disturbs.
+# Exits 1 where a program takes more than the limit.
+#
+# The cost of starting and of the call itself is the same for any number of steps, so the
+# difference between two lengths counts steps alone.
+#
+#   LC3_LIB_DIR   where liblc3.a is      build
+#   CC            C compiler             gcc
+#   COUNT_LIMIT   instructions per step  90
+set -eu
+cd "$(dirname "$0")/../.."
+
+limit=${COUNT_LIMIT:-90}
+steps=20000
+lib=${LC3_LIB_DIR:-build}/liblc3.a
+cc=${CC:-gcc}
+work=$(mktemp -d)
+trap 'rm -rf "$work"' EXIT
+
+[ -f "$lib" ] || { echo "host/bench/count.sh: no $lib" >&2; exit 2; }
+command -v valgrind >/dev/null || apt-get install -y valgrind
+
+$cc -std=c11 -O3 -Iinclude host/bench/count.c host/bench/baseline.c "$lib" -o "$work/count"
+
+# instructions ENGINE PROGRAM STEPS: all instructions of the process.
+instructions() {
+    valgrind --tool=callgrind --callgrind-out-file=/dev/null "$work/count" "$@" 2>"$work/log" ||
+        { cat "$work/log" >&2; exit 2; }
+    sed -n 's/.*Collected *: *\([0-9]*\).*/\1/p' "$work/log"
+}
+
+# per_step ENGINE PROGRAM: instructions per step, in hundredths.
+per_step() {
+    short=$(instructions "$1" "$2" $steps)
+    long=$(instructions "$1" "$2" $((2 * steps)))
+    echo $(((long - short) * 100 / steps))
+}
+
+decimal() { printf '%d.%02d' $(($1 / 100)) $(($1 % 100)); }
+
+status=0
+echo "instructions per step, limit $limit"
+for program in count copy sieve calls; do
+    library=$(per_step library $program)
+    baseline=$(per_step baseline $program)
+    verdict=
+    if [ "$library" -gt $((limit * 100)) ]; then
+        verdict="over the limit"
+        status=1
+    fi
+    printf '%-8s library %8s   baseline %8s   %s\n' \
+        $program "$(decimal "$library")" "$(decimal "$baseline")" "$verdict"
+done
+exit $status

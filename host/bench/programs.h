@@ -1,0 +1,120 @@
+/*
+ * The programs that are timed and counted: words from x3000 up, in User mode, without end. TRAP x25
+ * leads to an RTI at x0200.
+ */
+#ifndef PROGRAMS_H
+#define PROGRAMS_H
+
+#include "lc3.h"
+
+#include <string.h>
+
+/* Counting loops: immediate ADD and BR alone. */
+static const uint16_t count_words[] = {
+    0x5020, /* START   AND    R0, R0, #0 */
+    0x2207, /*         LD     R1, OUTER */
+    0x2407, /* TURN    LD     R2, INNER */
+    0x1021, /* NEXT    ADD    R0, R0, #1 */
+    0x14BF, /*         ADD    R2, R2, #-1 */
+    0x03FD, /*         BRp    NEXT */
+    0x127F, /*         ADD    R1, R1, #-1 */
+    0x03FA, /*         BRp    TURN */
+    0x0FF7, /*         BRnzp  START */
+    0x012C, /* OUTER   .FILL  #300 */
+    0x03E8, /* INNER   .FILL  #1000 */
+};
+
+/* Memory copy: a load and a store each turn. */
+static const uint16_t copy_words[] = {
+    0x2009, /* START   LD     R0, FROM */
+    0x2209, /*         LD     R1, TO */
+    0x2409, /*         LD     R2, LENGTH */
+    0x6600, /* NEXT    LDR    R3, R0, #0 */
+    0x7640, /*         STR    R3, R1, #0 */
+    0x1021, /*         ADD    R0, R0, #1 */
+    0x1261, /*         ADD    R1, R1, #1 */
+    0x14BF, /*         ADD    R2, R2, #-1 */
+    0x03FA, /*         BRp    NEXT */
+    0x0FF6, /*         BRnzp  START */
+    0x4000, /* FROM    .FILL  x4000 */
+    0x6000, /* TO      .FILL  x6000 */
+    0x0FA0, /* LENGTH  .FILL  #4000 */
+};
+
+/* Sieve of Eratosthenes below 5000, a word for each number: irregular branches. */
+static const uint16_t sieve_words[] = {
+    0x201C, /* START   LD     R0, FLAGS */
+    0x221C, /*         LD     R1, LIMIT */
+    0x54A0, /*         AND    R2, R2, #0 */
+    0x7400, /* CLEAR   STR    R2, R0, #0 */
+    0x1021, /*         ADD    R0, R0, #1 */
+    0x127F, /*         ADD    R1, R1, #-1 */
+    0x03FC, /*         BRp    CLEAR */
+    0x56E0, /*         AND    R3, R3, #0 */
+    0x16E2, /*         ADD    R3, R3, #2 */
+    0x2013, /* PRIME   LD     R0, FLAGS */
+    0x1003, /*         ADD    R0, R0, R3 */
+    0x6800, /*         LDR    R4, R0, #0 */
+    0x0A0B, /*         BRnp   AFTER */
+    0x1AC3, /*         ADD    R5, R3, R3 */
+    0x2210, /* STRIKE  LD     R1, MINUS */
+    0x1245, /*         ADD    R1, R1, R5 */
+    0x0607, /*         BRzp   AFTER */
+    0x200B, /*         LD     R0, FLAGS */
+    0x1005, /*         ADD    R0, R0, R5 */
+    0x5920, /*         AND    R4, R4, #0 */
+    0x1921, /*         ADD    R4, R4, #1 */
+    0x7800, /*         STR    R4, R0, #0 */
+    0x1B43, /*         ADD    R5, R5, R3 */
+    0x0FF6, /*         BRnzp  STRIKE */
+    0x16E1, /* AFTER   ADD    R3, R3, #1 */
+    0x2205, /*         LD     R1, MINUS */
+    0x1243, /*         ADD    R1, R1, R3 */
+    0x09ED, /*         BRn    PRIME */
+    0x0FE3, /*         BRnzp  START */
+    0x4000, /* FLAGS   .FILL  x4000 */
+    0x1388, /* LIMIT   .FILL  #5000 */
+    0xEC78, /* MINUS   .FILL  #-5000 */
+};
+
+/* Calls: JSR and RET, TRAP into Supervisor mode and RTI out of it, pointers. */
+static const uint16_t calls_words[] = {
+    0xE20A, /* START   LEA    R1, CELL */
+    0x4806, /*         JSR    ADDS */
+    0xF025, /*         TRAP   x25 */
+    0xB008, /*         STI    R0, PLACE */
+    0xA407, /*         LDI    R2, PLACE */
+    0x5881, /*         AND    R4, R2, R1 */
+    0x993F, /*         NOT    R4, R4 */
+    0x0FF8, /*         BRnzp  START */
+    0x1023, /* ADDS    ADD    R0, R0, #3 */
+    0x3001, /*         ST     R0, CELL */
+    0xC1C0, /*         RET */
+    0x0000, /* CELL    .FILL  #0 */
+    0x4E20, /* PLACE   .FILL  x4E20 */
+};
+
+typedef struct {
+    const char *name;
+    const uint16_t *words;
+    size_t length;
+} program;
+
+static const program programs[] = {
+    {"count", count_words, sizeof count_words / sizeof *count_words},
+    {"copy", copy_words, sizeof copy_words / sizeof *copy_words},
+    {"sieve", sieve_words, sizeof sieve_words / sizeof *sieve_words},
+    {"calls", calls_words, sizeof calls_words / sizeof *calls_words},
+};
+
+enum { PROGRAMS = sizeof programs / sizeof *programs };
+
+/* Loads a program and the trap's vector and routine into cleared memory. */
+static inline void load_program(uint16_t *memory, const program *p) {
+    memset(memory, 0, LC3_MEMORY_WORDS * sizeof *memory);
+    memcpy(memory + 0x3000, p->words, p->length * sizeof *memory);
+    memory[0x0025] = 0x0200;
+    memory[0x0200] = 0x8000; /* RTI */
+}
+
+#endif

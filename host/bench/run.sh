@@ -1,0 +1,87 @@
+#!/bin/sh
+# Times the library against the plain C interpreter and prints a table.
+#
+# An object that the linker moves by 16 to 48 bytes can run a quarter slower or faster, so one
+# binary says little. The benchmark is linked in several layouts, with padding before and between
+# the two objects that are compared; each figure is the median over the layouts of the best time
+# in each. Exits 1 where the library takes more than BENCH_LIMIT of the baseline's time.
+#
+#   LC3_LIB_DIR     where liblc3.a is                           build
+#   CC              C compiler for the baseline                 gcc
+#   BENCH_CASES     random cases compared before the timing     4000
+#   BENCH_LAYOUTS   layouts                                     8
+#   BENCH_REPEATS   repeats in each layout                      80
+#   BENCH_MS        milliseconds of each repeat                 10
+#   BENCH_LIMIT     highest ratio allowed                       1.00
+#   BENCH_TARGET    ratio aimed at                              0.85
+set -eu
+export LC_ALL=C
+cd "$(dirname "$0")/../.."
+
+lib=${LC3_LIB_DIR:-build}/liblc3.a
+cc=${CC:-gcc}
+layouts=${BENCH_LAYOUTS:-8}
+work=$(mktemp -d)
+trap 'rm -rf "$work"' EXIT
+
+[ -f "$lib" ] || { echo "host/bench/run.sh: no $lib" >&2; exit 2; }
+
+$cc -std=c11 -O3 -Iinclude -c host/bench/bench.c -o "$work/bench.o"
+$cc -std=c11 -O3 -Iinclude -c host/bench/baseline.c -o "$work/baseline.o"
+
+# padding FILE BYTES: an object with that much text.
+padding() {
+    printf '.text\n.skip %d\n.section .note.GNU-stack,"",@progbits\n' "$2" |
+        $cc -c -x assembler - -o "$1"
+}
+
+layout=1
+while [ "$layout" -le "$layouts" ]; do
+    # Multiples of 16 bytes; the second goes through them in another order than the first.
+    padding "$work/before.o" $((layout * 16))
+    padding "$work/between.o" $(((layout * 3 % 8 + 1) * 16))
+    $cc "$work/bench.o" "$work/before.o" "$work/baseline.o" "$work/between.o" "$lib" \
+        -o "$work/bench-$layout"
+    layout=$((layout + 1))
+done
+
+"$work/bench-1" check "${BENCH_CASES:-4000}"
+
+layout=1
+while [ "$layout" -le "$layouts" ]; do
+    "$work/bench-$layout" time "${BENCH_REPEATS:-80}" "${BENCH_MS:-10}"
+    layout=$((layout + 1))
+done >"$work/times"
+
+# name, median over the layouts
+sort -k1,1 -k2,2n "$work/times" | awk '
+    function emit() { if (count) print name, (t[int((count + 1) / 2)] + t[int(count / 2) + 1]) / 2 }
+    $1 != name { emit(); name = $1; count = 0 }
+    { t[++count] = $2 }
+    END { emit() }' >"$work/medians"
+
+awk -v limit="${BENCH_LIMIT:-1.00}" -v target="${BENCH_TARGET:-0.85}" '
+    { ns[$1] = $2 }
+    function call(name, text) {
+        printf "%-28s %8.1f ns %14.0f calls a second\n", text, ns[name], 1e9 / ns[name]
+    }
+    END {
+        printf "%-10s %16s %17s %8s\n", "program", "library ns/step", "baseline ns/step", "ratio"
+        programs = split("count copy sieve calls", program, " ")
+        for (i = 1; i <= programs; i++) {
+            a = ns[program[i] ".library"]
+            b = ns[program[i] ".baseline"]
+            if (a / b > worst) worst = a / b
+            printf "%-10s %16.2f %17.2f %8.2f\n", program[i], a, b, a / b
+        }
+        print ""
+        call("lc3_run", "lc3_run with n = 1")
+        call("lc3_step", "lc3_step")
+        call("refused-11", "lc3_run refused with 11")
+        call("refused-15", "lc3_run refused with 15")
+        call("lc3_read", "lc3_read")
+        call("lc3_write", "lc3_write")
+        printf "\ntarget %.2f: %s; limit %.2f: %s\n", target, worst <= target ? "met" : "not met",
+            limit, worst <= limit ? "kept" : "EXCEEDED"
+        exit !(worst <= limit)
+    }' "$work/medians"

@@ -1,0 +1,38 @@
+#!/bin/sh
+# symbols.sh NAME...: prints the local functions of the object that holds lc3_run, and exits 1 if
+# one of them matches none of the names (shell patterns).
+#
+# The machine is fast because one step, and the reading of its word, are inlined into the one loop
+# of the run. A second call of either anywhere in that object undoes this without any other sign
+# than a local function more.
+#
+#   LC3_LIB_DIR   where liblc3.a is   build
+set -eu
+cd "$(dirname "$0")/../.."
+
+lib=${LC3_LIB_DIR:-build}/liblc3.a
+
+# nm -A: archive:member:address type name
+object=$(nm -A --defined-only "$lib" | sed -n 's/^[^:]*:\([^:]*\):[^ ]* T lc3_run$/\1/p')
+[ -n "$object" ] || { echo "host/bench/symbols.sh: no lc3_run in $lib" >&2; exit 2; }
+
+allowed() {
+    for pattern; do
+        # shellcheck disable=SC2254
+        case $symbol in $pattern) return 0 ;; esac
+    done
+    return 1
+}
+
+status=0
+echo "local functions beside lc3_run in $object:"
+for symbol in $(nm -A --defined-only "$lib" |
+    sed -n "s/^[^:]*:$object:[^ ]* t \(.*\)\$/\1/p"); do
+    if allowed "$@"; then
+        echo "  $symbol"
+    else
+        echo "  $symbol: not in the list of allowed names"
+        status=1
+    fi
+done
+exit $status

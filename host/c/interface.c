@@ -1,0 +1,757 @@
+/*
+ * Every function of lc3.h from a host's side: the fourteen examples, the refusals at their
+ * boundaries, the stops, and the reading and writing of all instructions.
+ */
+#include "lc3.h"
+
+#include <inttypes.h>
+#include <stdio.h>
+#include <string.h>
+
+enum { WORDS = LC3_MEMORY_WORDS, OUTPUT = 8, UNSHOWN = 0xAA };
+
+/* ---- Checks ---- */
+
+static unsigned long checks, failures;
+static const char *part = "";
+
+static void check_equal(int line, const char *what, int64_t got, int64_t wanted) {
+    checks++;
+    if (got == wanted) return;
+    failures++;
+    fprintf(stderr, "interface.c:%d: %s: %s is %" PRId64 " (x%" PRIX64 "), not %" PRId64 "\n", line,
+            part, what, got, (uint64_t)got, wanted);
+}
+
+#define CHECK(got, wanted) check_equal(__LINE__, #got, (int64_t)(got), (int64_t)(wanted))
+
+static void check_record(const lc3_record *got, const lc3_record *wanted) {
+    for (int i = 0; i < 8; i++) CHECK(got->regs[i], wanted->regs[i]);
+    CHECK(got->pc, wanted->pc);
+    CHECK(got->psr, wanted->psr);
+    CHECK(got->saved_ssp, wanted->saved_ssp);
+    CHECK(got->saved_usp, wanted->saved_usp);
+    CHECK(got->kbsr, wanted->kbsr);
+    CHECK(got->kbdr, wanted->kbdr);
+    CHECK(got->mcr, wanted->mcr);
+    CHECK(got->clock, wanted->clock);
+}
+
+/* ---- Calls ---- */
+
+/* What is lent: one word more than a machine has, so that a length too great is a valid loan. */
+static uint16_t memory[WORDS + 1], wanted_memory[WORDS + 1];
+static uint8_t output[OUTPUT], wanted_output[OUTPUT];
+
+static void clear_buffers(void) {
+    memset(memory, 0, sizeof memory);
+    memset(output, UNSHOWN, sizeof output);
+}
+
+/* xorshift64: the same cases in every run. */
+static uint64_t any(void) {
+    static uint64_t x = UINT64_C(88172645463325252);
+    x ^= x << 13;
+    x ^= x >> 7;
+    x ^= x << 17;
+    return x;
+}
+
+/* Random words, one in eight the address of a device. */
+static void fill_memory(void) {
+    for (int i = 0; i < WORDS; i++) {
+        memory[i] = any() % 8 ? any() : 0xFE00 + 2 * (any() % 4);
+    }
+}
+
+/* What is in the buffers now is what the next call is to leave there. */
+static void keep_buffers(void) {
+    memcpy(wanted_memory, memory, sizeof memory);
+    memcpy(wanted_output, output, sizeof output);
+}
+
+static void check_buffers(void) {
+    CHECK(memcmp(memory, wanted_memory, sizeof memory), 0);
+    CHECK(memcmp(output, wanted_output, sizeof output), 0);
+}
+
+/* The arguments of a call but for memory and output, which are the buffers above. */
+typedef struct {
+    lc3_record record;
+    size_t words;
+    uint64_t times[3];
+    size_t times_len;
+    uint8_t bytes[3];
+    size_t bytes_len;
+    size_t output_len;
+    uint64_t n;
+} arguments;
+
+static arguments usual(void) {
+    return (arguments){
+        .record = lc3_fresh(0x3000, true, 0xFDFF), .words = WORDS, .output_len = OUTPUT, .n = 1};
+}
+
+static lc3_answer run(const arguments *c) {
+    return lc3_run(c->record, memory, c->words, c->times, c->times_len, c->bytes, c->bytes_len,
+                   output, c->output_len, c->n);
+}
+
+/* lc3_step on a copy of the record, answered in lc3_run's form. */
+static lc3_answer step(const arguments *c) {
+    lc3_answer a = {.record = c->record};
+    lc3_report r = lc3_step(&a.record, memory, c->words, c->times, c->times_len, c->bytes,
+                            c->bytes_len, output, c->output_len);
+    a.steps = r.steps;
+    a.keys = r.keys;
+    a.shown = r.shown;
+    a.refusal = r.refusal;
+    a.stop = r.stop;
+    return a;
+}
+
+static void check_answer(const lc3_answer *got, const lc3_answer *wanted) {
+    check_record(&got->record, &wanted->record);
+    CHECK(got->steps, wanted->steps);
+    CHECK(got->keys, wanted->keys);
+    CHECK(got->shown, wanted->shown);
+    CHECK(got->refusal, wanted->refusal);
+    CHECK(got->stop, wanted->stop);
+}
+
+/* ---- A fresh record ---- */
+
+static void test_fresh(void) {
+    part = "fresh record";
+    lc3_record user = lc3_fresh(0x3000, true, 0xFDFF);
+    check_record(&user, &(lc3_record){.regs = {[6] = 0xFDFF},
+                                      .pc = 0x3000,
+                                      .psr = LC3_PSR_USER | LC3_PSR_Z,
+                                      .saved_ssp = 0x3000,
+                                      .mcr = LC3_MCR_CLOCK});
+    lc3_record supervisor = lc3_fresh(0x0200, false, 0xFDFF);
+    check_record(&supervisor, &(lc3_record){.regs = {[6] = 0x3000},
+                                            .pc = 0x0200,
+                                            .psr = LC3_PSR_Z,
+                                            .saved_usp = 0xFDFF,
+                                            .mcr = LC3_MCR_CLOCK});
+}
+
+/* ---- The fourteen examples ---- */
+
+typedef struct {
+    uint16_t address, word;
+} cell;
+
+/* One step: the record before and after it, the words it finds and the words it alters. A cell
+ * left out is word 0 at address 0. */
+typedef struct {
+    const char *name;
+    lc3_record before, after;
+    cell found[3], altered[2];
+} example;
+
+/* What every example has in common; a record before the step and one after it. */
+#define BEFORE(mode_and_codes) .pc = 0x3000, .psr = mode_and_codes, .mcr = 0x8000
+#define AFTER(pc_after, psr_after) .pc = pc_after, .psr = psr_after, .mcr = 0x8000, .clock = 1
+#define STACKS .regs[6] = 0xFDFF, .saved_ssp = 0x3000
+#define ENTERED .regs[6] = 0x2FFE, .saved_ssp = 0x3000, .saved_usp = 0xFDFF
+
+static const example examples[] = {
+    {.name = "example 2, ADD R0, R0, #1 to N",
+     .before = {BEFORE(0x8002), STACKS, .regs[0] = 0x7FFF},
+     .after = {AFTER(0x3001, 0x8004), STACKS, .regs[0] = 0x8000},
+     .found = {{0x3000, 0x1021}}},
+    {.name = "example 3, ADD R0, R0, #1 to Z",
+     .before = {BEFORE(0x8002), STACKS, .regs[0] = 0xFFFF},
+     .after = {AFTER(0x3001, 0x8002), STACKS},
+     .found = {{0x3000, 0x1021}}},
+    {.name = "example 4, BR never",
+     .before = {BEFORE(0x8002), STACKS},
+     .after = {AFTER(0x3001, 0x8002), STACKS},
+     .found = {{0x3000, 0x0005}}},
+    {.name = "example 5, BR to itself",
+     .before = {BEFORE(0x8002), STACKS},
+     .after = {AFTER(0x3000, 0x8002), STACKS},
+     .found = {{0x3000, 0x0FFF}}},
+    {.name = "example 6, LEA keeps the codes",
+     .before = {BEFORE(0x8002), STACKS},
+     .after = {AFTER(0x3001, 0x8002), STACKS, .regs[0] = 0x3000},
+     .found = {{0x3000, 0xE1FF}}},
+    {.name = "example 7, JSRR R7",
+     .before = {BEFORE(0x8002), STACKS, .regs[7] = 0x4000},
+     .after = {AFTER(0x4000, 0x8002), STACKS, .regs[7] = 0x3001},
+     .found = {{0x3000, 0x41C0}}},
+    {.name = "example 8, RTI in User mode",
+     .before = {BEFORE(0x8002), STACKS},
+     .after = {AFTER(0x0456, 0x0002), ENTERED},
+     .found = {{0x3000, 0x8000}, {0x0100, 0x0456}},
+     .altered = {{0x2FFF, 0x8002}, {0x2FFE, 0x3000}}},
+    {.name = "example 9, LDR from x2FFF",
+     .before = {BEFORE(0x8002), STACKS, .regs[1] = 0x2FFF},
+     .after = {AFTER(0x0567, 0x0002), ENTERED, .regs[1] = 0x2FFF},
+     .found = {{0x3000, 0x6040}, {0x0102, 0x0567}},
+     .altered = {{0x2FFF, 0x8002}, {0x2FFE, 0x3000}}},
+    {.name = "example 9, LDR from x3000",
+     .before = {BEFORE(0x8002), STACKS, .regs[1] = 0x3000},
+     .after = {AFTER(0x3001, 0x8001), STACKS, .regs[0] = 0x6040, .regs[1] = 0x3000},
+     .found = {{0x3000, 0x6040}}},
+    {.name = "example 10, LDR from xFE00",
+     .before = {BEFORE(0x8002), STACKS, .regs[1] = 0xFE00},
+     .after = {AFTER(0x0567, 0x0002), ENTERED, .regs[1] = 0xFE00},
+     .found = {{0x3000, 0x6040}, {0x0102, 0x0567}},
+     .altered = {{0x2FFF, 0x8002}, {0x2FFE, 0x3000}}},
+    {.name = "example 10, LDR from xFDFF",
+     .before = {BEFORE(0x8002), STACKS, .regs[1] = 0xFDFF},
+     .after = {AFTER(0x3001, 0x8004), STACKS, .regs[0] = 0xBEEF, .regs[1] = 0xFDFF},
+     .found = {{0x3000, 0x6040}, {0xFDFF, 0xBEEF}}},
+    {.name = "example 11, TRAP x25",
+     .before = {BEFORE(0x8002), STACKS},
+     .after = {AFTER(0x0678, 0x0002), ENTERED},
+     .found = {{0x3000, 0xF025}, {0x0025, 0x0678}},
+     .altered = {{0x2FFF, 0x8002}, {0x2FFE, 0x3001}}},
+    {.name = "example 12, TRAP x25 whose push replaces the vector",
+     .before = {BEFORE(0x8002), .regs[6] = 0xFDFF, .saved_ssp = 0x0026},
+     .after = {AFTER(0x8002, 0x0002), .regs[6] = 0x0024, .saved_ssp = 0x0026, .saved_usp = 0xFDFF},
+     .found = {{0x3000, 0xF025}, {0x0025, 0x0678}},
+     .altered = {{0x0025, 0x8002}, {0x0024, 0x3001}}},
+    {.name = "example 13, RTI to User mode",
+     .before = {BEFORE(0x0002), .regs[6] = 0x2FFE, .saved_ssp = 0x3000},
+     .after = {AFTER(0x3001, 0x8707), .saved_ssp = 0x3000},
+     .found = {{0x3000, 0x8000}, {0x2FFE, 0x3001}, {0x2FFF, 0xFFFF}}},
+    {.name = "example 13 with a user stack",
+     .before = {BEFORE(0x0002), .regs[6] = 0x2FFE, .saved_usp = 0xFDFF},
+     .after = {AFTER(0x3001, 0x8707), .regs[6] = 0xFDFF, .saved_ssp = 0x3000, .saved_usp = 0xFDFF},
+     .found = {{0x3000, 0x8000}, {0x2FFE, 0x3001}, {0x2FFF, 0xFFFF}}},
+    {.name = "example 14, keyboard interrupt at priority 3",
+     .before = {BEFORE(0x8302), STACKS, .kbsr = 0xC000},
+     .after = {AFTER(0x0789, 0x0402), ENTERED, .kbsr = 0xC000},
+     .found = {{0x3000, 0x1021}, {0x0180, 0x0789}},
+     .altered = {{0x2FFF, 0x8302}, {0x2FFE, 0x3000}}},
+    {.name = "example 14, no interrupt at priority 4",
+     .before = {BEFORE(0x8402), STACKS, .kbsr = 0xC000},
+     .after = {AFTER(0x3001, 0x8401), STACKS, .kbsr = 0xC000, .regs[0] = 1},
+     .found = {{0x3000, 0x1021}, {0x0180, 0x0789}}},
+};
+
+static void write_cells(uint16_t *words, const cell *cells, size_t length) {
+    for (size_t i = 0; i < length; i++) words[cells[i].address] = cells[i].word;
+}
+
+static void test_example(const example *e, lc3_answer (*call)(const arguments *)) {
+    part = e->name;
+    arguments c = usual();
+    c.record = e->before;
+    clear_buffers();
+    write_cells(memory, e->found, sizeof e->found / sizeof *e->found);
+    keep_buffers();
+    write_cells(wanted_memory, e->altered, sizeof e->altered / sizeof *e->altered);
+    lc3_answer got = call(&c);
+    check_answer(&got, &(lc3_answer){.record = e->after, .steps = 1, .stop = LC3_DONE});
+    check_buffers();
+}
+
+static void test_examples(void) {
+    part = "example 1, x14E7";
+    lc3_instruction i = lc3_read(0x14E7);
+    CHECK(i.kind, LC3_ADD_IMMEDIATE);
+    CHECK(i.a, 2);
+    CHECK(i.b, 3);
+    CHECK(i.c, 0);
+    CHECK(i.value, 7);
+    for (size_t e = 0; e < sizeof examples / sizeof *examples; e++) {
+        test_example(&examples[e], run);
+        test_example(&examples[e], step);
+    }
+}
+
+/* ---- Refusals ---- */
+
+/* Refused with this number, the record answered as handed in and the buffers as they were. */
+static void check_refused(const lc3_answer *got, const arguments *c, uint32_t number) {
+    CHECK(got->refusal, number);
+    if (number == LC3_ACCEPTED) return;
+    check_answer(got, &(lc3_answer){.record = c->record, .refusal = number});
+    check_buffers();
+}
+
+/* By lc3_run and, where n is 1, by lc3_step. A step that is made pushes two words. */
+static void check_refusal(const char *name, const arguments *c, uint32_t number) {
+    part = name;
+    clear_buffers();
+    fill_memory();
+    memory[0x3000] = 0xF025; /* TRAP x25 */
+    keep_buffers();
+    lc3_answer got = run(c);
+    check_refused(&got, c, number);
+    if (c->n != 1) return;
+    got = step(c);
+    check_refused(&got, c, number);
+}
+
+static void test_refused_memory(void) {
+    arguments c = usual();
+    c.words = WORDS - 1;
+    check_refusal("65,535 words", &c, LC3_REFUSED_MEMORY);
+    c.words = WORDS + 1;
+    check_refusal("65,537 words", &c, LC3_REFUSED_MEMORY);
+    c.words = 0;
+    check_refusal("no words", &c, LC3_REFUSED_MEMORY);
+    c.words = WORDS;
+    check_refusal("65,536 words", &c, LC3_ACCEPTED);
+}
+
+/* Each bit of one register of the record in turn: accepted exactly if it is defined. */
+static void check_bits(const char *name, size_t offset, uint16_t defined) {
+    for (int bit = 0; bit < 16; bit++) {
+        arguments c = usual();
+        uint16_t value = 1 << bit;
+        memcpy((char *)&c.record + offset, &value, sizeof value);
+        check_refusal(name, &c, value & defined ? LC3_ACCEPTED : LC3_REFUSED_RECORD);
+    }
+}
+
+static void test_refused_record(void) {
+    check_bits("bits of PSR", offsetof(lc3_record, psr), 0x8707);
+    check_bits("bits of KBSR", offsetof(lc3_record, kbsr), 0xC000);
+    check_bits("bits of KBDR", offsetof(lc3_record, kbdr), 0x00FF);
+    check_bits("bits of MCR", offsetof(lc3_record, mcr), 0x8000);
+    arguments c = usual();
+    c.n = 0;
+    c.record.clock = LC3_MAX_CLOCK + 1;
+    check_refusal("clock above 2^48", &c, LC3_REFUSED_RECORD);
+    c.record.clock = UINT64_MAX;
+    check_refusal("highest clock", &c, LC3_REFUSED_RECORD);
+}
+
+static void test_refused_steps(void) {
+    arguments c = usual();
+    c.record.clock = LC3_MAX_CLOCK;
+    check_refusal("clock 2^48, n = 1", &c, LC3_REFUSED_STEPS);
+    c.n = 0;
+    check_refusal("clock 2^48, n = 0", &c, LC3_ACCEPTED);
+    c.record.clock = LC3_MAX_CLOCK - 1;
+    c.n = 1;
+    check_refusal("clock 2^48 - 1, n = 1", &c, LC3_ACCEPTED);
+    c.n = 2;
+    check_refusal("clock 2^48 - 1, n = 2", &c, LC3_REFUSED_STEPS);
+    c.record = lc3_fresh(0x3000, true, 0xFDFF);
+    c.record.mcr = 0;
+    c.n = LC3_MAX_STEPS;
+    check_refusal("halted, n = 1,048,576", &c, LC3_ACCEPTED);
+    c.n = LC3_MAX_STEPS + 1;
+    check_refusal("halted, n = 1,048,577", &c, LC3_REFUSED_STEPS);
+    c.n = UINT64_MAX;
+    check_refusal("halted, highest n", &c, LC3_REFUSED_STEPS);
+}
+
+static void test_refused_keys(void) {
+    arguments c = usual();
+    c.times_len = 1;
+    check_refusal("a time without a byte", &c, LC3_REFUSED_LISTS);
+    c.bytes_len = 2;
+    check_refusal("a byte without a time", &c, LC3_REFUSED_LISTS);
+    c.times_len = c.bytes_len = 3;
+    c.record.clock = 5;
+    memcpy(c.times, (uint64_t[]){5, 5, 9}, sizeof c.times);
+    check_refusal("a time equal to the clock, equal times", &c, LC3_ACCEPTED);
+    memcpy(c.times, (uint64_t[]){4, 5, 9}, sizeof c.times);
+    check_refusal("a time below the clock", &c, LC3_REFUSED_TIMES);
+    memcpy(c.times, (uint64_t[]){6, 9, 8}, sizeof c.times);
+    check_refusal("a time below the one before", &c, LC3_REFUSED_TIMES);
+}
+
+/* All five reasons at once, then one less each time: the first that applies is answered. */
+static void test_refusal_order(void) {
+    arguments c = usual();
+    c.words = WORDS - 1;
+    c.record.psr = 0x0008;
+    c.record.clock = 5;
+    c.n = LC3_MAX_STEPS + 1;
+    c.times_len = 1;
+    check_refusal("all reasons", &c, LC3_REFUSED_MEMORY);
+    c.words = WORDS;
+    check_refusal("all but memory", &c, LC3_REFUSED_RECORD);
+    c.record.psr = LC3_PSR_Z;
+    check_refusal("steps, lists and times", &c, LC3_REFUSED_STEPS);
+    c.n = 1;
+    check_refusal("lists and times", &c, LC3_REFUSED_LISTS);
+    c.bytes_len = 1;
+    check_refusal("times", &c, LC3_REFUSED_TIMES);
+    c.times[0] = 5;
+    check_refusal("no reason", &c, LC3_ACCEPTED);
+}
+
+static void test_refusals(void) {
+    test_refused_memory();
+    test_refused_record();
+    test_refused_steps();
+    test_refused_keys();
+    test_refusal_order();
+}
+
+/* ---- Stops ---- */
+
+/* The call leaves the buffers as they are. */
+static void check_stop(const arguments *c, lc3_answer (*call)(const arguments *),
+                       lc3_answer wanted) {
+    keep_buffers();
+    lc3_answer got = call(c);
+    check_answer(&got, &wanted);
+    check_buffers();
+}
+
+static void test_done(void) {
+    clear_buffers();
+    part = "n = 0 on a halted machine is done";
+    arguments c = usual();
+    c.record.mcr = 0;
+    c.n = 0;
+    check_stop(&c, run, (lc3_answer){.record = c.record, .stop = LC3_DONE});
+
+    part = "1,048,576 steps at clock 0";
+    c = usual();
+    c.n = LC3_MAX_STEPS;
+    memory[0x3000] = 0x0FFF; /* BRnzp to itself */
+    lc3_record after = c.record;
+    after.clock = LC3_MAX_STEPS;
+    check_stop(&c, run, (lc3_answer){.record = after, .steps = LC3_MAX_STEPS, .stop = LC3_DONE});
+}
+
+static void test_halted(void) {
+    clear_buffers();
+    part = "halted by a store to the MCR";
+    arguments c = usual();
+    c.record = lc3_fresh(0x0200, false, 0xFDFF);
+    c.n = 5;
+    memory[0x0200] = 0xB001; /* STI R0, x0202 */
+    memory[0x0202] = LC3_ADDRESS_MCR;
+    lc3_record after = c.record;
+    after.pc = 0x0201;
+    after.mcr = 0;
+    after.clock = 1;
+    check_stop(&c, run, (lc3_answer){.record = after, .steps = 1, .stop = LC3_HALTED});
+
+    part = "a step of a halted machine";
+    c.record = after;
+    check_stop(&c, step, (lc3_answer){.record = after, .stop = LC3_HALTED});
+}
+
+/* Shows R0, adds 1 to it and begins again. */
+static const cell alphabet[] = {
+    {0x0200, 0xB002}, /* STI R0, x0203 */
+    {0x0201, 0x1021}, /* ADD R0, R0, #1 */
+    {0x0202, 0x0FFD}, /* BRnzp x0200 */
+    {0x0203, LC3_ADDRESS_DDR},
+};
+
+/* Three bytes of room: the fourth store, at clock 9, finds none, and its key stays out too. */
+static void test_output_full(void) {
+    clear_buffers();
+    write_cells(memory, alphabet, sizeof alphabet / sizeof *alphabet);
+    part = "output full";
+    arguments c = usual();
+    c.record = lc3_fresh(0x0200, false, 0xFDFF);
+    c.record.regs[0] = 'A';
+    c.n = 100;
+    c.output_len = 3;
+    c.times[0] = 9;
+    c.times_len = c.bytes_len = 1;
+    keep_buffers();
+    memcpy(wanted_output, "ABC", 3);
+    lc3_record after = c.record;
+    after.regs[0] = 'D';
+    after.psr = LC3_PSR_P;
+    after.clock = 9;
+    lc3_answer got = run(&c);
+    check_answer(&got, &(lc3_answer){after, 9, 0, 3, LC3_ACCEPTED, LC3_OUTPUT_FULL});
+    check_buffers();
+
+    part = "a step that finds no room";
+    c.record = after;
+    c.output_len = 0;
+    check_stop(&c, step, (lc3_answer){.record = after, .stop = LC3_OUTPUT_FULL});
+}
+
+/* The same store with room again: the key arrives and the byte is shown. */
+static void test_room_again(void) {
+    part = "room again";
+    arguments c = usual();
+    c.record = lc3_fresh(0x0200, false, 0xFDFF);
+    c.record.regs[0] = 'D';
+    c.record.clock = 9;
+    c.output_len = 1;
+    c.times[0] = 9;
+    c.bytes[0] = 'k';
+    c.times_len = c.bytes_len = 1;
+    clear_buffers();
+    write_cells(memory, alphabet, sizeof alphabet / sizeof *alphabet);
+    keep_buffers();
+    wanted_output[0] = 'D';
+    lc3_record after = c.record;
+    after.pc = 0x0201;
+    after.kbsr = LC3_KBSR_READY;
+    after.kbdr = 'k';
+    after.clock = 10;
+    lc3_answer got = run(&c);
+    check_answer(&got, &(lc3_answer){after, 1, 1, 1, LC3_ACCEPTED, LC3_DONE});
+    check_buffers();
+}
+
+static void test_keys(void) {
+    clear_buffers();
+    part = "arrival of keys";
+    arguments c = usual();
+    memcpy(c.times, (uint64_t[]){0, 0, 1}, sizeof c.times);
+    memcpy(c.bytes, "xyz", sizeof c.bytes);
+    c.times_len = c.bytes_len = 3;
+    lc3_record after = c.record;
+    after.pc = 0x3001; /* word 0 is a BR that is never taken */
+    after.kbsr = LC3_KBSR_READY;
+    after.kbdr = 'y';
+    after.clock = 1;
+    check_stop(&c, run, (lc3_answer){.record = after, .steps = 1, .keys = 2, .stop = LC3_DONE});
+}
+
+/* ---- Single steps and divided runs ---- */
+
+/* A random record, three keys near its clock and a small output. */
+static arguments any_arguments(void) {
+    arguments c = {.words = WORDS, .times_len = 3, .bytes_len = 3, .output_len = any() % 3};
+    for (int i = 0; i < 8; i++) c.record.regs[i] = any() % 3 ? any() : 0xFE00 + 2 * (any() % 4);
+    c.record.pc = any();
+    c.record.psr = any() & 0x8707;
+    c.record.saved_ssp = any();
+    c.record.saved_usp = any();
+    c.record.kbsr = any() & 0xC000;
+    c.record.kbdr = any() & 0x00FF;
+    c.record.mcr = any() % 16 ? 0x8000 : 0;
+    c.record.clock = any() % 1000;
+    for (int i = 0; i < 3; i++) {
+        c.times[i] = (i ? c.times[i - 1] : c.record.clock) + any() % 4;
+        c.bytes[i] = any();
+    }
+    return c;
+}
+
+/* Runs over the buffers as they are, keeps what that leaves, and puts the buffers back. */
+static lc3_answer run_and_restore(const arguments *c) {
+    static uint16_t before[WORDS + 1];
+    memcpy(before, memory, sizeof memory);
+    memset(output, UNSHOWN, sizeof output);
+    lc3_answer a = run(c);
+    keep_buffers();
+    memcpy(memory, before, sizeof memory);
+    memset(output, UNSHOWN, sizeof output);
+    return a;
+}
+
+static void test_step_is_run(void) {
+    part = "lc3_step against lc3_run with n = 1";
+    for (int i = 0; i < 1000; i++) {
+        if (i % 100 == 0) fill_memory();
+        arguments c = any_arguments();
+        c.n = 1;
+        lc3_answer by_run = run_and_restore(&c), by_step = step(&c);
+        check_answer(&by_step, &by_run);
+        check_buffers();
+    }
+}
+
+/* As many single steps as a run made, each handed what the one before left, come to that run. */
+static void test_steps_are_run(void) {
+    part = "single steps against a longer run";
+    for (int i = 0; i < 200; i++) {
+        fill_memory();
+        arguments c = any_arguments();
+        c.n = any() % 60;
+        lc3_answer whole = run_and_restore(&c);
+        lc3_record record = c.record;
+        size_t keys = 0, shown = 0;
+        for (uint64_t made = 0; made < whole.steps; made++) {
+            lc3_report r = lc3_step(&record, memory, WORDS, c.times + keys, 3 - keys,
+                                    c.bytes + keys, 3 - keys, output + shown, c.output_len - shown);
+            CHECK(r.steps, 1);
+            keys += r.keys;
+            shown += r.shown;
+        }
+        check_record(&record, &whole.record);
+        CHECK(keys, whole.keys);
+        CHECK(shown, whole.shown);
+        check_buffers();
+    }
+}
+
+/* ---- Instruction words ---- */
+
+/* A format of Figure A.2: what tells it from others, its fixed bits, and where operands stand. */
+typedef struct {
+    uint8_t kind;
+    uint16_t selector; /* the bits that tell this format from all others */
+    uint16_t fixed;    /* the word with every operand 0 */
+    int8_t a, b, c;    /* lowest bit of each register, or of the mask; NONE where unused */
+    uint8_t width;     /* bits of the value, 0 where unused */
+    bool is_signed;
+} format;
+
+enum { NONE = -1 };
+
+static const format formats[] = {
+    {LC3_BR, 0xF000, 0x0000, 9, NONE, NONE, 9, true},
+    {LC3_ADD_REGISTER, 0xF020, 0x1000, 9, 6, 0, 0, false},
+    {LC3_ADD_IMMEDIATE, 0xF020, 0x1020, 9, 6, NONE, 5, true},
+    {LC3_LD, 0xF000, 0x2000, 9, NONE, NONE, 9, true},
+    {LC3_ST, 0xF000, 0x3000, 9, NONE, NONE, 9, true},
+    {LC3_JSR, 0xF800, 0x4800, NONE, NONE, NONE, 11, true},
+    {LC3_JSRR, 0xF800, 0x4000, 6, NONE, NONE, 0, false},
+    {LC3_AND_REGISTER, 0xF020, 0x5000, 9, 6, 0, 0, false},
+    {LC3_AND_IMMEDIATE, 0xF020, 0x5020, 9, 6, NONE, 5, true},
+    {LC3_LDR, 0xF000, 0x6000, 9, 6, NONE, 6, true},
+    {LC3_STR, 0xF000, 0x7000, 9, 6, NONE, 6, true},
+    {LC3_RTI, 0xF000, 0x8000, NONE, NONE, NONE, 0, false},
+    {LC3_NOT, 0xF000, 0x903F, 9, 6, NONE, 0, false},
+    {LC3_LDI, 0xF000, 0xA000, 9, NONE, NONE, 9, true},
+    {LC3_STI, 0xF000, 0xB000, 9, NONE, NONE, 9, true},
+    {LC3_JMP, 0xF000, 0xC000, 6, NONE, NONE, 0, false},
+    {LC3_RESERVED, 0xF000, 0xD000, NONE, NONE, NONE, 12, false},
+    {LC3_LEA, 0xF000, 0xE000, 9, NONE, NONE, 9, true},
+    {LC3_TRAP, 0xF000, 0xF000, NONE, NONE, NONE, 8, false},
+};
+
+enum { FORMATS = sizeof formats / sizeof *formats };
+
+static const format *format_of(uint16_t word) {
+    int i = 0;
+    while ((word & formats[i].selector) != (formats[i].fixed & formats[i].selector)) i++;
+    return &formats[i];
+}
+
+static int lowest(const format *f) { return f->is_signed ? -(1 << (f->width - 1)) : 0; }
+
+static int highest(const format *f) { return lowest(f) + (1 << f->width) - 1; }
+
+static uint8_t register_at(uint16_t word, int place) {
+    return place == NONE ? 0 : word >> place & 7;
+}
+
+static lc3_instruction expected_read(uint16_t word) {
+    const format *f = format_of(word);
+    int value = word & ((1 << f->width) - 1);
+    if (value > highest(f)) value -= 1 << f->width;
+    return (lc3_instruction){f->kind, register_at(word, f->a), register_at(word, f->b),
+                             register_at(word, f->c), value};
+}
+
+/* The bits of a format that belong to no operand. */
+static uint16_t fixed_bits(const format *f) {
+    uint16_t operands = (1 << f->width) - 1;
+    if (f->a != NONE) operands |= 7 << f->a;
+    if (f->b != NONE) operands |= 7 << f->b;
+    if (f->c != NONE) operands |= 7 << f->c;
+    return ~operands;
+}
+
+static bool fixed_bits_right(uint16_t word) {
+    const format *f = format_of(word);
+    return (word & fixed_bits(f)) == f->fixed;
+}
+
+static bool register_out(uint8_t r, int place) { return place != NONE && r > 7; }
+
+static uint16_t placed(uint8_t r, int place) { return place == NONE ? 0 : r << place; }
+
+static lc3_written expected_write(lc3_instruction i) {
+    if (i.kind >= FORMATS) return (lc3_written){0, LC3_REFUSED_FIELD};
+    const format *f = &formats[i.kind];
+    bool mask = i.kind == LC3_BR;
+    if ((register_out(i.a, f->a) && !mask) || register_out(i.b, f->b) || register_out(i.c, f->c)) {
+        return (lc3_written){0, LC3_REFUSED_REGISTER};
+    }
+    if (f->width && (i.value < lowest(f) || i.value > highest(f))) {
+        return (lc3_written){0, LC3_REFUSED_FIELD};
+    }
+    if (mask && i.a > 7) return (lc3_written){0, LC3_REFUSED_MASK};
+    uint16_t field = (uint32_t)i.value & ((1 << f->width) - 1);
+    uint16_t registers = placed(i.a, f->a) | placed(i.b, f->b) | placed(i.c, f->c);
+    return (lc3_written){f->fixed | registers | field, LC3_ACCEPTED};
+}
+
+static void check_instruction(lc3_instruction got, lc3_instruction wanted) {
+    CHECK(got.kind, wanted.kind);
+    CHECK(got.a, wanted.a);
+    CHECK(got.b, wanted.b);
+    CHECK(got.c, wanted.c);
+    CHECK(got.value, wanted.value);
+}
+
+/* Every word; writing what was read gives the word with its fixed bits set right. */
+static void test_read(void) {
+    part = "read";
+    for (int word = 0; word < 65536; word++) {
+        lc3_instruction i = lc3_read(word);
+        check_instruction(i, expected_read(word));
+        lc3_written w = lc3_write(i);
+        CHECK(w.refusal, LC3_ACCEPTED);
+        CHECK(w.word, expected_write(i).word);
+        CHECK(w.word == word, fixed_bits_right(word));
+    }
+}
+
+/* Reading what was written gives the instruction back, its unused operands as 0. */
+static void check_write(lc3_instruction i) {
+    lc3_written got = lc3_write(i), wanted = expected_write(i);
+    CHECK(got.word, wanted.word);
+    CHECK(got.refusal, wanted.refusal);
+    if (got.refusal) return;
+    const format *f = &formats[i.kind];
+    lc3_instruction back = {i.kind, f->a == NONE ? 0 : i.a, f->b == NONE ? 0 : i.b,
+                            f->c == NONE ? 0 : i.c, f->width ? i.value : 0};
+    check_instruction(lc3_read(got.word), back);
+}
+
+/* The powers of two and their neighbours: the edges of every field, of 16 and of 32 bits. */
+static void check_values(lc3_instruction i) {
+    for (int bit = 0; bit < 32; bit++) {
+        for (int near = -1; near <= 1; near++) {
+            int64_t power = INT64_C(1) << bit;
+            i.value = power + near > INT32_MAX ? 0 : power + near;
+            check_write(i);
+            i.value = near - power < INT32_MIN ? 0 : near - power;
+            check_write(i);
+        }
+    }
+}
+
+/* Every kind and some that are none, registers on both sides of 7. */
+static void test_write(void) {
+    part = "write";
+    static const uint8_t registers[] = {0, 5, 7, 8, 255};
+    enum { REGISTERS = sizeof registers };
+    for (int kind = 0; kind < FORMATS + 3; kind++) {
+        for (int a = 0; a < REGISTERS; a++) {
+            for (int b = 0; b < REGISTERS; b++) {
+                for (int c = 0; c < REGISTERS; c++) {
+                    check_values(
+                        (lc3_instruction){kind, registers[a], registers[b], registers[c], 0});
+                }
+            }
+        }
+    }
+}
+
+int main(void) {
+    test_fresh();
+    test_examples();
+    test_refusals();
+    test_done();
+    test_halted();
+    test_output_full();
+    test_room_again();
+    test_keys();
+    test_step_is_run();
+    test_steps_are_run();
+    test_read();
+    test_write();
+    printf("interface: %lu checks, %lu failures\n", checks, failures);
+    return failures != 0;
+}

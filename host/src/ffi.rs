@@ -1,0 +1,137 @@
+//! The C interface, version 1, as `lc3.h` declares it.
+//!
+//! Use it only where the answers to refused calls matter in full: the safe functions of this crate
+//! leave out the record and the counts of a refused call, which are the record handed in and zeros.
+
+use crate::Record;
+use std::mem::{align_of, offset_of, size_of};
+
+/// What a run answers: `lc3_answer`.
+#[repr(C)]
+#[derive(Clone, Copy, Debug, PartialEq, Eq)]
+pub struct Answer {
+    /// The record after the run, or as handed in if the run was refused.
+    pub record: Record,
+    /// The steps made.
+    pub steps: u64,
+    /// The keys that arrived.
+    pub keys: u64,
+    /// The bytes shown.
+    pub shown: u64,
+    /// 0, or the number of the refusal, 11 to 15.
+    pub refusal: u32,
+    /// 0 done, 1 halted, 2 output full; 0 if refused.
+    pub stop: u32,
+}
+
+/// What a single step answers, beside the record that it alters: `lc3_report`.
+#[repr(C)]
+#[derive(Clone, Copy, Debug, PartialEq, Eq)]
+pub struct Report {
+    /// The steps made, 0 or 1.
+    pub steps: u64,
+    /// The keys that arrived.
+    pub keys: u64,
+    /// The bytes shown, 0 or 1.
+    pub shown: u64,
+    /// 0, or the number of the refusal, 11 to 15.
+    pub refusal: u32,
+    /// 0 done, 1 halted, 2 output full; 0 if refused.
+    pub stop: u32,
+}
+
+/// An instruction as the numbers of its fields: `lc3_instruction`.
+#[repr(C)]
+#[derive(Clone, Copy, Debug, PartialEq, Eq)]
+pub struct Fields {
+    /// The form: 0 to 18 in the order of [`Instruction`](crate::Instruction)'s variants.
+    pub kind: u8,
+    /// The first register in the assembler's order, or the mask of BR; 0 if unused.
+    pub a: u8,
+    /// The second register; 0 if unused.
+    pub b: u8,
+    /// The third register; 0 if unused.
+    pub c: u8,
+    /// The signed field, trap vector or reserved field; 0 if unused.
+    pub value: i32,
+}
+
+/// What writing an instruction answers: `lc3_written`.
+#[repr(C)]
+#[derive(Clone, Copy, Debug, PartialEq, Eq)]
+pub struct Written {
+    /// The word, or 0 if refused.
+    pub word: u16,
+    /// 0, or the number of the refusal, 1 to 3.
+    pub refusal: u16,
+}
+
+// The layout that C gives the same declarations.
+const _: () = assert!(size_of::<Record>() == 40 && align_of::<Record>() == 8);
+const _: () = assert!(offset_of!(Record, regs) == 0 && offset_of!(Record, pc) == 16);
+const _: () = assert!(offset_of!(Record, psr) == 18 && offset_of!(Record, saved_ssp) == 20);
+const _: () = assert!(offset_of!(Record, saved_usp) == 22 && offset_of!(Record, kbsr) == 24);
+const _: () = assert!(offset_of!(Record, kbdr) == 26 && offset_of!(Record, mcr) == 28);
+const _: () = assert!(offset_of!(Record, clock) == 32);
+const _: () = assert!(size_of::<Answer>() == 72 && align_of::<Answer>() == 8);
+const _: () = assert!(offset_of!(Answer, record) == 0 && offset_of!(Answer, steps) == 40);
+const _: () = assert!(offset_of!(Answer, keys) == 48 && offset_of!(Answer, shown) == 56);
+const _: () = assert!(offset_of!(Answer, refusal) == 64 && offset_of!(Answer, stop) == 68);
+const _: () = assert!(size_of::<Report>() == 32 && align_of::<Report>() == 8);
+const _: () = assert!(offset_of!(Report, steps) == 0 && offset_of!(Report, keys) == 8);
+const _: () = assert!(offset_of!(Report, shown) == 16 && offset_of!(Report, refusal) == 24);
+const _: () = assert!(offset_of!(Report, stop) == 28);
+const _: () = assert!(size_of::<Fields>() == 8 && align_of::<Fields>() == 4);
+const _: () = assert!(offset_of!(Fields, kind) == 0 && offset_of!(Fields, a) == 1);
+const _: () = assert!(offset_of!(Fields, b) == 2 && offset_of!(Fields, c) == 3);
+const _: () = assert!(offset_of!(Fields, value) == 4);
+const _: () = assert!(size_of::<Written>() == 4 && align_of::<Written>() == 2);
+const _: () = assert!(offset_of!(Written, word) == 0 && offset_of!(Written, refusal) == 2);
+
+unsafe extern "C" {
+    /// Makes a fresh record.
+    pub safe fn lc3_fresh(pc: u16, user: bool, user_stack: u16) -> Record;
+
+    /// Reads a word as an instruction.
+    pub safe fn lc3_read(word: u16) -> Fields;
+
+    /// Writes an instruction as a word.
+    pub safe fn lc3_write(instruction: Fields) -> Written;
+
+    /// Runs up to `n` steps.
+    ///
+    /// # Safety
+    ///
+    /// Each pointer must be valid for its number of elements, `memory` and `output` also for
+    /// writing, and no two of the four buffers may overlap.
+    pub fn lc3_run(
+        record: Record,
+        memory: *mut u16,
+        words: usize,
+        times: *const u64,
+        times_len: usize,
+        bytes: *const u8,
+        bytes_len: usize,
+        output: *mut u8,
+        output_len: usize,
+        n: u64,
+    ) -> Answer;
+
+    /// Makes a single step, and alters `record` itself.
+    ///
+    /// # Safety
+    ///
+    /// As for [`lc3_run`]; `record` too must be valid for reading and writing, and not overlap a
+    /// buffer.
+    pub fn lc3_step(
+        record: *mut Record,
+        memory: *mut u16,
+        words: usize,
+        times: *const u64,
+        times_len: usize,
+        bytes: *const u8,
+        bytes_len: usize,
+        output: *mut u8,
+        output_len: usize,
+    ) -> Report;
+}

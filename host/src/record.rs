@@ -1,0 +1,67 @@
+//! The machine's record.
+
+use crate::ffi;
+
+/// The two modes of privilege.
+#[derive(Clone, Copy, Debug, PartialEq, Eq, Hash)]
+pub enum Mode {
+    /// Everything is allowed.
+    Supervisor,
+    /// Only addresses x3000 to xFDFF may be reached.
+    User,
+}
+
+/// The whole state of the machine beside its memory.
+///
+/// It has the layout of `lc3_record` in C.
+#[repr(C)]
+#[derive(Clone, Copy, Debug, PartialEq, Eq, Hash)]
+pub struct Record {
+    /// R0 to R7. R6 is the stack pointer of the current mode.
+    pub regs: [u16; 8],
+    /// The address of the next instruction.
+    pub pc: u16,
+    /// The processor status: bit 15 is User mode, bits 10 to 8 are the priority, bits 2 to 0 the
+    /// codes N, Z and P. No other bit is defined.
+    pub psr: u16,
+    /// The supervisor's stack pointer while in User mode.
+    pub saved_ssp: u16,
+    /// The user's stack pointer while in Supervisor mode.
+    pub saved_usp: u16,
+    /// The keyboard's status: bit 15 is ready, bit 14 interrupt enable. No other bit is defined.
+    pub kbsr: u16,
+    /// The last key, in bits 7 to 0. No other bit is defined.
+    pub kbdr: u16,
+    /// The machine control: bit 15 is clock enable. No other bit is defined.
+    pub mcr: u16,
+    /// The number of steps made so far, at most 2^48.
+    pub clock: u64,
+}
+
+impl Record {
+    /// A machine at `pc` in the given mode, with the code Z and priority 0.
+    ///
+    /// The supervisor's stack begins at x3000. R6 is the stack pointer of the mode, and that of
+    /// the other mode is saved.
+    ///
+    /// ```
+    /// use lc3::{Mode, Record};
+    ///
+    /// let record = Record::fresh(0x3000, Mode::User, 0xFDFF);
+    /// assert_eq!((record.pc, record.psr, record.mcr), (0x3000, 0x8002, 0x8000));
+    /// assert_eq!((record.regs[6], record.saved_ssp), (0xFDFF, 0x3000));
+    /// assert_eq!(record.mode(), Mode::User);
+    /// ```
+    pub fn fresh(pc: u16, mode: Mode, user_stack: u16) -> Record {
+        ffi::lc3_fresh(pc, mode == Mode::User, user_stack)
+    }
+
+    /// The mode in bit 15 of PSR.
+    pub fn mode(&self) -> Mode {
+        if self.psr & 0x8000 == 0 {
+            Mode::Supervisor
+        } else {
+            Mode::User
+        }
+    }
+}

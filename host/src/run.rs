@@ -1,0 +1,259 @@
+//! Runs and single steps.
+
+use crate::{ffi, Record};
+use std::error::Error;
+use std::fmt;
+
+/// The number of words of memory that a run needs.
+pub const WORDS: usize = 65_536;
+
+/// The most steps that one run may be asked for.
+pub const STEP_LIMIT: u64 = 1_048_576;
+
+/// The highest clock.
+pub const CLOCK_LIMIT: u64 = 1 << 48;
+
+/// Key presses: the clock at which each arrives, and its byte.
+#[derive(Clone, Copy, Debug, Default, PartialEq, Eq)]
+pub struct Keys<'a> {
+    /// The times, none below the one before it.
+    pub times: &'a [u64],
+    /// The bytes, as many as there are times.
+    pub bytes: &'a [u8],
+}
+
+impl<'a> Keys<'a> {
+    /// No key presses.
+    pub const NONE: Keys<'static> = Keys { times: &[], bytes: &[] };
+
+    /// The keys that are left after the first `arrived` ones, for the run that goes on.
+    ///
+    /// ```
+    /// use lc3::Keys;
+    ///
+    /// let keys = Keys { times: &[3, 5, 9], bytes: b"abc" };
+    /// assert_eq!(keys.after(2), Keys { times: &[9], bytes: b"c" });
+    /// ```
+    ///
+    /// # Panics
+    ///
+    /// If either list is shorter than `arrived`.
+    pub fn after(&self, arrived: usize) -> Keys<'a> {
+        Keys { times: &self.times[arrived..], bytes: &self.bytes[arrived..] }
+    }
+}
+
+/// Why a run stopped.
+#[derive(Clone, Copy, Debug, PartialEq, Eq, Hash)]
+pub enum Stop {
+    /// All steps asked for were made.
+    Done,
+    /// Bit 15 of MCR is clear.
+    Halted,
+    /// The next step would show a byte, and the output has no free one.
+    OutputFull,
+}
+
+impl Stop {
+    fn from_code(code: u32) -> Stop {
+        match code {
+            0 => Stop::Done,
+            1 => Stop::Halted,
+            2 => Stop::OutputFull,
+            _ => unreachable!("the library answers stops 0 to 2"),
+        }
+    }
+}
+
+/// Why a run was turned down. Where several apply, the first is answered.
+#[derive(Clone, Copy, Debug, PartialEq, Eq, Hash)]
+pub enum Refusal {
+    /// Memory is not [`WORDS`] words.
+    Memory,
+    /// The record has an undefined bit, or a clock above [`CLOCK_LIMIT`].
+    Record,
+    /// More than [`STEP_LIMIT`] steps, or a clock that would pass [`CLOCK_LIMIT`].
+    Steps,
+    /// The key lists differ in length.
+    KeyLists,
+    /// A key's time is below the clock or below the one before it.
+    KeyTimes,
+}
+
+impl Refusal {
+    /// The refusal's number, 11 to 15.
+    ///
+    /// ```
+    /// assert_eq!(lc3::Refusal::KeyTimes.code(), 15);
+    /// ```
+    pub fn code(self) -> u32 {
+        match self {
+            Refusal::Memory => 11,
+            Refusal::Record => 12,
+            Refusal::Steps => 13,
+            Refusal::KeyLists => 14,
+            Refusal::KeyTimes => 15,
+        }
+    }
+
+    /// The refusal that a number stands for; 0 is none.
+    fn from_code(code: u32) -> Option<Refusal> {
+        match code {
+            0 => None,
+            11 => Some(Refusal::Memory),
+            12 => Some(Refusal::Record),
+            13 => Some(Refusal::Steps),
+            14 => Some(Refusal::KeyLists),
+            15 => Some(Refusal::KeyTimes),
+            _ => unreachable!("the library answers refusals 11 to 15"),
+        }
+    }
+}
+
+impl fmt::Display for Refusal {
+    fn fmt(&self, f: &mut fmt::Formatter<'_>) -> fmt::Result {
+        f.write_str(match self {
+            Refusal::Memory => "memory is not 65,536 words",
+            Refusal::Record => "the record has an undefined bit or a clock above 2^48",
+            Refusal::Steps => "more than 1,048,576 steps, or a clock that would pass 2^48",
+            Refusal::KeyLists => "the lists of key times and key bytes differ in length",
+            Refusal::KeyTimes => "a key's time is below the clock or below the one before it",
+        })
+    }
+}
+
+impl Error for Refusal {}
+
+/// What a run did.
+#[derive(Clone, Copy, Debug, PartialEq, Eq)]
+pub struct Run {
+    /// The record after the run.
+    pub record: Record,
+    /// The steps made.
+    pub steps: u64,
+    /// The keys that arrived.
+    pub keys: usize,
+    /// The bytes shown, from the start of the output.
+    pub shown: usize,
+    /// Why the run stopped.
+    pub stop: Stop,
+}
+
+/// What a single step did.
+#[derive(Clone, Copy, Debug, PartialEq, Eq)]
+pub struct StepReport {
+    /// The steps made: 1, or 0 if the machine stopped before the step.
+    pub steps: u64,
+    /// The keys that arrived.
+    pub keys: usize,
+    /// The bytes shown, 0 or 1.
+    pub shown: usize,
+    /// Why the call stopped; [`Stop::Done`] if the step was made.
+    pub stop: Stop,
+}
+
+/// A count of elements of a lent slice; it is at most the slice's length.
+fn count(number: u64) -> usize {
+    usize::try_from(number).expect("a count within a slice")
+}
+
+/// Runs `n` steps, or fewer if the machine halts or the output is full.
+///
+/// A refused run alters no buffer.
+///
+/// ```
+/// use lc3::{Keys, Mode, Record, Refusal, Stop};
+///
+/// let mut memory = vec![0; lc3::WORDS];
+/// memory[0x3000] = 0x1021; // ADD R0, R0, #1
+/// let record = Record::fresh(0x3000, Mode::User, 0xFDFF);
+/// let run = lc3::run(record, &mut memory, Keys::NONE, &mut [], 1)?;
+/// assert_eq!((run.stop, run.record.regs[0], run.record.pc), (Stop::Done, 1, 0x3001));
+///
+/// let refused = lc3::run(record, &mut memory[1..], Keys::NONE, &mut [], 1);
+/// assert_eq!(refused, Err(Refusal::Memory));
+/// # Ok::<(), Refusal>(())
+/// ```
+pub fn run(
+    record: Record,
+    memory: &mut [u16],
+    keys: Keys<'_>,
+    output: &mut [u8],
+    n: u64,
+) -> Result<Run, Refusal> {
+    // SAFETY: each pointer and length come from one slice, and the borrows keep the slices that
+    // are written apart from all others.
+    let answer = unsafe {
+        ffi::lc3_run(
+            record,
+            memory.as_mut_ptr(),
+            memory.len(),
+            keys.times.as_ptr(),
+            keys.times.len(),
+            keys.bytes.as_ptr(),
+            keys.bytes.len(),
+            output.as_mut_ptr(),
+            output.len(),
+            n,
+        )
+    };
+    match Refusal::from_code(answer.refusal) {
+        Some(refusal) => Err(refusal),
+        None => Ok(Run {
+            record: answer.record,
+            steps: answer.steps,
+            keys: count(answer.keys),
+            shown: count(answer.shown),
+            stop: Stop::from_code(answer.stop),
+        }),
+    }
+}
+
+/// Makes a single step, and alters `record` itself: otherwise [`run`] with `n` = 1.
+///
+/// A refused step alters neither the record nor a buffer.
+///
+/// ```
+/// use lc3::{Keys, Mode, Record};
+///
+/// let mut memory = vec![0; lc3::WORDS];
+/// memory[0x0025] = 0x0400; // where TRAP x25 goes
+/// memory[0x3000] = 0xF025; // TRAP x25
+/// let mut record = Record::fresh(0x3000, Mode::User, 0xFDFF);
+/// let report = lc3::step(&mut record, &mut memory, Keys::NONE, &mut [])?;
+/// assert_eq!(report.steps, 1);
+/// assert_eq!((record.pc, record.mode()), (0x0400, Mode::Supervisor));
+/// assert_eq!(memory[0x2FFE..0x3000], [0x3001, 0x8002]);
+/// # Ok::<(), lc3::Refusal>(())
+/// ```
+pub fn step(
+    record: &mut Record,
+    memory: &mut [u16],
+    keys: Keys<'_>,
+    output: &mut [u8],
+) -> Result<StepReport, Refusal> {
+    // SAFETY: each pointer and length come from one slice, `record` is a reference, and the
+    // borrows keep what is written apart from all else.
+    let report = unsafe {
+        ffi::lc3_step(
+            record,
+            memory.as_mut_ptr(),
+            memory.len(),
+            keys.times.as_ptr(),
+            keys.times.len(),
+            keys.bytes.as_ptr(),
+            keys.bytes.len(),
+            output.as_mut_ptr(),
+            output.len(),
+        )
+    };
+    match Refusal::from_code(report.refusal) {
+        Some(refusal) => Err(refusal),
+        None => Ok(StepReport {
+            steps: report.steps,
+            keys: count(report.keys),
+            shown: count(report.shown),
+            stop: Stop::from_code(report.stop),
+        }),
+    }
+}

@@ -1,0 +1,306 @@
+//! Random runs of the library against the reference simulator.
+//!
+//! `LC3_SEED` repeats the cases of an earlier test, and `LC3_RUNS` asks for another number of them.
+
+mod reference;
+mod support;
+
+use lc3::ffi::Answer;
+use lc3::{CLOCK_LIMIT, STEP_LIMIT, WORDS};
+use reference::bus::REGISTERS;
+use reference::figure::FIGURE;
+use reference::machine::{self, Cause, Event, CAUSES, OUTPUT_FULL};
+use std::time::Instant;
+use support::cases::{self, accepted, Case, FAMILIES};
+use support::{assert_same_buffers, Announce, Buffers, Rng};
+
+/// How often each thing was met that the runs are to meet.
+#[derive(Default)]
+struct Tally {
+    kinds: [u64; FIGURE.len()],
+    /// By cause, and for entries by the mode that they came from.
+    causes: [[u64; 2]; CAUSES],
+    pointers: [u64; REGISTERS.len()],
+    loads: [u64; REGISTERS.len()],
+    stores: [u64; REGISTERS.len()],
+    vectors_pushed_on: u64,
+    stacks_wrapped: u64,
+    stops: [u64; 3],
+    full_with_a_key_due: u64,
+    keys: u64,
+    shown: u64,
+    refusals: [u64; 5],
+    /// By the refusal answered and a later one that applied too.
+    refusals_over: [[u64; 5]; 5],
+}
+
+impl Tally {
+    fn event(&mut self, event: &Event) {
+        if let Some(kind) = event.kind {
+            self.kinds[kind as usize] += 1;
+        }
+        let user = event.entry.is_some_and(|entry| entry.psr & 0x8000 != 0);
+        self.causes[event.cause as usize][usize::from(user)] += 1;
+        let count = |counts: &mut [u64; REGISTERS.len()], place: Option<usize>| {
+            if let Some(place) = place {
+                counts[place] += 1;
+            }
+        };
+        count(&mut self.pointers, event.reached.pointer);
+        count(&mut self.loads, event.reached.load);
+        count(&mut self.stores, event.reached.store);
+        if let Some(entry) = event.entry {
+            let above = entry.stack.wrapping_add(1);
+            self.vectors_pushed_on += u64::from([entry.stack, above].contains(&entry.vector));
+            self.stacks_wrapped += u64::from(entry.stack >= 0xFFFE);
+        }
+    }
+
+    fn answer(&mut self, case: &Case, answer: &Answer, objections: [bool; 5]) {
+        if answer.refusal != 0 {
+            let first = answer.refusal as usize - 11;
+            self.refusals[first] += 1;
+            for (later, due) in objections.into_iter().enumerate().skip(first + 1) {
+                self.refusals_over[first][later] += u64::from(due);
+            }
+            return;
+        }
+        self.stops[answer.stop as usize] += 1;
+        self.keys += answer.keys;
+        self.shown += answer.shown;
+        let next_key = case.times.get(answer.keys as usize);
+        self.full_with_a_key_due +=
+            u64::from(answer.stop == OUTPUT_FULL && next_key == Some(&answer.record.clock));
+    }
+
+    fn step_lines(&self) -> Vec<(String, u64)> {
+        use Cause::{Access, Illegal, Instruction, Keyboard, Privilege, Trap};
+        let mut lines = Vec::new();
+        for ((kind, _), count) in FIGURE.iter().zip(self.kinds) {
+            lines.push((format!("{kind:?}"), count));
+        }
+        lines.push(("steps without entry".into(), self.causes[Instruction as usize][0]));
+        for cause in [Trap, Illegal, Keyboard] {
+            let count = self.causes[cause as usize][0];
+            lines.push((format!("entries from Supervisor mode: {cause:?}"), count));
+        }
+        for cause in [Trap, Privilege, Illegal, Access, Keyboard] {
+            let count = self.causes[cause as usize][1];
+            lines.push((format!("entries from User mode: {cause:?}"), count));
+        }
+        lines.push(("entries that pushed on their vector word".into(), self.vectors_pushed_on));
+        lines.push(("entries whose stack wrapped".into(), self.stacks_wrapped));
+        lines
+    }
+
+    fn device_lines(&self) -> Vec<(String, u64)> {
+        let mut lines = Vec::new();
+        for (i, register) in REGISTERS.iter().enumerate() {
+            lines.push((format!("pointers from x{register:04X}"), self.pointers[i]));
+            lines.push((format!("loads from x{register:04X}"), self.loads[i]));
+            lines.push((format!("stores to x{register:04X}"), self.stores[i]));
+        }
+        lines
+    }
+
+    fn answer_lines(&self) -> Vec<(String, u64)> {
+        let mut lines = vec![
+            ("stops: done".into(), self.stops[0]),
+            ("stops: halted".into(), self.stops[1]),
+            ("stops: output full".into(), self.stops[2]),
+            ("stops: output full with a key due".into(), self.full_with_a_key_due),
+            ("keys".into(), self.keys),
+            ("bytes shown".into(), self.shown),
+        ];
+        for first in 0..5 {
+            lines.push((format!("refusals {}", 11 + first), self.refusals[first]));
+            for later in first + 1..5 {
+                let count = self.refusals_over[first][later];
+                lines.push((format!("refusals {} with {} due", 11 + first, 11 + later), count));
+            }
+        }
+        lines
+    }
+
+    /// Prints the table, and panics if all was to be met and something was not.
+    fn check(&self, all: bool) {
+        let lines = [self.step_lines(), self.device_lines(), self.answer_lines()].concat();
+        for (name, count) in &lines {
+            println!("{count:>12} {name}");
+        }
+        let missed: Vec<_> = lines.iter().filter(|(_, count)| *count == 0).collect();
+        assert!(!all || missed.is_empty(), "never met: {missed:?}");
+    }
+}
+
+/// The buffers of the library and of the reference.
+struct Bench {
+    template: Vec<u16>,
+    ours: Buffers,
+    theirs: Buffers,
+}
+
+impl Bench {
+    fn new(template: Vec<u16>) -> Self {
+        Bench { template, ours: Buffers::new(), theirs: Buffers::new() }
+    }
+
+    /// Runs a case on both, and panics unless all that they answer and leave is the same.
+    fn compare(&mut self, case: &Case, tally: &mut Tally) -> Answer {
+        self.ours.set(case, &self.template);
+        self.theirs.set(case, &self.template);
+        let call = self.theirs.call(case.record, case.n);
+        let objections = call.objections();
+        let expected = machine::run(call, |event| tally.event(event));
+        tally.answer(case, &expected, objections);
+        let answer = self.ours.run(case.record, 0, 0, case.n);
+        assert!(answer == expected, "library: {answer:x?}\nreference: {expected:x?}");
+        self.ours.check(case);
+        assert_same_buffers(&self.ours, &self.theirs);
+        answer
+    }
+}
+
+/// Cases that share one template of memory.
+const CASES_PER_TEMPLATE: u64 = 4096;
+
+/// Runs from which on everything in the table is to be met.
+const ENOUGH: u64 = 100_000;
+
+fn compare_random_runs(runs: u64) {
+    let seed = support::seed();
+    let start = Instant::now();
+    let mut tally = Tally::default();
+    let mut bench = Bench::new(Vec::new());
+    for number in 0..runs {
+        if number % CASES_PER_TEMPLATE == 0 {
+            bench.template = cases::template(&mut Rng::of_case(!seed, number));
+        }
+        let mut rng = Rng::of_case(seed, number);
+        let family = rng.pick(&FAMILIES);
+        let case = cases::case(&mut rng, family);
+        let _announce = Announce { seed, number, case: &case };
+        bench.compare(&case, &mut tally);
+    }
+    println!("{runs} runs in {:.1} s", start.elapsed().as_secs_f64());
+    tally.check(runs >= ENOUGH);
+}
+
+#[test]
+fn random_runs_agree_with_the_reference() {
+    compare_random_runs(support::runs(400_000));
+}
+
+#[test]
+#[ignore = "takes several minutes"]
+fn soak() {
+    compare_random_runs(support::runs(20_000_000));
+}
+
+/// Panics unless the accepted case, changed so, gets the refusal from both; 0 is none.
+fn expect(bench: &mut Bench, refusal: u32, change: impl FnOnce(&mut Case)) {
+    let mut case = accepted();
+    change(&mut case);
+    assert_eq!(bench.compare(&case, &mut Tally::default()).refusal, refusal, "{case:x?}");
+}
+
+fn bench() -> Bench {
+    Bench::new(vec![0; WORDS + 1])
+}
+
+#[test]
+fn memory_of_any_other_length_is_refused() {
+    let mut bench = bench();
+    for words in [0, 1, WORDS / 2, WORDS - 1, WORDS + 1] {
+        expect(&mut bench, 11, |case| case.words = words);
+    }
+    expect(&mut bench, 0, |_| ());
+}
+
+#[test]
+fn each_undefined_bit_is_refused_and_each_defined_one_accepted() {
+    let mut bench = bench();
+    for bit in (0..16).map(|number| 1u16 << number) {
+        let code = |defined: u16| if bit & defined != 0 { 0 } else { 12 };
+        expect(&mut bench, code(0x8707), |case| case.record.psr |= bit);
+        expect(&mut bench, code(0xC000), |case| case.record.kbsr |= bit);
+        expect(&mut bench, code(0x00FF), |case| case.record.kbdr |= bit);
+        expect(&mut bench, code(0x8000), |case| case.record.mcr |= bit);
+    }
+}
+
+#[test]
+fn the_clock_ends_at_two_to_the_48() {
+    let mut bench = bench();
+    let mut at = |refusal, clock, n| {
+        expect(&mut bench, refusal, |case| (case.record.clock, case.n) = (clock, n));
+    };
+    at(0, CLOCK_LIMIT, 0);
+    at(13, CLOCK_LIMIT, 1);
+    at(13, CLOCK_LIMIT, u64::MAX);
+    at(0, CLOCK_LIMIT - 1, 1);
+    at(13, CLOCK_LIMIT - 1, 2);
+    at(12, CLOCK_LIMIT + 1, 0);
+    at(12, CLOCK_LIMIT + 1, u64::MAX);
+    at(12, u64::MAX, 0);
+    at(12, u64::MAX, 1);
+}
+
+#[test]
+fn the_longest_run_is_made_and_one_step_more_is_refused() {
+    let mut bench = bench();
+    let mut run = |refusal, n| {
+        expect(&mut bench, refusal, |case| {
+            // ADD R0, R0, #1 and BR to it: a loop that never stops by itself.
+            case.patches = vec![(0x3000, 0x1021), (0x3001, 0x0FFE)];
+            case.n = n;
+        });
+    };
+    run(0, STEP_LIMIT);
+    run(13, STEP_LIMIT + 1);
+    run(13, u64::MAX);
+}
+
+#[test]
+fn keys_must_come_in_order_and_not_before_the_clock() {
+    let mut bench = bench();
+    let mut keys = |refusal, times: &[u64], bytes: &[u8]| {
+        expect(&mut bench, refusal, |case| {
+            case.record.clock = 100;
+            (case.times, case.bytes) = (times.to_vec(), bytes.to_vec());
+        });
+    };
+    keys(0, &[100], b"a");
+    keys(0, &[100, 100, 101, 101, u64::MAX, u64::MAX], b"abcdef");
+    keys(15, &[99], b"a");
+    keys(15, &[100, 102, 101], b"abc");
+    keys(15, &[100, u64::MAX, 0], b"abc");
+    keys(14, &[100], b"");
+    keys(14, &[], b"a");
+    keys(14, &[100, 101], b"a");
+    keys(14, &[99], b"ab");
+}
+
+/// What brings about each refusal by itself, 11 first.
+const SPOILERS: [fn(&mut Case); 5] = [
+    |case| case.words = WORDS - 1,
+    |case| case.record.kbsr |= 1,
+    |case| case.n = STEP_LIMIT + 1,
+    |case| case.bytes.push(0),
+    |case| (case.times, case.bytes) = (vec![5, 4], vec![0, 0]),
+];
+
+#[test]
+fn of_several_refusals_the_lowest_number_is_answered() {
+    let mut bench = bench();
+    for set in 0..1u32 << SPOILERS.len() {
+        let applies = |i: usize| set >> i & 1 == 1;
+        let first = (0..SPOILERS.len()).find(|&i| applies(i));
+        expect(&mut bench, first.map_or(0, |i| 11 + i as u32), |case| {
+            // From the last: the lists are filled before they are made unequal.
+            for (_, spoil) in SPOILERS.iter().enumerate().rev().filter(|(i, _)| applies(*i)) {
+                spoil(case);
+            }
+        });
+    }
+}

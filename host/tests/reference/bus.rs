@@ -1,0 +1,239 @@
+//! The bus: lent words, and the devices that stand before some of them.
+
+/// The addresses of the device registers, in the order in which tallies count them.
+pub const REGISTERS: [u16; 6] = [KBSR, KBDR, DSR, DDR, PSR, MCR];
+pub const KBSR: u16 = 0xFE00;
+pub const KBDR: u16 = 0xFE02;
+pub const DSR: u16 = 0xFE04;
+pub const DDR: u16 = 0xFE06;
+pub const PSR: u16 = 0xFFFC;
+pub const MCR: u16 = 0xFFFE;
+
+/// A byte was to be shown and the output has no free byte.
+#[derive(Clone, Copy, Debug)]
+pub struct NoRoom;
+
+/// What a data or pointer access meets at a device's address.
+trait Device {
+    fn load(&mut self, at: u16) -> u16;
+    fn store(&mut self, at: u16, value: u16) -> Result<(), NoRoom>;
+}
+
+fn bit(word: u16, number: u32) -> bool {
+    word >> number & 1 == 1
+}
+
+/// KBSR and KBDR.
+#[derive(Clone, Copy, Debug)]
+pub struct Keyboard {
+    ready: bool,
+    enable: bool,
+    key: u8,
+}
+
+impl Keyboard {
+    pub fn new(kbsr: u16, kbdr: u16) -> Self {
+        Keyboard { ready: bit(kbsr, 15), enable: bit(kbsr, 14), key: kbdr as u8 }
+    }
+
+    pub fn kbsr(&self) -> u16 {
+        u16::from(self.ready) << 15 | u16::from(self.enable) << 14
+    }
+
+    pub fn kbdr(&self) -> u16 {
+        u16::from(self.key)
+    }
+
+    pub fn strike(&mut self, key: u8) {
+        self.key = key;
+        self.ready = true;
+    }
+
+    pub fn wants_service(&self) -> bool {
+        self.ready && self.enable
+    }
+}
+
+impl Device for Keyboard {
+    fn load(&mut self, at: u16) -> u16 {
+        if at == KBSR {
+            return self.kbsr();
+        }
+        self.ready = false;
+        self.kbdr()
+    }
+
+    fn store(&mut self, at: u16, value: u16) -> Result<(), NoRoom> {
+        if at == KBSR {
+            self.enable = bit(value, 14);
+        }
+        Ok(())
+    }
+}
+
+/// DSR and DDR.
+#[derive(Debug)]
+pub struct Display<'a> {
+    pub output: &'a mut [u8],
+    pub shown: usize,
+}
+
+impl Device for Display<'_> {
+    fn load(&mut self, at: u16) -> u16 {
+        if at == DSR {
+            0x8000
+        } else {
+            0
+        }
+    }
+
+    fn store(&mut self, at: u16, value: u16) -> Result<(), NoRoom> {
+        if at == DDR {
+            *self.output.get_mut(self.shown).ok_or(NoRoom)? = value as u8;
+            self.shown += 1;
+        }
+        Ok(())
+    }
+}
+
+/// PSR. Unpacking a word drops the bits that are not defined.
+#[derive(Clone, Copy, Debug)]
+pub struct Status {
+    pub user: bool,
+    pub priority: u8,
+    pub negative: bool,
+    pub zero: bool,
+    pub positive: bool,
+}
+
+impl Status {
+    pub fn unpack(psr: u16) -> Self {
+        Status {
+            user: bit(psr, 15),
+            priority: (psr >> 8 & 7) as u8,
+            negative: bit(psr, 2),
+            zero: bit(psr, 1),
+            positive: bit(psr, 0),
+        }
+    }
+
+    pub fn pack(&self) -> u16 {
+        u16::from(self.user) << 15
+            | u16::from(self.priority) << 8
+            | u16::from(self.negative) << 2
+            | u16::from(self.zero) << 1
+            | u16::from(self.positive)
+    }
+
+    pub fn set_codes(&mut self, result: u16) {
+        let result = result as i16;
+        self.negative = result < 0;
+        self.zero = result == 0;
+        self.positive = result > 0;
+    }
+}
+
+impl Device for Status {
+    fn load(&mut self, _: u16) -> u16 {
+        self.pack()
+    }
+
+    fn store(&mut self, _: u16, value: u16) -> Result<(), NoRoom> {
+        *self = Status { user: self.user, ..Status::unpack(value) };
+        Ok(())
+    }
+}
+
+/// MCR.
+#[derive(Clone, Copy, Debug)]
+pub struct Control {
+    pub clock_enable: bool,
+}
+
+impl Control {
+    pub fn new(mcr: u16) -> Self {
+        Control { clock_enable: bit(mcr, 15) }
+    }
+
+    pub fn mcr(&self) -> u16 {
+        u16::from(self.clock_enable) << 15
+    }
+}
+
+impl Device for Control {
+    fn load(&mut self, _: u16) -> u16 {
+        self.mcr()
+    }
+
+    fn store(&mut self, _: u16, value: u16) -> Result<(), NoRoom> {
+        *self = Control::new(value);
+        Ok(())
+    }
+}
+
+/// The device registers that one step reached, as places in [`REGISTERS`].
+#[derive(Clone, Copy, Debug, Default)]
+pub struct Reached {
+    pub pointer: Option<usize>,
+    pub load: Option<usize>,
+    pub store: Option<usize>,
+}
+
+/// The devices whose state a step may have to give back.
+#[derive(Clone, Copy, Debug)]
+pub struct Devices {
+    pub keyboard: Keyboard,
+    pub status: Status,
+    pub control: Control,
+}
+
+#[derive(Debug)]
+pub struct Bus<'a> {
+    /// What fetches, pushes, pops and vectors use.
+    pub words: &'a mut [u16],
+    pub display: Display<'a>,
+    pub devices: Devices,
+    pub reached: Reached,
+}
+
+fn place(at: u16) -> Option<usize> {
+    REGISTERS.iter().position(|&register| register == at)
+}
+
+impl Bus<'_> {
+    fn device(&mut self, at: u16) -> Option<&mut dyn Device> {
+        match at {
+            KBSR | KBDR => Some(&mut self.devices.keyboard),
+            DSR | DDR => Some(&mut self.display),
+            PSR => Some(&mut self.devices.status),
+            MCR => Some(&mut self.devices.control),
+            _ => None,
+        }
+    }
+
+    fn get(&mut self, at: u16) -> u16 {
+        match self.device(at) {
+            Some(device) => device.load(at),
+            None => self.words[usize::from(at)],
+        }
+    }
+
+    pub fn load_pointer(&mut self, at: u16) -> u16 {
+        self.reached.pointer = place(at);
+        self.get(at)
+    }
+
+    pub fn load(&mut self, at: u16) -> u16 {
+        self.reached.load = place(at);
+        self.get(at)
+    }
+
+    pub fn store(&mut self, at: u16, value: u16) -> Result<(), NoRoom> {
+        self.reached.store = place(at);
+        match self.device(at) {
+            Some(device) => device.store(at, value)?,
+            None => self.words[usize::from(at)] = value,
+        }
+        Ok(())
+    }
+}

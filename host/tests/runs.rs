@@ -1,0 +1,316 @@
+//! Laws between runs of the library: whole and split runs, single steps, and pairs of User runs.
+
+mod reference;
+mod support;
+
+use lc3::ffi::{Answer, Report};
+use lc3::{Keys, Record, Refusal, Stop};
+use reference::machine::{self, Cause, Entry, Event, CAUSES};
+use support::cases::{self, accepted, Case, Family, FAMILIES};
+use support::{assert_same_buffers, Announce, Buffers, Rng};
+
+/// Calls `law` with random cases and the template that they go over.
+fn for_cases(count: u64, mut law: impl FnMut(&mut Rng, &Case, &[u16])) {
+    let seed = support::seed();
+    let template = cases::template(&mut Rng::of_case(!seed, 0));
+    for number in 0..support::runs(count) {
+        let mut rng = Rng::of_case(seed, number);
+        let family = rng.pick(&FAMILIES);
+        let case = cases::case(&mut rng, family);
+        let _announce = Announce { seed, number, case: &case };
+        law(&mut rng, &case, &template);
+    }
+}
+
+/// The counts of a run and of the one that went on from it, with the answer of the latter.
+fn joined(first: Answer, second: Answer) -> Answer {
+    Answer {
+        steps: first.steps + second.steps,
+        keys: first.keys + second.keys,
+        shown: first.shown + second.shown,
+        ..second
+    }
+}
+
+#[test]
+fn a_run_split_in_two_equals_the_whole() {
+    let (mut whole, mut split) = (Buffers::new(), Buffers::new());
+    for_cases(40_000, |rng, case, template| {
+        whole.set(case, template);
+        let expected = whole.run(case.record, 0, 0, case.n);
+        if expected.refusal != 0 {
+            return;
+        }
+        split.set(case, template);
+        let k = rng.below(case.n.min(200) + 1);
+        let first = split.run(case.record, 0, 0, k);
+        let (keys, shown) = (first.keys as usize, first.shown as usize);
+        // Where all k steps were made this is n - k.
+        let second = split.run(first.record, keys, shown, case.n - first.steps);
+        assert_eq!(joined(first, second), expected);
+        split.check(case);
+        assert_same_buffers(&split, &whole);
+    });
+}
+
+#[test]
+fn single_steps_equal_a_run() {
+    let (mut whole, mut stepped) = (Buffers::new(), Buffers::new());
+    for_cases(20_000, |_, case, template| {
+        whole.set(case, template);
+        let expected = whole.run(case.record, 0, 0, case.n);
+        if expected.refusal != 0 {
+            return;
+        }
+        stepped.set(case, template);
+        let mut record = case.record;
+        let (mut steps, mut keys, mut shown, mut stop) = (0, 0, 0, 0);
+        while steps < case.n && stop == 0 {
+            let report = stepped.step(&mut record, keys as usize, shown as usize);
+            assert_eq!(report.refusal, 0);
+            assert_eq!(report.steps == 1, report.stop == 0, "done is a step made");
+            (steps, stop) = (steps + report.steps, report.stop);
+            (keys, shown) = (keys + report.keys, shown + report.shown);
+        }
+        assert_eq!(Answer { record, steps, keys, shown, refusal: 0, stop }, expected);
+        stepped.check(case);
+        assert_same_buffers(&stepped, &whole);
+    });
+}
+
+#[test]
+fn a_single_step_equals_a_run_of_one_refusals_included() {
+    let (mut run, mut stepped) = (Buffers::new(), Buffers::new());
+    for_cases(40_000, |_, case, template| {
+        run.set(case, template);
+        let Answer { record: expected, steps, keys, shown, refusal, stop } =
+            run.run(case.record, 0, 0, 1);
+        stepped.set(case, template);
+        let mut record = case.record;
+        let report = stepped.step(&mut record, 0, 0);
+        assert_eq!(report, Report { steps, keys, shown, refusal, stop });
+        assert_eq!(record, expected);
+        stepped.check(case);
+        assert_same_buffers(&stepped, &run);
+    });
+}
+
+fn stop_code(stop: Stop) -> u32 {
+    match stop {
+        Stop::Done => 0,
+        Stop::Halted => 1,
+        Stop::OutputFull => 2,
+    }
+}
+
+#[test]
+fn the_wrapper_answers_what_the_library_answers() {
+    let (mut raw, mut safe) = (Buffers::new(), Buffers::new());
+    for_cases(20_000, |_, case, template| {
+        raw.set(case, template);
+        let expected = raw.run(case.record, 0, 0, case.n);
+        safe.set(case, template);
+        let keys = Keys { times: &case.times, bytes: &case.bytes };
+        let (memory, output) = (safe.memory.get_mut(), safe.output.get_mut());
+        match lc3::run(case.record, memory, keys, output, case.n) {
+            Err(refusal) => assert_eq!(refusal.code(), expected.refusal),
+            Ok(run) => {
+                assert_eq!((run.record, run.steps), (expected.record, expected.steps));
+                assert_eq!((run.keys as u64, run.shown as u64), (expected.keys, expected.shown));
+                assert_eq!((stop_code(run.stop), 0), (expected.stop, expected.refusal));
+            }
+        }
+        assert_same_buffers(&safe, &raw);
+    });
+}
+
+#[test]
+fn the_wrapper_steps_as_the_library_does() {
+    let (mut raw, mut safe) = (Buffers::new(), Buffers::new());
+    for_cases(20_000, |_, case, template| {
+        raw.set(case, template);
+        let mut expected_record = case.record;
+        let expected = raw.step(&mut expected_record, 0, 0);
+        safe.set(case, template);
+        let mut record = case.record;
+        let keys = Keys { times: &case.times, bytes: &case.bytes };
+        let (memory, output) = (safe.memory.get_mut(), safe.output.get_mut());
+        match lc3::step(&mut record, memory, keys, output) {
+            Err(refusal) => assert_eq!(refusal.code(), expected.refusal),
+            Ok(report) => {
+                assert_eq!((report.steps, report.keys as u64), (expected.steps, expected.keys));
+                assert_eq!(report.shown as u64, expected.shown);
+                assert_eq!((stop_code(report.stop), 0), (expected.stop, expected.refusal));
+            }
+        }
+        assert_eq!(record, expected_record);
+        assert_same_buffers(&safe, &raw);
+    });
+}
+
+#[test]
+fn the_refusals_bear_their_numbers() {
+    use Refusal::{KeyLists, KeyTimes, Memory, Record, Steps};
+    assert_eq!(
+        [Memory, Record, Steps, KeyLists, KeyTimes].map(Refusal::code),
+        [11, 12, 13, 14, 15]
+    );
+}
+
+/// What a User program may reach.
+const USER_SPACE: std::ops::Range<usize> = 0x3000..0xFE00;
+
+fn in_user_space(&(at, _): &(u16, u16)) -> bool {
+    USER_SPACE.contains(&usize::from(at))
+}
+
+/// One run of a pair: a case over a template of its own.
+struct Side {
+    case: Case,
+    template: Vec<u16>,
+    buffers: Buffers,
+}
+
+/// How far a run goes until its first trap, exception or interrupt, by the reference simulator.
+struct Meeting {
+    /// The steps before it, or all steps made if there is none.
+    before: u64,
+    first: Option<Event>,
+}
+
+impl Meeting {
+    fn cause(&self) -> Cause {
+        self.first.map_or(Cause::Instruction, |event| event.cause)
+    }
+
+    fn entry(&self) -> Option<Entry> {
+        self.first.and_then(|event| event.entry)
+    }
+}
+
+impl Side {
+    /// The library's answer to `n` steps from the start.
+    fn run(&mut self, n: u64) -> Answer {
+        self.buffers.set(&self.case, &self.template);
+        let answer = self.buffers.run(self.case.record, 0, 0, n);
+        self.buffers.check(&self.case);
+        answer
+    }
+
+    fn meeting(&mut self) -> Meeting {
+        self.buffers.set(&self.case, &self.template);
+        let mut meeting = Meeting { before: 0, first: None };
+        machine::run(self.buffers.call(self.case.record, self.case.n), |event| {
+            if meeting.first.is_none() && event.cause == Cause::Instruction {
+                meeting.before += 1;
+            } else {
+                meeting.first.get_or_insert(*event);
+            }
+        });
+        meeting
+    }
+
+    /// The words that a User program may reach, as the last run left them.
+    fn user_words(&self) -> &[u16] {
+        &self.buffers.memory.get()[USER_SPACE]
+    }
+
+    /// Panics unless the last run showed nothing.
+    fn assert_nothing_shown(&self, answer: &Answer) {
+        assert_eq!(answer.shown, 0);
+        assert_eq!(self.buffers.output.get(), self.case.output);
+    }
+
+    /// PSR and PC as the library pushes them in the entry after so many steps.
+    fn pushed(&mut self, before: u64, vector: u16) -> (u16, u16) {
+        let record = self.run(before + 1).record;
+        let word = |at: u16| self.buffers.memory.get()[usize::from(at)];
+        let stack = record.regs[6];
+        assert_eq!(stack, self.case.record.saved_ssp.wrapping_sub(2));
+        assert_eq!(record.pc, word(vector));
+        (word(stack.wrapping_add(1)), word(stack))
+    }
+}
+
+/// The part of a record that a User program may see.
+fn visible(record: &Record) -> ([u16; 8], u16, u16) {
+    (record.regs, record.pc, record.psr)
+}
+
+/// An accepted case in User mode, most often deaf to the keyboard.
+fn user_case(rng: &mut Rng) -> Case {
+    const USUAL: [Family; 4] =
+        [Family::Anything, Family::Borders, Family::Rewriting, Family::Computing];
+    let family = rng.pick(&USUAL);
+    let mut case = cases::case_in_mode(rng, family, true);
+    if !rng.once_in(4) {
+        case.record.psr |= 0x0400;
+    }
+    case
+}
+
+/// A case with all that a User program may see in `one`, and all that is privileged different.
+fn privileged_twin(rng: &mut Rng, one: &Case) -> Case {
+    let mut other = cases::case(rng, Family::Keyboard);
+    let Record { regs, pc, psr, mcr, .. } = one.record;
+    other.record = Record { regs, pc, psr, mcr, ..other.record };
+    other.patches.retain(|patch| !in_user_space(patch));
+    other.patches.extend(one.patches.iter().copied().filter(in_user_space));
+    // The twin's clock left room for its own number of steps only.
+    other.record.clock = other.record.clock.saturating_sub(one.n);
+    other.n = one.n;
+    other
+}
+
+/// Panics unless the library's two runs agree after `k` steps in all that a User program may see.
+fn check_after(one: &mut Side, other: &mut Side, k: u64) {
+    let (first, second) = (one.run(k), other.run(k));
+    assert_eq!((first.steps, second.steps), (k, k));
+    assert_eq!(visible(&first.record), visible(&second.record));
+    assert!(one.user_words() == other.user_words(), "the words of User memory differ");
+    one.assert_nothing_shown(&first);
+    other.assert_nothing_shown(&second);
+}
+
+/// Panics unless the library's two runs agree up to and with the first trap or exception, or to
+/// their end. The reference tells where that is in each.
+fn check_pair(one: &mut Side, other: &mut Side, meeting: &Meeting, other_meeting: &Meeting) {
+    let before = meeting.before;
+    assert_eq!((before, meeting.cause()), (other_meeting.before, other_meeting.cause()));
+    check_after(one, other, before / 2);
+    check_after(one, other, before);
+    let (entry, other_entry) = (meeting.entry(), other_meeting.entry());
+    assert_eq!(entry.map(|entry| entry.vector), other_entry.map(|entry| entry.vector));
+    if let Some(Entry { vector, psr, pc, .. }) = entry {
+        assert_eq!(one.pushed(before, vector), (psr, pc));
+        assert_eq!(other.pushed(before, vector), (psr, pc));
+    } else {
+        let (first, second) = (one.run(one.case.n), other.run(other.case.n));
+        assert_eq!((first.steps, first.stop), (second.steps, second.stop));
+    }
+}
+
+#[test]
+fn user_runs_that_differ_in_what_is_privileged_agree_up_to_a_trap_or_exception() {
+    let seed = support::seed();
+    let template = |number| cases::template(&mut Rng::of_case(!seed, number));
+    let side = |template| Side { case: accepted(), template, buffers: Buffers::new() };
+    let (mut one, mut other) = (side(template(0)), side(template(1)));
+    other.template[USER_SPACE].copy_from_slice(&one.template[USER_SPACE]);
+    let (mut met, mut steps) = ([0u64; CAUSES], 0);
+    for number in 0..support::runs(30_000) {
+        let mut rng = Rng::of_case(seed, number);
+        let case = user_case(&mut rng);
+        other.case = privileged_twin(&mut rng, &case);
+        one.case = case.clone();
+        let _announce = Announce { seed, number, case: &case };
+        let (meeting, other_meeting) = (one.meeting(), other.meeting());
+        if ![meeting.cause(), other_meeting.cause()].contains(&Cause::Keyboard) {
+            check_pair(&mut one, &mut other, &meeting, &other_meeting);
+            met[meeting.cause() as usize] += 1;
+            steps += meeting.before;
+        }
+    }
+    println!("{steps} steps, pairs without cause, by trap and by exception: {:?}", &met[..5]);
+    assert!(met[..5].iter().all(|&pairs| pairs > 0), "a cause was never met");
+}

@@ -1,0 +1,271 @@
+/*
+ * lc3.h: the LC-3 machine with privilege, interrupts and a console, for hosts in C and C++.
+ * Interface version 1, for x86-64 with the System V calling convention.
+ *
+ *   lc3_fresh   makes the record of a machine that has not run yet
+ *   lc3_run     runs up to n steps over lent memory
+ *   lc3_step    runs one step and alters the host's own record
+ *   lc3_read    reads a word as an instruction
+ *   lc3_write   writes an instruction as a word
+ *
+ * What a host owes and may rely on:
+ *
+ * - Buffers are lent for the length of the call. The library keeps no pointer, allocates nothing
+ *   and has no state of its own, so calls with separate buffers may be made from several threads.
+ * - Each buffer is a pointer and a number of elements (not bytes). The pointer must be valid for
+ *   that many elements and aligned for them. An empty buffer takes any aligned pointer but NULL.
+ * - Memory, times, bytes, output and the record lent to lc3_step may not overlap.
+ * - Every call is answered: a call that cannot be obeyed is refused with a number that says why,
+ *   and a refused call leaves the record and every buffer as it was.
+ *
+ * Numbers with a leading x are hexadecimal. PSR, Saved_SSP, KBSR and the other terms are those of
+ * Patt and Patel, Introduction to Computing Systems, third edition, Appendix A.
+ */
+#ifndef LC3_H
+#define LC3_H
+
+#include <stdbool.h>
+#include <stddef.h>
+#include <stdint.h>
+
+#ifdef __cplusplus
+extern "C" {
+#endif
+
+/* Sizes and limits. */
+#define LC3_MEMORY_WORDS 65536            /* words of memory: no other number is accepted */
+#define LC3_MAX_STEPS 1048576             /* steps of one call; a longer run is several calls */
+#define LC3_MAX_CLOCK (UINT64_C(1) << 48) /* the clock never passes this */
+
+/* Bits of the PSR. No other bit may be set in a record; any pattern of N, Z, P is allowed. */
+#define LC3_PSR_USER 0x8000     /* set in User mode, clear in Supervisor mode */
+#define LC3_PSR_PRIORITY 0x0700 /* priority level 0 to 7; the keyboard interrupts below 4 */
+#define LC3_PSR_N 0x0004
+#define LC3_PSR_Z 0x0002
+#define LC3_PSR_P 0x0001
+
+/* Bits of the device registers. No other bit may be set in a record. */
+#define LC3_KBSR_READY 0x8000     /* a key has arrived and KBDR has not been loaded since */
+#define LC3_KBSR_INTERRUPT 0x4000 /* interrupt enable */
+#define LC3_KBDR_BYTE 0x00FF      /* the last key */
+#define LC3_MCR_CLOCK 0x8000      /* clock enable; a machine with this bit clear is halted */
+
+/* Addresses of the device registers: privileged, as are all of x0000 to x2FFF, xFE00 to xFFFF. */
+#define LC3_ADDRESS_KBSR 0xFE00
+#define LC3_ADDRESS_KBDR 0xFE02
+#define LC3_ADDRESS_DSR 0xFE04
+#define LC3_ADDRESS_DDR 0xFE06
+#define LC3_ADDRESS_PSR 0xFFFC
+#define LC3_ADDRESS_MCR 0xFFFE
+
+/* Why a call was refused: of the reasons that apply, the lowest number. */
+enum {
+    LC3_ACCEPTED = 0,
+    /* lc3_write */
+    LC3_REFUSED_REGISTER = 1, /* a register is above 7 */
+    LC3_REFUSED_FIELD = 2,    /* a value is out of its field's range, or the kind is unknown */
+    LC3_REFUSED_MASK = 3,     /* the mask of a BR is above 7 */
+    /* lc3_run and lc3_step */
+    LC3_REFUSED_MEMORY = 11, /* memory is not LC3_MEMORY_WORDS words */
+    LC3_REFUSED_RECORD = 12, /* an undefined bit in PSR, KBSR, KBDR or MCR, or a clock too high */
+    LC3_REFUSED_STEPS = 13,  /* n is above LC3_MAX_STEPS, or clock + n above LC3_MAX_CLOCK */
+    LC3_REFUSED_LISTS = 14,  /* times and bytes differ in length */
+    LC3_REFUSED_TIMES = 15   /* a time is below the clock or below the time before it */
+};
+
+/* Why a run stopped. Tested before each step, in this order; nothing of the next step, not even
+ * the arrival of its keys, has happened. */
+enum {
+    LC3_DONE = 0,       /* n steps were made */
+    LC3_HALTED = 1,     /* the MCR's clock enable is clear */
+    LC3_OUTPUT_FULL = 2 /* the next step stores to the DDR and the output has no free byte */
+};
+
+/*
+ * The machine, apart from its memory. A host may read and alter every field between calls. Two
+ * bytes before the clock are padding without meaning: compare records field by field.
+ */
+typedef struct {
+    uint16_t regs[8];   /* R0 to R7 */
+    uint16_t pc;        /* address of the next instruction */
+    uint16_t psr;       /* mode, priority and condition codes */
+    uint16_t saved_ssp; /* supervisor stack pointer, kept while in User mode */
+    uint16_t saved_usp; /* user stack pointer, kept while in Supervisor mode */
+    uint16_t kbsr;      /* keyboard status */
+    uint16_t kbdr;      /* keyboard data */
+    uint16_t mcr;       /* machine control */
+    uint64_t clock;     /* steps made since the machine was fresh */
+} lc3_record;
+
+/* What lc3_run answers. A refused call answers the record it was handed and zeros. */
+typedef struct {
+    lc3_record record; /* the machine after the run */
+    uint64_t steps;    /* steps made */
+    uint64_t keys;     /* keys that arrived: the first so many of the lists */
+    uint64_t shown;    /* bytes shown: the first so many of the output */
+    uint32_t refusal;  /* LC3_ACCEPTED, or LC3_REFUSED_MEMORY to LC3_REFUSED_TIMES */
+    uint32_t stop;     /* LC3_DONE, LC3_HALTED or LC3_OUTPUT_FULL; 0 where refused */
+} lc3_answer;
+
+/* What lc3_step answers beside the record that it alters: the same fields with n = 1. */
+typedef struct {
+    uint64_t steps, keys, shown; /* steps is 1, or 0 where stopped or refused */
+    uint32_t refusal, stop;
+} lc3_report;
+
+/*
+ * An instruction: its kind, then registers a, b, c in the order in which the book's assembler
+ * writes them, then the number it carries. An empty place is answered as 0 by lc3_read and
+ * ignored by lc3_write.
+ *
+ *   kind                assembler            a      b      c      value
+ *   LC3_BR              BRnzp LABEL          mask                 PCoffset9   -256 to 255
+ *   LC3_ADD_REGISTER    ADD DR, SR1, SR2     DR     SR1    SR2
+ *   LC3_ADD_IMMEDIATE   ADD DR, SR1, imm5    DR     SR1           imm5        -16 to 15
+ *   LC3_LD              LD DR, LABEL         DR                   PCoffset9   -256 to 255
+ *   LC3_ST              ST SR, LABEL         SR                   PCoffset9   -256 to 255
+ *   LC3_JSR             JSR LABEL                                 PCoffset11  -1024 to 1023
+ *   LC3_JSRR            JSRR BaseR           BaseR
+ *   LC3_AND_REGISTER    AND DR, SR1, SR2     DR     SR1    SR2
+ *   LC3_AND_IMMEDIATE   AND DR, SR1, imm5    DR     SR1           imm5        -16 to 15
+ *   LC3_LDR             LDR DR, BaseR, off6  DR     BaseR         offset6     -32 to 31
+ *   LC3_STR             STR SR, BaseR, off6  SR     BaseR         offset6     -32 to 31
+ *   LC3_RTI             RTI
+ *   LC3_NOT             NOT DR, SR           DR     SR
+ *   LC3_LDI             LDI DR, LABEL        DR                   PCoffset9   -256 to 255
+ *   LC3_STI             STI SR, LABEL        SR                   PCoffset9   -256 to 255
+ *   LC3_JMP             JMP BaseR            BaseR                (RET is JMP R7)
+ *   LC3_RESERVED        none, opcode 1101                         low 12 bits 0 to 4095
+ *   LC3_LEA             LEA DR, LABEL        DR                   PCoffset9   -256 to 255
+ *   LC3_TRAP            TRAP trapvect8                            trapvect8   0 to 255
+ *
+ * The mask of a BR is the sum of 4 for n, 2 for z and 1 for p.
+ */
+typedef struct {
+    uint8_t kind;
+    uint8_t a, b, c;
+    int32_t value;
+} lc3_instruction;
+
+enum {
+    LC3_BR,
+    LC3_ADD_REGISTER,
+    LC3_ADD_IMMEDIATE,
+    LC3_LD,
+    LC3_ST,
+    LC3_JSR,
+    LC3_JSRR,
+    LC3_AND_REGISTER,
+    LC3_AND_IMMEDIATE,
+    LC3_LDR,
+    LC3_STR,
+    LC3_RTI,
+    LC3_NOT,
+    LC3_LDI,
+    LC3_STI,
+    LC3_JMP,
+    LC3_RESERVED,
+    LC3_LEA,
+    LC3_TRAP
+};
+
+/* What lc3_write answers. */
+typedef struct {
+    uint16_t word;    /* 0 where refused */
+    uint16_t refusal; /* LC3_ACCEPTED, or LC3_REFUSED_REGISTER to LC3_REFUSED_MASK */
+} lc3_written;
+
+/*
+ * A machine at pc, in User mode if user holds and in Supervisor mode if not, with condition code
+ * Z, priority 0, clock 0 and the clock enabled. The supervisor stack begins at x3000 and the user
+ * stack at user_stack: R6 is the current mode's pointer, the other one is saved. All else is 0.
+ */
+lc3_record lc3_fresh(uint16_t pc, bool user, uint16_t user_stack);
+
+/*
+ * Runs record over memory until a stop, for n steps at most.
+ *
+ * memory   65,536 words, altered in place. The words at the device addresses are never reached by
+ *          loads and stores, but are by fetches, pushes, pops and vectors.
+ * times    when each key is pressed, on the record's clock: none below it, none below the one
+ *          before. Keys of equal time arrive in list order, and the last of them stays in KBDR.
+ * bytes    the keys, as many as times.
+ * output   takes the bytes shown, in order from the first; what lies after them is left as lent.
+ *
+ * To go on with a run, hand in the answered record, the same memory, the lists without their
+ * first answer.keys keys, and an output with a free byte: any such division of a run comes to
+ * what the undivided run does.
+ */
+lc3_answer lc3_run(lc3_record record, uint16_t *memory, size_t words, const uint64_t *times,
+                   size_t times_len, const uint8_t *bytes, size_t bytes_len, uint8_t *output,
+                   size_t output_len, uint64_t n);
+
+/*
+ * Runs one step on the host's own record: as lc3_run with n = 1, its answered record stored in
+ * *record. A refused or stopped step leaves *record as it was.
+ */
+lc3_report lc3_step(lc3_record *record, uint16_t *memory, size_t words, const uint64_t *times,
+                    size_t times_len, const uint8_t *bytes, size_t bytes_len, uint8_t *output,
+                    size_t output_len);
+
+/* The instruction that a word is. Every word is one; bits that its format fixes are ignored. */
+lc3_instruction lc3_read(uint16_t word);
+
+/*
+ * The word that an instruction is, with the bits that its format fixes as the format has them. A
+ * kind above LC3_TRAP is refused with LC3_REFUSED_FIELD, whatever its operands; so is a value
+ * that does not fit into 16 bits where the kind takes one, as any other value out of range.
+ */
+lc3_written lc3_write(lc3_instruction instruction);
+
+#ifdef __cplusplus
+}
+#define LC3_LAYOUT(condition) static_assert(condition, #condition)
+#else
+#define LC3_LAYOUT(condition) _Static_assert(condition, #condition)
+#endif
+
+/* The library was built for this layout; a compiler that lays out otherwise is told so here. */
+LC3_LAYOUT(sizeof(bool) == 1);
+LC3_LAYOUT(sizeof(size_t) == 8);
+
+LC3_LAYOUT(sizeof(lc3_record) == 40);
+LC3_LAYOUT(offsetof(lc3_record, regs) == 0);
+LC3_LAYOUT(offsetof(lc3_record, pc) == 16);
+LC3_LAYOUT(offsetof(lc3_record, psr) == 18);
+LC3_LAYOUT(offsetof(lc3_record, saved_ssp) == 20);
+LC3_LAYOUT(offsetof(lc3_record, saved_usp) == 22);
+LC3_LAYOUT(offsetof(lc3_record, kbsr) == 24);
+LC3_LAYOUT(offsetof(lc3_record, kbdr) == 26);
+LC3_LAYOUT(offsetof(lc3_record, mcr) == 28);
+LC3_LAYOUT(offsetof(lc3_record, clock) == 32);
+
+LC3_LAYOUT(sizeof(lc3_answer) == 72);
+LC3_LAYOUT(offsetof(lc3_answer, record) == 0);
+LC3_LAYOUT(offsetof(lc3_answer, steps) == 40);
+LC3_LAYOUT(offsetof(lc3_answer, keys) == 48);
+LC3_LAYOUT(offsetof(lc3_answer, shown) == 56);
+LC3_LAYOUT(offsetof(lc3_answer, refusal) == 64);
+LC3_LAYOUT(offsetof(lc3_answer, stop) == 68);
+
+LC3_LAYOUT(sizeof(lc3_report) == 32);
+LC3_LAYOUT(offsetof(lc3_report, steps) == 0);
+LC3_LAYOUT(offsetof(lc3_report, keys) == 8);
+LC3_LAYOUT(offsetof(lc3_report, shown) == 16);
+LC3_LAYOUT(offsetof(lc3_report, refusal) == 24);
+LC3_LAYOUT(offsetof(lc3_report, stop) == 28);
+
+LC3_LAYOUT(sizeof(lc3_instruction) == 8);
+LC3_LAYOUT(offsetof(lc3_instruction, kind) == 0);
+LC3_LAYOUT(offsetof(lc3_instruction, a) == 1);
+LC3_LAYOUT(offsetof(lc3_instruction, b) == 2);
+LC3_LAYOUT(offsetof(lc3_instruction, c) == 3);
+LC3_LAYOUT(offsetof(lc3_instruction, value) == 4);
+
+LC3_LAYOUT(sizeof(lc3_written) == 4);
+LC3_LAYOUT(offsetof(lc3_written, word) == 0);
+LC3_LAYOUT(offsetof(lc3_written, refusal) == 2);
+
+#undef LC3_LAYOUT
+
+#endif
