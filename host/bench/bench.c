@@ -1,22 +1,26 @@
 /*
- * Times the library against the plain C interpreter of baseline.c.
+ * Times the library against the C interpreters of plain.c and tuned.c.
  *
- *   bench check CASES       compares both on random cases; exits 1 at the first difference
+ *   bench check CASES       compares all three on random cases; exits 1 at the first difference
  *   bench time REPEATS MS   prints one measurement a line: name, nanoseconds
  *
- * Every measurement is the best of REPEATS stretches of about MS milliseconds. The two sides take
- * turns in one process, so that whatever slows the computer down meets both.
+ * Every measurement is the best of REPEATS stretches of about MS milliseconds. The three take
+ * turns in one process, so that whatever slows the computer down meets all.
  */
 #define _POSIX_C_SOURCE 199309L /* clock_gettime */
-#include "baseline.h"
+#include "interpreters.h"
 #include "programs.h"
 
 #include <stdio.h>
 #include <stdlib.h>
 #include <time.h>
 
-typedef lc3_answer run_function(lc3_record, uint16_t *, size_t, const uint64_t *, size_t,
-                                const uint8_t *, size_t, uint8_t *, size_t, uint64_t);
+static const struct {
+    const char *name;
+    run_function *run;
+} engines[] = {{"library", lc3_run}, {"plain", plain_run}, {"tuned", tuned_run}};
+
+enum { ENGINES = sizeof engines / sizeof *engines };
 
 enum { KEYS = 4, OUTPUT = 4 };
 
@@ -109,20 +113,30 @@ static bool same_answer(const lc3_answer *a, const lc3_answer *b) {
            a->shown == b->shown && a->refusal == b->refusal && a->stop == b->stop;
 }
 
-/* Compares whole answers, memories and outputs, and says how the cases ended. */
+/* Compares whole answers, memories and outputs of the library and one interpreter. */
+static bool agree(unsigned number, const random_case *c, const lc3_answer *a,
+                  const uint8_t *our_output, unsigned engine) {
+    uint8_t their_output[OUTPUT];
+    lc3_answer b = obey_case(engines[engine].run, c, theirs, their_output);
+    if (same_answer(a, &b) && !memcmp(ours, theirs, sizeof ours) &&
+        !memcmp(our_output, their_output, OUTPUT)) {
+        return true;
+    }
+    printf("case %u differs from %s: refusal %u and %u, stop %u and %u, steps %lu and %lu\n",
+           number, engines[engine].name, a->refusal, b.refusal, a->stop, b.stop, a->steps, b.steps);
+    return false;
+}
+
+/* Compares all random cases, and says how they ended. */
 static int check(unsigned cases) {
     unsigned long stops[3] = {0}, refused = 0, steps = 0;
     for (unsigned number = 0; number < cases; number++) {
         fill_memory(number % 3 == 0);
         random_case c = make_case(number);
-        uint8_t our_output[OUTPUT], their_output[OUTPUT];
-        lc3_answer a = obey_case(lc3_run, &c, ours, our_output);
-        lc3_answer b = obey_case(baseline_run, &c, theirs, their_output);
-        if (!same_answer(&a, &b) || memcmp(ours, theirs, sizeof ours) ||
-            memcmp(our_output, their_output, OUTPUT)) {
-            printf("case %u differs: refusal %u and %u, stop %u and %u, steps %lu and %lu\n",
-                   number, a.refusal, b.refusal, a.stop, b.stop, a.steps, b.steps);
-            return 1;
+        uint8_t output[OUTPUT];
+        lc3_answer a = obey_case(lc3_run, &c, ours, output);
+        for (unsigned engine = 1; engine < ENGINES; engine++) {
+            if (!agree(number, &c, &a, output, engine)) return 1;
         }
         if (a.refusal) {
             refused++;
@@ -164,15 +178,16 @@ static double time_steps(run_function *run, const program *p, double ns) {
 
 static void time_programs(unsigned repeats, double ns) {
     for (int p = 0; p < PROGRAMS; p++) {
-        double library = 1e9, baseline = 1e9;
+        double best[ENGINES] = {1e9, 1e9, 1e9};
         for (unsigned i = 0; i < repeats; i++) {
-            double a = time_steps(lc3_run, &programs[p], ns);
-            double b = time_steps(baseline_run, &programs[p], ns);
-            if (a < library) library = a;
-            if (b < baseline) baseline = b;
+            for (unsigned e = 0; e < ENGINES; e++) {
+                double time = time_steps(engines[e].run, &programs[p], ns);
+                if (time < best[e]) best[e] = time;
+            }
         }
-        printf("%s.library %.4f\n%s.baseline %.4f\n", programs[p].name, library, programs[p].name,
-               baseline);
+        for (unsigned e = 0; e < ENGINES; e++) {
+            printf("%s.%s %.4f\n", programs[p].name, engines[e].name, best[e]);
+        }
     }
 }
 

@@ -1,5 +1,5 @@
 /* count ENGINE PROGRAM STEPS: that many steps of a program, for an exact count of instructions. */
-#include "baseline.h"
+#include "interpreters.h"
 #include "programs.h"
 
 #include <stdio.h>
@@ -9,18 +9,20 @@ static uint16_t memory[LC3_MEMORY_WORDS];
 
 int main(int argc, char **argv) {
     if (argc != 4) {
-        fprintf(stderr, "usage: count library|baseline PROGRAM STEPS\n");
+        fprintf(stderr, "usage: count library|plain|tuned PROGRAM STEPS\n");
         return 2;
     }
-    bool library = !strcmp(argv[1], "library");
+    run_function *run = !strcmp(argv[1], "library") ? lc3_run
+                        : !strcmp(argv[1], "plain") ? plain_run
+                                                    : tuned_run;
     uint64_t steps = strtoull(argv[3], NULL, 10), time = 0;
     uint8_t byte = 0, output[16];
     lc3_record record = lc3_fresh(0x3000, true, 0xFDFF);
     for (int p = 0; p < PROGRAMS; p++) {
         if (strcmp(argv[2], programs[p].name)) continue;
         load_program(memory, &programs[p]);
-        lc3_answer a = (library ? lc3_run : baseline_run)(
-            record, memory, LC3_MEMORY_WORDS, &time, 0, &byte, 0, output, sizeof output, steps);
+        lc3_answer a =
+            run(record, memory, LC3_MEMORY_WORDS, &time, 0, &byte, 0, output, sizeof output, steps);
         return a.steps != steps;
     }
     fprintf(stderr, "no program is named %s\n", argv[2]);

@@ -7,11 +7,11 @@
 #
 #   LC3_LIB_DIR   where liblc3.a is      build
 #   CC            C compiler             gcc
-#   COUNT_LIMIT   instructions per step  90
+#   COUNT_LIMIT   instructions per step  80
 set -eu
 cd "$(dirname "$0")/../.."
 
-limit=${COUNT_LIMIT:-90}
+limit=${COUNT_LIMIT:-80}
 steps=20000
 lib=${LC3_LIB_DIR:-build}/liblc3.a
 cc=${CC:-gcc}
@@ -21,7 +21,8 @@ trap 'rm -rf "$work"' EXIT
 [ -f "$lib" ] || { echo "host/bench/count.sh: no $lib" >&2; exit 2; }
 command -v valgrind >/dev/null || apt-get install -y valgrind
 
-$cc -std=c11 -O3 -Iinclude host/bench/count.c host/bench/baseline.c "$lib" -o "$work/count"
+$cc -std=c11 -O3 -Iinclude host/bench/count.c host/bench/plain.c host/bench/tuned.c \
+    "$lib" -o "$work/count"
 
 # instructions ENGINE PROGRAM STEPS: all instructions of the process.
 instructions() {
@@ -43,13 +44,14 @@ status=0
 echo "instructions per step, limit $limit"
 for program in count copy sieve calls; do
     library=$(per_step library $program)
-    baseline=$(per_step baseline $program)
+    plain=$(per_step plain $program)
+    tuned=$(per_step tuned $program)
     verdict=
     if [ "$library" -gt $((limit * 100)) ]; then
         verdict="over the limit"
         status=1
     fi
-    printf '%-8s library %8s   baseline %8s   %s\n' \
-        $program "$(decimal "$library")" "$(decimal "$baseline")" "$verdict"
+    printf '%-8s library %8s   plain C %8s   tuned C %8s   %s\n' \
+        $program "$(decimal "$library")" "$(decimal "$plain")" "$(decimal "$tuned")" "$verdict"
 done
 exit $status

@@ -1,13 +1,13 @@
 #!/bin/sh
-# Times the library against the plain C interpreter and prints a table.
+# Times the library against the two C interpreters and prints a table.
 #
 # An object that the linker moves by 16 to 48 bytes can run a quarter slower or faster, so one
 # binary says little. The benchmark is linked in several layouts, with padding before and between
-# the two objects that are compared; each figure is the median over the layouts of the best time
-# in each. Exits 1 where the library takes more than BENCH_LIMIT of the baseline's time.
+# the objects that are compared; each figure is the median over the layouts of the best time
+# in each. Exits 1 where the library takes more than BENCH_LIMIT of the plain interpreter's time.
 #
 #   LC3_LIB_DIR     where liblc3.a is                           build
-#   CC              C compiler for the baseline                 gcc
+#   CC              C compiler for the interpreters               gcc
 #   BENCH_CASES     random cases compared before the timing     4000
 #   BENCH_LAYOUTS   layouts                                     8
 #   BENCH_REPEATS   repeats in each layout                      80
@@ -27,7 +27,8 @@ trap 'rm -rf "$work"' EXIT
 [ -f "$lib" ] || { echo "host/bench/run.sh: no $lib" >&2; exit 2; }
 
 $cc -std=c11 -O3 -Iinclude -c host/bench/bench.c -o "$work/bench.o"
-$cc -std=c11 -O3 -Iinclude -c host/bench/baseline.c -o "$work/baseline.o"
+$cc -std=c11 -O3 -Iinclude -c host/bench/plain.c -o "$work/plain.o"
+$cc -std=c11 -O3 -Iinclude -c host/bench/tuned.c -o "$work/tuned.o"
 
 # padding FILE BYTES: an object with that much text.
 padding() {
@@ -40,7 +41,7 @@ while [ "$layout" -le "$layouts" ]; do
     # Multiples of 16 bytes; the second goes through them in another order than the first.
     padding "$work/before.o" $((layout * 16))
     padding "$work/between.o" $(((layout * 3 % 8 + 1) * 16))
-    $cc "$work/bench.o" "$work/before.o" "$work/baseline.o" "$work/between.o" "$lib" \
+    $cc "$work/bench.o" "$work/before.o" "$work/plain.o" "$work/between.o" "$work/tuned.o" "$lib" \
         -o "$work/bench-$layout"
     layout=$((layout + 1))
 done
@@ -66,13 +67,15 @@ awk -v limit="${BENCH_LIMIT:-1.00}" -v target="${BENCH_TARGET:-0.85}" '
         printf "%-28s %8.1f ns %14.0f calls a second\n", text, ns[name], 1e9 / ns[name]
     }
     END {
-        printf "%-10s %16s %17s %8s\n", "program", "library ns/step", "baseline ns/step", "ratio"
+        printf "%-8s %16s %15s %7s %15s %7s\n", "program", "library ns/step", "plain C ns/step",
+            "ratio", "tuned C ns/step", "ratio"
         programs = split("count copy sieve calls", program, " ")
         for (i = 1; i <= programs; i++) {
             a = ns[program[i] ".library"]
-            b = ns[program[i] ".baseline"]
+            b = ns[program[i] ".plain"]
+            c = ns[program[i] ".tuned"]
             if (a / b > worst) worst = a / b
-            printf "%-10s %16.2f %17.2f %8.2f\n", program[i], a, b, a / b
+            printf "%-8s %16.2f %15.2f %7.2f %15.2f %7.2f\n", program[i], a, b, a / b, c, a / c
         }
         print ""
         call("lc3_run", "lc3_run with n = 1")

@@ -1,0 +1,55 @@
+-- The comparison reads within the memory, and ends: the index rises to the length.
+use Prim.Native.Nat.{_≤_, _-_}
+use borrow.Author.Needs.{needs}
+use lib.ListN.{length}
+use Rattle.boundaries.proofs.comparing.same_memory.Statement.{statement}
+use Rattle.boundaries.proofs.comparing.same_memory.Tie as tie
+
+abbrev Inv-loop : tie.InvT-loop
+Inv-loop memory i₀ i = i ≤ length memory
+
+abbrev μ-loop : tie.MeasureT-loop
+μ-loop memory i₀ i = length memory - i
+
+loop-holds : tie.Need-loop-holds Inv-loop μ-loop
+loop-holds c = search needs
+
+mul-if1 : tie.Need-mul-if1 Inv-loop μ-loop
+mul-if1 c = search needs
+
+shared-slice-read-if1 : tie.Need-shared-slice-read-if1 Inv-loop μ-loop
+shared-slice-read-if1 c = search needs
+
+lent-word-requires : tie.Need-lent-word-requires Inv-loop μ-loop
+lent-word-requires c κs = search needs
+
+returns : tie.Need-returns Inv-loop μ-loop
+returns c = search needs
+
+add-i : tie.Need-add-i Inv-loop μ-loop
+add-i c = search needs
+
+loop-less : tie.Need-loop-less Inv-loop μ-loop
+loop-less c = search needs
+
+loop-again : tie.Need-loop-again Inv-loop μ-loop
+loop-again c = search needs
+
+returns-2 : tie.Need-returns-2 Inv-loop μ-loop
+returns-2 c = search needs
+
+pub same-memory-spec : {M : Type 1} → statement M
+same-memory-spec =
+    tie.close
+    (tie.spec
+    Inv-loop
+    μ-loop
+    loop-holds
+    mul-if1
+    shared-slice-read-if1
+    lent-word-requires
+    returns
+    add-i
+    loop-less
+    loop-again
+    returns-2)

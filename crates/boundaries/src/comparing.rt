@@ -1,0 +1,44 @@
+// Whether the memory and the record are as they were handed in.
+use machine::Machine;
+
+// The word lent at an address: BRnzp, by the low bits of the address. So a run makes every step, and alters no word.
+pub fn lent_word(i: usize) -> u16 {
+    0x0E00 + (i % 512) as u16
+}
+
+pub fn same_memory(memory: &[u16]) -> bool {
+    let mut i = 0;
+    while i < memory.len() {
+        if memory[i] != lent_word(i) {
+            return false;
+        }
+        i += 1;
+    }
+    true
+}
+
+fn same_words(a: &[u16], b: &[u16]) -> bool {
+    if a.len() != b.len() {
+        return false;
+    }
+    let mut i = 0;
+    while i < a.len() {
+        if a[i] != b[i] {
+            return false;
+        }
+        i += 1;
+    }
+    true
+}
+
+pub fn same_record(a: Machine, b: Machine) -> bool {
+    let x = a.regs;
+    let y = b.regs;
+    let registers = same_words(&x, &y);
+    let control = a.pc == b.pc
+        && a.psr == b.psr
+        && a.saved_ssp == b.saved_ssp
+        && a.saved_usp == b.saved_usp;
+    let devices = a.kbsr == b.kbsr && a.kbdr == b.kbdr && a.mcr == b.mcr;
+    registers && control && devices && a.clock == b.clock
+}

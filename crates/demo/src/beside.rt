@@ -1,0 +1,133 @@
+// The sitting in single steps, beside one with other answers in privileged memory. After each step the two records are compared.
+use crate::printing::print;
+use crate::printing::print_number;
+use crate::printing::print_word;
+use crate::sitting::is_over;
+use crate::sitting::later;
+use machine::Machine;
+use run::Answer;
+ghost use mathlib.Core.Path.{_≡_};
+ghost use Prim.Native.Nat.{_+_, _≤_};
+ghost use lib.ListN.{length};
+
+// The most steps of the sitting.
+const STEPS: u64 = 5000;
+
+fn same_words(a: &[u16], b: &[u16]) -> bool {
+    if a.len() != b.len() {
+        return false;
+    }
+    let mut i = 0;
+    while i < a.len() {
+        if a[i] != b[i] {
+            return false;
+        }
+        i += 1;
+    }
+    true
+}
+
+pub fn same_record(a: Machine, b: Machine) -> bool {
+    let x = a.regs;
+    let y = b.regs;
+    let registers = same_words(&x, &y);
+    let control = a.pc == b.pc
+        && a.psr == b.psr
+        && a.saved_ssp == b.saved_ssp
+        && a.saved_usp == b.saved_usp;
+    let devices = a.kbsr == b.kbsr && a.kbdr == b.kbdr && a.mcr == b.mcr;
+    registers && control && devices && a.clock == b.clock
+}
+
+// A count with one more where a test holds.
+fn counted(count: u64, holds: bool) -> u64
+    requires { ⌜ count ≤ 5000 ⌝ }
+    ensures { λ r. ⌜ r ≤ count + 1 ⌝ }
+{
+    if holds { count + 1 } else { count }
+}
+
+// The name of the routine at an address.
+fn print_routine(pc: u16) {
+    match pc {
+        0x020A => print(b"GETC"),
+        0x0212 => print(b"OUT"),
+        0x0218 => print(b"PUTS"),
+        0x0232 => print(b"HALT"),
+        0x0239 => print(b"access exception"),
+        0x0247 => print(b"keyboard interrupt"),
+        _ => print(b"another routine"),
+    }
+}
+
+// A line for a step that left User mode: the clock, the PC and R0 before it, R0 after it, and the routine entered.
+fn print_entry(before: Machine, after: Machine) {
+    if before.psr < 0x8000 {
+        return;
+    }
+    if 0x8000 <= after.psr {
+        return;
+    }
+    print_number(before.clock, 5);
+    print(b"  ");
+    print_word(before.pc);
+    print(b"  ");
+    print_word(before.regs[0]);
+    print(b"      ");
+    print_word(after.regs[0]);
+    print(b"     ");
+    print_routine(after.pc);
+    print(b"\n");
+}
+
+// A call of one step, on what is left of the keys.
+fn one_step(m: Machine, memory: &mut [u16], times: &[u64], bytes: &[u8], at: usize) -> Answer
+    requires { ⌜ at ≤ length (now times) ⌝ }
+    requires { ⌜ length (now times) ≡ length (now bytes) ⌝ }
+{
+    let mut shown = [0u8; 1];
+    run::run(m, memory, &times[at..], &bytes[at..], &mut shown, 1)
+}
+
+fn print_compared(steps: u64, same: u64) {
+    print(b"\nSteps made: ");
+    print_number(steps, 1);
+    print(b". After ");
+    print_number(same, 1);
+    print(b" of them the whole record was the same in both sittings.\n");
+}
+
+// Makes the two sittings, and answers the last record of the first.
+pub fn sit_beside(
+    first: Machine,
+    memory: &mut [u16],
+    other: &mut [u16],
+    times: &[u64],
+    bytes: &[u8],
+) -> Machine
+    requires { ⌜ length (now times) ≡ length (now bytes) ⌝ }
+{
+    let mut m = first;
+    let mut o = first;
+    let mut at = 0;
+    let mut same = 0;
+    let mut steps = 0;
+    while steps < STEPS {
+        let a = one_step(m, memory, times, bytes, at);
+        let b = one_step(o, other, times, bytes, at);
+        let r = a.report;
+        let ending = r.ending;
+        if is_over(ending) {
+            print_compared(steps, same);
+            return m;
+        }
+        let after = a.machine;
+        print_entry(m, after);
+        m = after;
+        o = b.machine;
+        same = counted(same, same_record(m, o));
+        at = later(at, r.keys, times.len());
+        steps += 1;
+    }
+    m
+}

@@ -1,0 +1,15 @@
+/* Two C interpreters of the same machine, the measures for the library's speed. Each answers and
+ * leaves what lc3_run does. */
+#ifndef INTERPRETERS_H
+#define INTERPRETERS_H
+
+#include "lc3.h"
+
+typedef lc3_answer run_function(lc3_record record, uint16_t *memory, size_t words,
+                                const uint64_t *times, size_t times_len, const uint8_t *bytes,
+                                size_t bytes_len, uint8_t *output, size_t output_len, uint64_t n);
+
+run_function plain_run; /* as one writes it at first */
+run_function tuned_run; /* made for speed */
+
+#endif

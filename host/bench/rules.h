@@ -1,0 +1,124 @@
+/*
+ * The rules that the two C interpreters of the benchmark share: fields, access control, entry and
+ * RTI, the device registers, and refusals.
+ */
+#ifndef RULES_H
+#define RULES_H
+
+#include "lc3.h"
+
+/* Opcodes, from 0 to 15. */
+enum { BR, ADD, LD, ST, JSR, AND, LDR, STR, RTI, NOT, LDI, STI, JMP, RESERVED, LEA, TRAP };
+
+/* Addresses of the vectors. */
+enum { PRIVILEGE = 0x0100, ILLEGAL = 0x0101, ACCESS = 0x0102, KEYBOARD = 0x0180 };
+
+/* The display: the lent output and how much of it is taken. */
+typedef struct {
+    uint8_t *bytes;
+    size_t length, shown;
+} display;
+
+/* The low bits of a word as a signed field, extended to 16 bits. */
+static inline uint16_t extended(uint16_t word, int bits) {
+    int16_t high = word << (16 - bits);
+    return high >> (16 - bits);
+}
+
+static inline bool denied(const lc3_record *m, uint16_t address) {
+    return (m->psr & LC3_PSR_USER) && (address < 0x3000 || address >= 0xFE00);
+}
+
+/* Puts a result into a register and sets the condition codes. */
+static inline void put(lc3_record *m, unsigned r, uint16_t value) {
+    uint16_t code = value == 0 ? LC3_PSR_Z : value & 0x8000 ? LC3_PSR_N : LC3_PSR_P;
+    m->regs[r] = value;
+    m->psr = (m->psr & ~7) | code;
+}
+
+/* Entry by a vector. The vector's word is read after the pushes, which may have replaced it. */
+static void enter(lc3_record *m, uint16_t *memory, uint16_t vector, uint16_t pc) {
+    uint16_t psr = m->psr, sp = m->regs[6];
+    if (psr & LC3_PSR_USER) {
+        m->saved_usp = sp;
+        sp = m->saved_ssp;
+        m->psr = psr & 0x7FFF;
+    }
+    memory[--sp] = psr;
+    memory[--sp] = pc;
+    m->regs[6] = sp;
+    m->pc = memory[vector];
+}
+
+/* RTI: both words are popped before R6 changes stacks. */
+static void leave(lc3_record *m, const uint16_t *memory) {
+    uint16_t sp = m->regs[6];
+    m->pc = memory[sp++];
+    m->psr = memory[sp++] & 0x8707;
+    if (m->psr & LC3_PSR_USER) {
+        m->saved_ssp = sp;
+        sp = m->saved_usp;
+    }
+    m->regs[6] = sp;
+}
+
+static inline uint16_t load(lc3_record *m, const uint16_t *memory, uint16_t address) {
+    if (address < 0xFE00) return memory[address];
+    switch (address) {
+    case LC3_ADDRESS_KBSR: return m->kbsr;
+    case LC3_ADDRESS_KBDR: m->kbsr &= LC3_KBSR_INTERRUPT; return m->kbdr;
+    case LC3_ADDRESS_DSR: return 0x8000;
+    case LC3_ADDRESS_DDR: return 0;
+    case LC3_ADDRESS_PSR: return m->psr;
+    case LC3_ADDRESS_MCR: return m->mcr;
+    default: return memory[address];
+    }
+}
+
+/* False: a store to the DDR and no free byte; nothing is stored. */
+static inline bool store(lc3_record *m, uint16_t *memory, display *out, uint16_t address,
+                         uint16_t value) {
+    if (address < 0xFE00) {
+        memory[address] = value;
+        return true;
+    }
+    switch (address) {
+    case LC3_ADDRESS_KBSR:
+        m->kbsr = (m->kbsr & LC3_KBSR_READY) | (value & LC3_KBSR_INTERRUPT);
+        return true;
+    case LC3_ADDRESS_KBDR: return true;
+    case LC3_ADDRESS_DSR: return true;
+    case LC3_ADDRESS_DDR:
+        if (out->shown == out->length) return false;
+        out->bytes[out->shown++] = value;
+        return true;
+    case LC3_ADDRESS_PSR: m->psr = (m->psr & LC3_PSR_USER) | (value & 0x0707); return true;
+    case LC3_ADDRESS_MCR: m->mcr = value & LC3_MCR_CLOCK; return true;
+    default: memory[address] = value; return true;
+    }
+}
+
+static bool sound(const lc3_record *m) {
+    return !(m->psr & ~0x8707) && !(m->kbsr & ~0xC000) && !(m->kbdr & ~0x00FF) &&
+           !(m->mcr & ~0x8000) && m->clock <= LC3_MAX_CLOCK;
+}
+
+static bool in_order(const uint64_t *times, size_t length, uint64_t last) {
+    for (size_t i = 0; i < length; i++) {
+        if (times[i] < last) return false;
+        last = times[i];
+    }
+    return true;
+}
+
+static uint32_t refusal(const lc3_record *m, size_t words, const uint64_t *times, size_t times_len,
+                        size_t bytes_len, uint64_t n) {
+    if (words != LC3_MEMORY_WORDS) return LC3_REFUSED_MEMORY;
+    if (!sound(m)) return LC3_REFUSED_RECORD;
+    if (n > LC3_MAX_STEPS || m->clock + n > LC3_MAX_CLOCK) return LC3_REFUSED_STEPS;
+    if (times_len != bytes_len) return LC3_REFUSED_LISTS;
+    if (!in_order(times, times_len, m->clock)) return LC3_REFUSED_TIMES;
+    return LC3_ACCEPTED;
+}
+
+#endif
