@@ -1,7 +1,7 @@
 # make run    the demonstration: a candidate's program beside the examiner's monitor
 # make test   everything: formatting, the proofs with the wrong programs that must be refused, the host tests
 # make lib    build/liblc3.a and build/liblc3.so; the header is include/lc3.h
-# make bench  time against a plain C interpreter
+# make bench  time against C: runs, and lines of text
 # make soak   many more random runs against the reference simulator
 
 ARCHIVES = target/staticlib/liblc3_machine.a target/staticlib/liblc3_words.a
@@ -48,6 +48,7 @@ build/liblc3.so: build/liblc3.a
 
 bench: lib
 	host/bench/run.sh
+	host/bench/lines.sh
 
 soak: lib
 	LC3_RUNS=20000000 $(CARGO) --test differential soak -- --ignored --nocapture

@@ -7,6 +7,7 @@
  *   lc3_step    runs one step and alters the host's own record
  *   lc3_read    reads a word as an instruction
  *   lc3_write   writes an instruction as a word
+ *   lc3_line    writes a word as a line of text
  *
  * What a host owes and may rely on:
  *
@@ -36,6 +37,7 @@ extern "C" {
 #define LC3_MEMORY_WORDS 65536            /* words of memory: no other number is accepted */
 #define LC3_MAX_STEPS 1048576             /* steps of one call; a longer run is several calls */
 #define LC3_MAX_CLOCK (UINT64_C(1) << 48) /* the clock never passes this */
+#define LC3_MAX_LINE 17                   /* bytes of the longest line, its line feed included */
 
 /* Bits of the PSR. No other bit may be set in a record; any pattern of N, Z, P is allowed. */
 #define LC3_PSR_USER 0x8000     /* set in User mode, clear in Supervisor mode */
@@ -70,7 +72,9 @@ enum {
     LC3_REFUSED_RECORD = 12, /* an undefined bit in PSR, KBSR, KBDR or MCR, or a clock too high */
     LC3_REFUSED_STEPS = 13,  /* n is above LC3_MAX_STEPS, or clock + n above LC3_MAX_CLOCK */
     LC3_REFUSED_LISTS = 14,  /* times and bytes differ in length */
-    LC3_REFUSED_TIMES = 15   /* a time is below the clock or below the time before it */
+    LC3_REFUSED_TIMES = 15,  /* a time is below the clock or below the time before it */
+    /* lc3_line */
+    LC3_REFUSED_OUTPUT = 16 /* the text does not fit the output */
 };
 
 /* Why a run stopped. Tested before each step, in this order; nothing of the next step, not even
@@ -175,6 +179,12 @@ typedef struct {
     uint16_t refusal; /* LC3_ACCEPTED, or LC3_REFUSED_REGISTER to LC3_REFUSED_MASK */
 } lc3_written;
 
+/* What lc3_line answers. */
+typedef struct {
+    uint64_t count;   /* bytes written, from the output's first; 0 where refused */
+    uint64_t refusal; /* LC3_ACCEPTED or LC3_REFUSED_OUTPUT */
+} lc3_counted;
+
 /*
  * A machine at pc, in User mode if user holds and in Supervisor mode if not, with condition code
  * Z, priority 0, clock 0 and the clock enabled. The supervisor stack begins at x3000 and the user
@@ -217,6 +227,18 @@ lc3_instruction lc3_read(uint16_t word);
  * that does not fit into 16 bits where the kind takes one, as any other value out of range.
  */
 lc3_written lc3_write(lc3_instruction instruction);
+
+/*
+ * Writes a word as a line of text, with a line feed and no zero byte after it: the mnemonic, a
+ * space, and the operands of the book's assembler parted by a comma and a space, with the offset
+ * for a label. Registers are R0 to R7, signed fields # and a decimal number, a trap vector x and
+ * two hexadecimal digits: x14E7 gives "ADD R2, R3, #7", x09FF "BRn #-1", xF025 "TRAP x25". RTI and
+ * RET, which is JMP R7, stand alone. A reserved word, one with wrong fixed bits and a BR that tests
+ * nothing are data: x0005 gives ".FILL x0005". Distinct words give distinct lines.
+ *
+ * No line has more than LC3_MAX_LINE bytes. What lies after the line is left as lent.
+ */
+lc3_counted lc3_line(uint16_t word, uint8_t *output, size_t output_len);
 
 #ifdef __cplusplus
 }
@@ -265,6 +287,10 @@ LC3_LAYOUT(offsetof(lc3_instruction, value) == 4);
 LC3_LAYOUT(sizeof(lc3_written) == 4);
 LC3_LAYOUT(offsetof(lc3_written, word) == 0);
 LC3_LAYOUT(offsetof(lc3_written, refusal) == 2);
+
+LC3_LAYOUT(sizeof(lc3_counted) == 16);
+LC3_LAYOUT(offsetof(lc3_counted, count) == 0);
+LC3_LAYOUT(offsetof(lc3_counted, refusal) == 8);
 
 #undef LC3_LAYOUT
 

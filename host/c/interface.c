@@ -1,6 +1,6 @@
 /*
  * Every function of lc3.h from a host's side: the fourteen examples, the refusals at their
- * boundaries, the stops, and the reading and writing of all instructions.
+ * boundaries, the stops, the reading and writing of all instructions, and lines of text.
  */
 #include "lc3.h"
 
@@ -739,6 +739,45 @@ static void test_write(void) {
     }
 }
 
+/* Lines of each shape, at every length of output from none to one byte too many. */
+static void test_line(void) {
+    part = "line";
+    static const struct {
+        uint16_t word;
+        const char *line;
+    } lines[] = {
+        {0x14E7, "ADD R2, R3, #7\n"},
+        {0x5042, "AND R0, R1, R2\n"},
+        {0x6BE0, "LDR R5, R7, #-32\n"},
+        {0x0E00, "BRnzp #0\n"},
+        {0x0BFF, "BRnp #-1\n"},
+        {0x0005, ".FILL x0005\n"},
+        {0x4C00, "JSR #-1024\n"},
+        {0x40C0, "JSRR R3\n"},
+        {0xC1C0, "RET\n"},
+        {0xC080, "JMP R2\n"},
+        {0x8000, "RTI\n"},
+        {0x8001, ".FILL x8001\n"},
+        {0x9AFF, "NOT R5, R3\n"},
+        {0xEF00, "LEA R7, #-256\n"},
+        {0xF0AB, "TRAP xAB\n"},
+        {0xDEAD, ".FILL xDEAD\n"},
+    };
+    for (size_t i = 0; i < sizeof lines / sizeof *lines; i++) {
+        size_t length = strlen(lines[i].line);
+        for (size_t lent = 0; lent <= LC3_MAX_LINE; lent++) {
+            uint8_t text[LC3_MAX_LINE + 1], wanted[LC3_MAX_LINE + 1];
+            memset(text, UNSHOWN, sizeof text);
+            memset(wanted, UNSHOWN, sizeof wanted);
+            if (length <= lent) memcpy(wanted, lines[i].line, length);
+            lc3_counted counted = lc3_line(lines[i].word, text, lent);
+            CHECK(counted.count, length <= lent ? length : 0);
+            CHECK(counted.refusal, length <= lent ? LC3_ACCEPTED : LC3_REFUSED_OUTPUT);
+            CHECK(memcmp(text, wanted, sizeof text), 0);
+        }
+    }
+}
+
 int main(void) {
     test_fresh();
     test_examples();
@@ -752,6 +791,7 @@ int main(void) {
     test_steps_are_run();
     test_read();
     test_write();
+    test_line();
     printf("interface: %lu checks, %lu failures\n", checks, failures);
     return failures != 0;
 }

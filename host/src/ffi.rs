@@ -66,6 +66,16 @@ pub struct Written {
     pub refusal: u16,
 }
 
+/// What writing a word as a line answers: `lc3_counted`.
+#[repr(C)]
+#[derive(Clone, Copy, Debug, PartialEq, Eq)]
+pub struct Counted {
+    /// The bytes written, or 0 if refused.
+    pub count: u64,
+    /// 0, or the number of the refusal, 16.
+    pub refusal: u64,
+}
+
 // The layout that C gives the same declarations.
 const _: () = assert!(size_of::<Record>() == 40 && align_of::<Record>() == 8);
 const _: () = assert!(offset_of!(Record, regs) == 0 && offset_of!(Record, pc) == 16);
@@ -87,6 +97,8 @@ const _: () = assert!(offset_of!(Fields, b) == 2 && offset_of!(Fields, c) == 3);
 const _: () = assert!(offset_of!(Fields, value) == 4);
 const _: () = assert!(size_of::<Written>() == 4 && align_of::<Written>() == 2);
 const _: () = assert!(offset_of!(Written, word) == 0 && offset_of!(Written, refusal) == 2);
+const _: () = assert!(size_of::<Counted>() == 16 && align_of::<Counted>() == 8);
+const _: () = assert!(offset_of!(Counted, count) == 0 && offset_of!(Counted, refusal) == 8);
 
 unsafe extern "C" {
     /// Makes a fresh record.
@@ -97,6 +109,13 @@ unsafe extern "C" {
 
     /// Writes an instruction as a word.
     pub safe fn lc3_write(instruction: Fields) -> Written;
+
+    /// Writes a word as a line of text.
+    ///
+    /// # Safety
+    ///
+    /// `output` must be valid for writing `output_len` bytes.
+    pub fn lc3_line(word: u16, output: *mut u8, output_len: usize) -> Counted;
 
     /// Runs up to `n` steps.
     ///

@@ -1,9 +1,10 @@
 //! The LC-3 with privilege, interrupts and a console.
 //!
-//! This crate is a safe wrapper of the static library `liblc3.a`. It has the library's four
+//! This crate is a safe wrapper of the static library `liblc3.a`. It has the library's five
 //! operations: [`read`] a word as an instruction, [`write`](write()) an instruction as a word,
-//! make a fresh record with [`Record::fresh`], and [`run`] a number of steps over lent memory; and
-//! [`step`], a run of one step that alters the record it is lent. Nothing is kept between calls.
+//! show a word as a [`line`](line()) of text, make a fresh record with [`Record::fresh`], and
+//! [`run`] a number of steps over lent memory; and [`step`], a run of one step that alters the
+//! record it is lent. Nothing is kept between calls.
 //!
 //! The archive is taken from the directory in the environment variable `LC3_LIB_DIR` when the
 //! crate is built, or else from `../build`.
@@ -36,10 +37,12 @@
 
 pub mod ffi;
 mod instruction;
+mod line;
 mod record;
 mod run;
 
 pub use instruction::{read, write, Instruction, WriteRefusal};
+pub use line::{line, line_string, LineRefusal, LINE_LIMIT};
 pub use record::{Mode, Record};
 pub use run::{run, step, Keys, Refusal, Run, StepReport, Stop, CLOCK_LIMIT, STEP_LIMIT, WORDS};
 

@@ -20,7 +20,7 @@ pub(crate) fn extend(word: u16, half: u16) -> i16
 
 // The size of n: n itself where it is not negative, else -1 - n, so that -1 has the size 0.
 // A field holds n exactly when the size of n is below the field's half.
-pub(crate) fn size(n: i16) -> u16
+pub fn size(n: i16) -> u16
     ensures { λ r. ⌜ r ≡ mag n ⌝ }
 {
     if n < 0 { (!n) as u16 } else { n as u16 }

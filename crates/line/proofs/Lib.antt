@@ -1,0 +1,9 @@
+-- The proofs of the statements in specs/Theorems.antt, and the laws that the functions' proofs cite.
+mod Placing
+mod Answering
+mod Decimal
+mod Signs
+mod FixedBits
+pub mod ReadingBack
+pub mod DistinctLines
+pub mod LongestLine
