@@ -1,17 +1,17 @@
 # make run    the demonstration: a candidate's program beside the examiner's monitor
 # make test   everything: formatting, the proofs with the wrong programs that must be refused, the host tests
 # make lib    build/liblc3.a and build/liblc3.so; the header is include/lc3.h
-# make bench  time against C: runs, and lines of text
+# make bench  time against C: runs, lines of text, and object files
 # make soak   many more random runs against the reference simulator
 
-ARCHIVES = target/staticlib/liblc3_machine.a target/staticlib/liblc3_words.a
+ARCHIVES = target/staticlib/liblc3_machine.a target/staticlib/liblc3_words.a target/staticlib/liblc3_objects.a
 CARGO = cargo test --quiet --offline --release --manifest-path host/Cargo.toml --target-dir build/cargo
 
 .PHONY: run test lib bench soak format host clean
 
 run:
 	rt check demo >/dev/null
-	@target/bin/demo
+	@cd crates/demo/data && ../../../target/bin/demo
 
 # The archives are built from the crates that `rt ci` has just proved. Its verdict is repeated as the last line of all.
 test: format
@@ -49,6 +49,7 @@ build/liblc3.so: build/liblc3.a
 bench: lib
 	host/bench/run.sh
 	host/bench/lines.sh
+	host/bench/objects.sh
 
 soak: lib
 	LC3_RUNS=20000000 $(CARGO) --test differential soak -- --ignored --nocapture

@@ -8,6 +8,8 @@
  *   lc3_read    reads a word as an instruction
  *   lc3_write   writes an instruction as a word
  *   lc3_line    writes a word as a line of text
+ *   lc3_load    reads an object file into lent memory
+ *   lc3_save    writes an object file from a range of lent memory
  *
  * What a host owes and may rely on:
  *
@@ -15,7 +17,7 @@
  *   and has no state of its own, so calls with separate buffers may be made from several threads.
  * - Each buffer is a pointer and a number of elements (not bytes). The pointer must be valid for
  *   that many elements and aligned for them. An empty buffer takes any aligned pointer but NULL.
- * - Memory, times, bytes, output and the record lent to lc3_step may not overlap.
+ * - Memory, times, bytes, output, file and the record lent to lc3_step may not overlap.
  * - Every call is answered: a call that cannot be obeyed is refused with a number that says why,
  *   and a refused call leaves the record and every buffer as it was.
  *
@@ -60,7 +62,7 @@ extern "C" {
 #define LC3_ADDRESS_PSR 0xFFFC
 #define LC3_ADDRESS_MCR 0xFFFE
 
-/* Why a call was refused: of the reasons that apply, the lowest number. */
+/* Why a call was refused: of the reasons that apply, the first in the order named for the call. */
 enum {
     LC3_ACCEPTED = 0,
     /* lc3_write */
@@ -73,8 +75,10 @@ enum {
     LC3_REFUSED_STEPS = 13,  /* n is above LC3_MAX_STEPS, or clock + n above LC3_MAX_CLOCK */
     LC3_REFUSED_LISTS = 14,  /* times and bytes differ in length */
     LC3_REFUSED_TIMES = 15,  /* a time is below the clock or below the time before it */
-    /* lc3_line */
-    LC3_REFUSED_OUTPUT = 16 /* the text does not fit the output */
+    /* lc3_line: 16; lc3_load: 11, 17, 18; lc3_save: 11, 18, 16 */
+    LC3_REFUSED_OUTPUT = 16, /* the line, or the file, does not fit the output */
+    LC3_REFUSED_FILE = 17,   /* the file has an odd number of bytes, or fewer than two */
+    LC3_REFUSED_RANGE = 18   /* origin + words is above LC3_MEMORY_WORDS */
 };
 
 /* Why a run stopped. Tested before each step, in this order; nothing of the next step, not even
@@ -179,10 +183,17 @@ typedef struct {
     uint16_t refusal; /* LC3_ACCEPTED, or LC3_REFUSED_REGISTER to LC3_REFUSED_MASK */
 } lc3_written;
 
-/* What lc3_line answers. */
+/* What lc3_load answers; zeros where refused. */
 typedef struct {
-    uint64_t count;   /* bytes written, from the output's first; 0 where refused */
-    uint64_t refusal; /* LC3_ACCEPTED or LC3_REFUSED_OUTPUT */
+    uint32_t words;   /* words read */
+    uint16_t origin;  /* address of the first */
+    uint16_t refusal; /* LC3_ACCEPTED, LC3_REFUSED_MEMORY, LC3_REFUSED_FILE or LC3_REFUSED_RANGE */
+} lc3_loaded;
+
+/* What a call answers that writes bytes to a lent output. */
+typedef struct {
+    uint64_t count;   /* bytes written; 0 where refused */
+    uint64_t refusal; /* LC3_ACCEPTED, or why the call was refused */
 } lc3_counted;
 
 /*
@@ -240,6 +251,21 @@ lc3_written lc3_write(lc3_instruction instruction);
  */
 lc3_counted lc3_line(uint16_t word, uint8_t *output, size_t output_len);
 
+/*
+ * Reads an object file: its first word is the origin, and the others are stored from there on.
+ * Each word of the file is two bytes, the high byte first. No other word of memory changes. A
+ * file of two bytes has no words and is accepted.
+ */
+lc3_loaded lc3_load(const uint8_t *file, size_t file_len, uint16_t *memory, size_t words);
+
+/*
+ * Writes the object file of the given number of words from origin on: 2 + 2 * words bytes from
+ * the start of output; what lies after them is left as lent. A range of no words is a file of two
+ * bytes.
+ */
+lc3_counted lc3_save(const uint16_t *memory, size_t memory_words, uint16_t origin, size_t words,
+                     uint8_t *output, size_t output_len);
+
 #ifdef __cplusplus
 }
 #define LC3_LAYOUT(condition) static_assert(condition, #condition)
@@ -287,6 +313,11 @@ LC3_LAYOUT(offsetof(lc3_instruction, value) == 4);
 LC3_LAYOUT(sizeof(lc3_written) == 4);
 LC3_LAYOUT(offsetof(lc3_written, word) == 0);
 LC3_LAYOUT(offsetof(lc3_written, refusal) == 2);
+
+LC3_LAYOUT(sizeof(lc3_loaded) == 8);
+LC3_LAYOUT(offsetof(lc3_loaded, words) == 0);
+LC3_LAYOUT(offsetof(lc3_loaded, origin) == 4);
+LC3_LAYOUT(offsetof(lc3_loaded, refusal) == 6);
 
 LC3_LAYOUT(sizeof(lc3_counted) == 16);
 LC3_LAYOUT(offsetof(lc3_counted, count) == 0);

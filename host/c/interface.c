@@ -1,6 +1,7 @@
 /*
  * Every function of lc3.h from a host's side: the fourteen examples, the refusals at their
- * boundaries, the stops, the reading and writing of all instructions, and lines of text.
+ * boundaries, the stops, the reading and writing of all instructions, lines of text, and
+ * object files.
  */
 #include "lc3.h"
 
@@ -739,6 +740,53 @@ static void test_write(void) {
     }
 }
 
+/* ---- Object files ---- */
+
+static void check_load(const char *name, const uint8_t *file, size_t length, size_t words,
+                       lc3_loaded wanted) {
+    part = name;
+    lc3_loaded got = lc3_load(file, length, memory, words);
+    CHECK(got.words, wanted.words);
+    CHECK(got.origin, wanted.origin);
+    CHECK(got.refusal, wanted.refusal);
+    check_buffers();
+}
+
+static void check_save(const char *name, size_t memory_words, uint16_t origin, size_t words,
+                       size_t room, lc3_counted wanted) {
+    part = name;
+    lc3_counted got = lc3_save(memory, memory_words, origin, words, output, room);
+    CHECK(got.count, wanted.count);
+    CHECK(got.refusal, wanted.refusal);
+    check_buffers();
+}
+
+static void test_load(void) {
+    static const uint8_t file[] = {0xFF, 0xFF, 0x12, 0x34, 0x56, 0x78};
+    clear_buffers();
+    keep_buffers();
+    check_load("memory too long", file, 3, WORDS + 1, (lc3_loaded){0, 0, LC3_REFUSED_MEMORY});
+    check_load("no origin", file, 1, WORDS, (lc3_loaded){0, 0, LC3_REFUSED_FILE});
+    check_load("odd file", file, 5, WORDS, (lc3_loaded){0, 0, LC3_REFUSED_FILE});
+    check_load("beyond memory", file, 6, WORDS, (lc3_loaded){0, 0, LC3_REFUSED_RANGE});
+    check_load("file without words", file, 2, WORDS, (lc3_loaded){0, 0xFFFF, LC3_ACCEPTED});
+    wanted_memory[0xFFFF] = 0x1234;
+    check_load("last word of memory", file, 4, WORDS, (lc3_loaded){1, 0xFFFF, LC3_ACCEPTED});
+}
+
+static void test_save(void) {
+    clear_buffers();
+    memory[0xFFFF] = 0x1234;
+    keep_buffers();
+    check_save("memory too short", WORDS - 1, 0xFFFF, 2, 0, (lc3_counted){0, LC3_REFUSED_MEMORY});
+    check_save("range too long", WORDS, 0xFFFF, 2, 0, (lc3_counted){0, LC3_REFUSED_RANGE});
+    check_save("output too short", WORDS, 0xFFFF, 1, 3, (lc3_counted){0, LC3_REFUSED_OUTPUT});
+    memcpy(wanted_output, "\xFF\xFF", 2);
+    check_save("range without words", WORDS, 0xFFFF, 0, 2, (lc3_counted){2, LC3_ACCEPTED});
+    memcpy(wanted_output, "\xFF\xFF\x12\x34", 4);
+    check_save("range to the end", WORDS, 0xFFFF, 1, OUTPUT, (lc3_counted){4, LC3_ACCEPTED});
+}
+
 /* Lines of each shape, at every length of output from none to one byte too many. */
 static void test_line(void) {
     part = "line";
@@ -792,6 +840,8 @@ int main(void) {
     test_read();
     test_write();
     test_line();
+    test_load();
+    test_save();
     printf("interface: %lu checks, %lu failures\n", checks, failures);
     return failures != 0;
 }

@@ -66,13 +66,25 @@ pub struct Written {
     pub refusal: u16,
 }
 
-/// What writing a word as a line answers: `lc3_counted`.
+/// What reading an object file answers: `lc3_loaded`.
+#[repr(C)]
+#[derive(Clone, Copy, Debug, PartialEq, Eq)]
+pub struct Loaded {
+    /// The words read.
+    pub words: u32,
+    /// The address of the first.
+    pub origin: u16,
+    /// 0, or the number of the refusal: 11, 17 or 18.
+    pub refusal: u16,
+}
+
+/// What a call answers that writes bytes to a lent output: `lc3_counted`.
 #[repr(C)]
 #[derive(Clone, Copy, Debug, PartialEq, Eq)]
 pub struct Counted {
     /// The bytes written, or 0 if refused.
     pub count: u64,
-    /// 0, or the number of the refusal, 16.
+    /// 0, or the number of the refusal.
     pub refusal: u64,
 }
 
@@ -97,6 +109,9 @@ const _: () = assert!(offset_of!(Fields, b) == 2 && offset_of!(Fields, c) == 3);
 const _: () = assert!(offset_of!(Fields, value) == 4);
 const _: () = assert!(size_of::<Written>() == 4 && align_of::<Written>() == 2);
 const _: () = assert!(offset_of!(Written, word) == 0 && offset_of!(Written, refusal) == 2);
+const _: () = assert!(size_of::<Loaded>() == 8 && align_of::<Loaded>() == 4);
+const _: () = assert!(offset_of!(Loaded, words) == 0 && offset_of!(Loaded, origin) == 4);
+const _: () = assert!(offset_of!(Loaded, refusal) == 6);
 const _: () = assert!(size_of::<Counted>() == 16 && align_of::<Counted>() == 8);
 const _: () = assert!(offset_of!(Counted, count) == 0 && offset_of!(Counted, refusal) == 8);
 
@@ -153,4 +168,27 @@ unsafe extern "C" {
         output: *mut u8,
         output_len: usize,
     ) -> Report;
+
+    /// Reads an object file into memory.
+    ///
+    /// # Safety
+    ///
+    /// Each pointer must be valid for its number of elements, `memory` also for writing, and the
+    /// two buffers may not overlap.
+    pub fn lc3_load(file: *const u8, file_len: usize, memory: *mut u16, words: usize) -> Loaded;
+
+    /// Writes an object file from a range of memory.
+    ///
+    /// # Safety
+    ///
+    /// Each pointer must be valid for its number of elements, `output` also for writing, and the
+    /// two buffers may not overlap.
+    pub fn lc3_save(
+        memory: *const u16,
+        memory_words: usize,
+        origin: u16,
+        words: usize,
+        output: *mut u8,
+        output_len: usize,
+    ) -> Counted;
 }

@@ -4,7 +4,8 @@
 //! operations: [`read`] a word as an instruction, [`write`](write()) an instruction as a word,
 //! show a word as a [`line`](line()) of text, make a fresh record with [`Record::fresh`], and
 //! [`run`] a number of steps over lent memory; and [`step`], a run of one step that alters the
-//! record it is lent. Nothing is kept between calls.
+//! record it is lent. Programs arrive as object files, which [`load`] reads into memory and
+//! [`save`] writes from it. Nothing is kept between calls.
 //!
 //! The archive is taken from the directory in the environment variable `LC3_LIB_DIR` when the
 //! crate is built, or else from `../build`.
@@ -38,11 +39,13 @@
 pub mod ffi;
 mod instruction;
 mod line;
+mod object;
 mod record;
 mod run;
 
 pub use instruction::{read, write, Instruction, WriteRefusal};
 pub use line::{line, line_string, LineRefusal, LINE_LIMIT};
+pub use object::{load, save, Loaded, ObjectRefusal};
 pub use record::{Mode, Record};
 pub use run::{run, step, Keys, Refusal, Run, StepReport, Stop, CLOCK_LIMIT, STEP_LIMIT, WORDS};
 

@@ -1,29 +1,33 @@
-// Words and texts, loaded into memory.
-ghost use mathlib.Core.Path.{_≡_};
-ghost use Prim.Native.Nat.{_+_, _≤_};
-ghost use lib.ListN.{length};
+// Object files, read from the working folder into memory.
+use crate::printing::print;
+use crate::printing::print_number;
+use crate::printing::print_word;
+use object::Loaded;
 
-fn wide(b: u8) -> u16 {
-    b as u16
+// A small file, by one read. A file that cannot be read is loaded as an empty one, which is turned away.
+pub fn load(path: &[u8], memory: &mut [u16]) -> Loaded {
+    let mut bytes = [0u8; 2048];
+    let fd = os::open_read(path);
+    let got = libc::read(fd, &mut bytes);
+    libc::close(fd);
+    let n = io::count(got, &bytes);
+    object::load(&bytes[..n], memory)
 }
 
-pub fn load(memory: &mut [u16], first: usize, words: &[u16])
-    requires { ⌜ first + length (now words) ≤ length (now memory) ⌝ }
-{
-    let mut i = 0;
-    while i < words.len() {
-        memory[first + i] = words[i];
-        i += 1;
+// Loads a file and says what came of it.
+pub fn load_and_tell(path: &[u8], memory: &mut [u16]) {
+    let loaded = load(path, memory);
+    print(b"  ");
+    print(path);
+    if loaded.refusal != 0 {
+        print(b": refused with ");
+        print_number(loaded.refusal as u64, 1);
+        print(b"\n");
+        return;
     }
-}
-
-// A text, one byte in each word.
-pub fn load_text(memory: &mut [u16], first: usize, text: &[u8])
-    requires { ⌜ first + length (now text) ≤ length (now memory) ⌝ }
-{
-    let mut i = 0;
-    while i < text.len() {
-        memory[first + i] = wide(text[i]);
-        i += 1;
-    }
+    print(b": ");
+    print_number(loaded.words as u64, 1);
+    print(b" words from ");
+    print_word(loaded.origin);
+    print(b"\n");
 }
