@@ -40,15 +40,14 @@ pub fn fill(memory: &mut [u16]) {
 
 // The record of every case but for what the case sets: each field is defined, and most differ.
 pub fn record() -> Machine {
+    let devices = machine::set_keyboard(machine::fresh_devices(), 0, 0x0055);
     Machine {
         regs: [1, 2, 3, 4, 5, 6, 0x2F00, 8],
         pc: 0x3000,
         psr: 0x0302,
         saved_ssp: 0x3000,
         saved_usp: 0xFDFF,
-        kbsr: 0,
-        kbdr: 0x0055,
-        mcr: 0x8000,
+        devices,
         clock: 1000,
     }
 }

@@ -39,8 +39,8 @@ fn undefined_bits(memory: &mut [u16]) {
     heading(b"12: an undefined bit or a clock above 2^48");
     let mut m = record();
     m.psr = 0x8707;
-    m.kbsr = 0xC000;
-    m.kbdr = 0x00FF;
+    m.devices.kbsr = 0xC000;
+    m.devices.kbdr = 0x00FF;
     keyless(
         b"PSR x8707, KBSR xC000, KBDR x00FF, MCR x8000",
         m,
@@ -50,13 +50,13 @@ fn undefined_bits(memory: &mut [u16]) {
     m.psr = 0x870F;
     keyless(b"PSR x870F", m, memory, 0);
     m.psr = 0x8707;
-    m.kbsr = 0xE000;
+    m.devices.kbsr = 0xE000;
     keyless(b"KBSR xE000", m, memory, 0);
-    m.kbsr = 0xC000;
-    m.kbdr = 0x01FF;
+    m.devices.kbsr = 0xC000;
+    m.devices.kbdr = 0x01FF;
     keyless(b"KBDR x01FF", m, memory, 0);
-    m.kbdr = 0x00FF;
-    m.mcr = 0x8001;
+    m.devices.kbdr = 0x00FF;
+    m.devices.mcr = 0x8001;
     keyless(b"MCR x8001", m, memory, 0);
 }
 
@@ -74,7 +74,7 @@ fn step_counts(memory: &mut [u16]) {
     m.clock = 0;
     keyless(b"clock 0, n 1,048,576", m, memory, MOST);
     keyless(b"clock 0, n 1,048,577", m, memory, MOST + 1);
-    m.mcr = 0;
+    m.devices.mcr = 0;
     keyless(b"clock 0, n 1,048,576, halted", m, memory, MOST);
     keyless(b"clock 0, n 1,048,577, halted", m, memory, MOST + 1);
 }

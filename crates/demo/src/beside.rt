@@ -35,7 +35,9 @@ pub fn same_record(a: Machine, b: Machine) -> bool {
         && a.psr == b.psr
         && a.saved_ssp == b.saved_ssp
         && a.saved_usp == b.saved_usp;
-    let devices = a.kbsr == b.kbsr && a.kbdr == b.kbdr && a.mcr == b.mcr;
+    let c = a.devices;
+    let d = b.devices;
+    let devices = c.kbsr == d.kbsr && c.kbdr == d.kbdr && c.mcr == d.mcr;
     registers && control && devices && a.clock == b.clock
 }
 

@@ -8,6 +8,7 @@ use native.Mathlib.Omega.{arith}
 use lib.ListN.{getD, set, replicate}
 use Rattle.word.specs.Reading.{readOf}
 use Rattle.machine.specs.declared.Machine.{Machine}
+use Rattle.machine.specs.Record.{freshDevices}
 use Rattle.machine.specs.Words.{next, withRegister}
 use Rattle.machine.specs.Psr.{inUserMode, kept, setFrom}
 use Rattle.machine.specs.Outcome.{instruction, Outcome, withReads, afterInstruction}
@@ -60,9 +61,7 @@ userAt pc = record {
   psr = 0x8002;
   «saved_ssp» = 0x3000;
   «saved_usp» = 0;
-  kbsr = 0;
-  kbdr = 0;
-  mcr = 0x8000;
+  devices = freshDevices;
   clock = 0;
 }
 

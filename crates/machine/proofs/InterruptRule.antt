@@ -108,9 +108,9 @@ unfolding interruptedOrObeyed
 none-pending-is-none-taken m mem = instruction-is-no-interrupt m mem
 
 pub interrupt-is-taken-by-rule-2 : (keys : List ℕ) (m : Machine) (mem : List ℕ)
-    → takesInterrupt (stepOf keys m mem .cause) ≡ (leb 0xC000 (afterKeys keys m .kbsr) && ltb (priorityOf (m .psr)) 4)
+    → takesInterrupt (stepOf keys m mem .cause) ≡ (leb 0xC000 (afterKeys keys m .devices .kbsr) && ltb (priorityOf (m .psr)) 4)
 unfolding stepOf ended pendingInterrupt afterKeys
-interrupt-is-taken-by-rule-2 keys m mem = go (leb 0xC000 (afterKeys keys m .kbsr) && ltb (priorityOf (m .psr)) 4)
+interrupt-is-taken-by-rule-2 keys m mem = go (leb 0xC000 (afterKeys keys m .devices .kbsr) && ltb (priorityOf (m .psr)) 4)
   where
     go : (rule-2 : Bool)
         → takesInterrupt (interruptedOrObeyed (cond rule-2 (Interrupt keyboardVector keyboardPriority) Nothing) (afterKeys keys m) mem .cause) ≡ rule-2
@@ -118,7 +118,7 @@ interrupt-is-taken-by-rule-2 keys m mem = go (leb 0xC000 (afterKeys keys m .kbsr
     go false = none-pending-is-none-taken (afterKeys keys m) mem
 
 pub otherwise-the-word-is-obeyed : (keys : List ℕ) (m : Machine) (mem : List ℕ)
-    → (leb 0xC000 (afterKeys keys m .kbsr) && ltb (priorityOf (m .psr)) 4) ≡ false
+    → (leb 0xC000 (afterKeys keys m .devices .kbsr) && ltb (priorityOf (m .psr)) 4) ≡ false
     → stepOf keys m mem ≡ ended (obeyed (afterKeys keys m) mem)
 unfolding stepOf ended
 otherwise-the-word-is-obeyed keys m mem e =

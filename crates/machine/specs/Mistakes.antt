@@ -5,6 +5,7 @@ use mathlib.Core.Path.{_≡_}
 use mathlib.Core.List.{List, [], _∷_}
 use lib.ListN.{getD, set, replicate}
 use Rattle.machine.specs.declared.Machine.{Machine}
+use Rattle.machine.specs.Record.{setKeyboard, freshDevices}
 use Rattle.machine.specs.Outcome.{privilege, access, entered, Outcome}
 use Rattle.machine.specs.Step.{stepOf}
 
@@ -16,9 +17,7 @@ recordAt psr pc r0 r1 r6 r7 ssp kbsr = record {
   psr = psr;
   «saved_ssp» = ssp;
   «saved_usp» = 0xFDFF;
-  kbsr = kbsr;
-  kbdr = 0;
-  mcr = 0x8000;
+  devices = setKeyboard kbsr 0 freshDevices;
   clock = 0;
 }
 
@@ -44,11 +43,11 @@ pub record NoInvitedMistake : Type 0 where
   pub psr-from-supervisor-stack :
       step (supervisor 0 0 0x3FFE) (set (set (words 0x8000 0) 0x3FFE 0x3001) 0x3FFF 0x8002) .machine .psr ≡ 0x8002
   -- "reading a word before checking privilege": LDR from KBDR in User mode leaves ready set
-  pub check-before-read : step (recordAt 0x8002 0x3000 0 0xFE02 0xFDFF 0 0x3000 0x8000) (words 0x6040 0) .machine .kbsr ≡ 0x8000
+  pub check-before-read : step (recordAt 0x8002 0x3000 0 0xFE02 0xFDFF 0 0x3000 0x8000) (words 0x6040 0) .machine .devices .kbsr ≡ 0x8000
   -- "LEA setting codes"
   pub lea-keeps-codes : step (user 0 0 0) (words 0xE1FF 0) .machine .psr ≡ 0x8002
   -- "clearing ready at interrupt entry"
-  pub ready-kept-at-entry : step (recordAt 0x8002 0x3000 0 0 0xFDFF 0 0x3000 0xC000) (words 0 0) .machine .kbsr ≡ 0xC000
+  pub ready-kept-at-entry : step (recordAt 0x8002 0x3000 0 0 0xFDFF 0 0x3000 0xC000) (words 0 0) .machine .devices .kbsr ≡ 0xC000
   -- a step does what it does: ADD R0, R0, #1
   pub add-adds : getD (step (user 6 0 0) (words 0x1021 0) .machine .regs) 0 0 ≡ 7
   -- "JSRR uses the old base register, also when it is R7"

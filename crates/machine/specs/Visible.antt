@@ -23,7 +23,7 @@ pub record SameVisible (m₁ m₂ : Machine) (mem₁ mem₂ : List ℕ) : Type 0
   pub regs : m₁ .regs ≡ m₂ .regs
   pub pc : m₁ .pc ≡ m₂ .pc
   pub psr : m₁ .psr ≡ m₂ .psr
-  pub mcr : m₁ .mcr ≡ m₂ .mcr
+  pub mcr : m₁ .devices .mcr ≡ m₂ .devices .mcr
   pub words : userWords mem₁ ≡ userWords mem₂
 
 -- What User mode cannot alter: MCR, both saved stack pointers, and the words outside x3000 to xFDFF.
@@ -36,7 +36,7 @@ pub record Hidden : Type 0 where
 
 abbrev pub hiddenOf : Machine → List ℕ → Hidden
 hiddenOf m mem = record {
-  mcr = m .mcr;
+  mcr = m .devices .mcr;
   «saved_ssp» = m .«saved_ssp»;
   «saved_usp» = m .«saved_usp»;
   below = wordsBelow mem;

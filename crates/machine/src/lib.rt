@@ -1,9 +1,19 @@
 // The LC-3 machine: its record, and the types that its definitions share with the code.
 // What one step does is defined in specs/, in the order of document 01; the crate `step` computes it.
 ghost use mathlib.Core.Path.{_≡_};
-ghost use Rattle.machine.specs.Record.{whole};
+ghost use mathlib.Core.List.{List};
+ghost use Prim.Native.Nat.{ℕ};
+ghost use Rattle.machine.specs.Record.{whole, withDevices, setKeyboard, setMcr, freshDevices};
 
-// The record of document 01, as a host keeps it. Defined bits: PSR x8707, KBSR xC000, KBDR x00FF, MCR x8000.
+// What the devices keep. Code that touches no device hands it on whole. Defined bits: KBSR xC000, KBDR x00FF, MCR x8000.
+#[repr(C)]
+pub struct Devices {
+    pub kbsr: u16,
+    pub kbdr: u16,
+    pub mcr: u16,
+}
+
+// The record of document 01, as a host keeps it. Defined bits of PSR: x8707.
 #[repr(C)]
 pub struct Machine {
     pub regs: [u16; 8],
@@ -11,21 +21,17 @@ pub struct Machine {
     pub psr: u16,
     pub saved_ssp: u16,
     pub saved_usp: u16,
-    pub kbsr: u16,
-    pub kbdr: u16,
-    pub mcr: u16,
+    pub devices: Devices,
     pub clock: u64,
 }
 
-// The record but its registers and clock: numbers only, so that it can stay in the processor's own registers during a run.
+// The record but its registers and clock: no array, so that it can stay in the processor's own registers during a run.
 pub struct Control {
     pub pc: u16,
     pub psr: u16,
     pub saved_ssp: u16,
     pub saved_usp: u16,
-    pub kbsr: u16,
-    pub kbdr: u16,
-    pub mcr: u16,
+    pub devices: Devices,
 }
 
 // What an instruction asks for, in numbers only. It is made without a look at memory or devices.
@@ -56,18 +62,63 @@ pub enum Pending {
     Interrupt(u16, u16),
 }
 
+// The devices with these keyboard registers.
+pub fn set_keyboard(d: Devices, kbsr: u16, kbdr: u16) -> Devices
+    ensures { λ r. ⌜ r ≡ setKeyboard kbsr kbdr d ⌝ }
+{
+    Devices {
+        kbsr,
+        kbdr,
+        mcr: d.mcr,
+    }
+}
+
+// The devices with this MCR.
+pub fn set_mcr(d: Devices, mcr: u16) -> Devices
+    ensures { λ r. ⌜ r ≡ setMcr mcr d ⌝ }
+{
+    Devices {
+        kbsr: d.kbsr,
+        kbdr: d.kbdr,
+        mcr,
+    }
+}
+
+// The devices of a fresh record.
+pub fn fresh_devices() -> Devices
+    ensures { λ r. ⌜ r ≡ freshDevices ⌝ }
+{
+    Devices {
+        kbsr: 0,
+        kbdr: 0,
+        mcr: 0x8000,
+    }
+}
+
+// The record with other devices.
+pub fn with_devices(c: Control, devices: Devices) -> Control
+    ensures { λ r. ⌜ ((regs : List ℕ) (clock : ℕ) → whole regs clock r ≡ withDevices devices (whole regs clock c)) ⌝ }
+{
+    Control {
+        pc: c.pc,
+        psr: c.psr,
+        saved_ssp: c.saved_ssp,
+        saved_usp: c.saved_usp,
+        devices,
+    }
+}
+
 // The record taken apart: all but the registers and the clock.
 pub fn control_of(m: Machine) -> Control
     ensures { λ r. ⌜ whole (m .regs) (m .clock) r ≡ m ⌝ }
 {
+    let devices = m.devices;
     Control {
         pc: m.pc,
         psr: m.psr,
         saved_ssp: m.saved_ssp,
         saved_usp: m.saved_usp,
-        kbsr: m.kbsr,
-        kbdr: m.kbdr,
-        mcr: m.mcr,
+        devices,
     }
 }
 
@@ -75,15 +126,14 @@ pub fn control_of(m: Machine) -> Control
 pub fn machine_of(regs: [u16; 8], clock: u64, c: Control) -> Machine
     ensures { λ r. ⌜ r ≡ whole regs clock c ⌝ }
 {
+    let devices = c.devices;
     Machine {
         regs,
         pc: c.pc,
         psr: c.psr,
         saved_ssp: c.saved_ssp,
         saved_usp: c.saved_usp,
-        kbsr: c.kbsr,
-        kbdr: c.kbdr,
-        mcr: c.mcr,
+        devices,
         clock,
     }
 }

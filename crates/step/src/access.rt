@@ -3,6 +3,7 @@ use crate::Obeyed;
 use crate::devices::load;
 use crate::devices::store;
 use crate::devices::unshown;
+use crate::devices::with_kbsr;
 use crate::entry::raise;
 use crate::protection::is_denied;
 use crate::psr::with_codes;
@@ -26,14 +27,13 @@ ghost use Rattle.step.specs.Delivery.{effect, quiet, after, delivered};
 fn after_instruction(c: Control, pc: u16, psr: u16) -> Control
     ensures { λ n. ⌜ ((regs : List ℕ) (clock : ℕ) (codes : Codes) → psr ≡ recoded codes (c .psr) → whole regs clock n ≡ afterInstruction regs pc codes (whole regs clock c)) ⌝ }
 {
+    let devices = c.devices;
     Control {
         pc,
         psr,
         saved_ssp: c.saved_ssp,
         saved_usp: c.saved_usp,
-        kbsr: c.kbsr,
-        kbdr: c.kbdr,
-        mcr: c.mcr,
+        devices,
     }
 }
 
@@ -62,17 +62,9 @@ pub fn go_on_at(c: Control, pc: u16) -> Control
 
 // The record after a load, by its KBSR.
 fn after_load(c: Control, kbsr: u16) -> Control
-    ensures { λ n. ⌜ ((a clock : ℕ) (regs : List ℕ) → kbsr ≡ kbsrAfterLoad a (c .kbsr) → whole regs clock n ≡ afterLoad a (whole regs clock c)) ⌝ }
+    ensures { λ n. ⌜ ((a clock : ℕ) (regs : List ℕ) → kbsr ≡ kbsrAfterLoad a (c .devices .kbsr) → whole regs clock n ≡ afterLoad a (whole regs clock c)) ⌝ }
 {
-    Control {
-        pc: c.pc,
-        psr: c.psr,
-        saved_ssp: c.saved_ssp,
-        saved_usp: c.saved_usp,
-        kbsr,
-        kbdr: c.kbdr,
-        mcr: c.mcr,
-    }
+    with_kbsr(c, kbsr)
 }
 
 pub fn load_to(c: Control, regs: &mut [u16; 8], memory: &mut [u16], r: u8, a: u16) -> Control

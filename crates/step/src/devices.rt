@@ -5,12 +5,15 @@ use crate::Obeyed;
 use crate::memory::set_word;
 use crate::memory::word_at;
 use machine::Control;
+use machine::set_keyboard;
+use machine::set_mcr;
+use machine::with_devices;
 ghost use mathlib.Core.Path.{_≡_};
 ghost use mathlib.Core.List.{List};
 ghost use Prim.Native.Nat.{ℕ};
 ghost use lib.ListN.{length};
-ghost use Rattle.machine.specs.Record.{whole};
-ghost use Rattle.machine.specs.Devices.{withDevices, ddrStore, stored};
+ghost use Rattle.machine.specs.Record.{whole, withPsr, withKbsr, withMcr};
+ghost use Rattle.machine.specs.Devices.{ddrStore, stored};
 ghost use Rattle.step.specs.declared.Display.the-variants.{Unchanged};
 ghost use Rattle.step.specs.Delivery.{loadOf, effect, after, delivered};
 
@@ -18,11 +21,11 @@ pub fn load(c: Control, memory: &[u16], a: u16) -> Loaded
     requires { ⌜ length (now memory) ≡ 65536 ⌝ }
     ensures { λ r. ⌜ ((regs : List ℕ) (clock : ℕ) → r ≡ loadOf a (whole regs clock c) (now (memory .entry))) ⌝ }
 {
-    let kbsr = c.kbsr;
+    let kbsr = c.devices.kbsr;
     match a {
         0xFE00 => Loaded { value: kbsr, kbsr },
         0xFE02 => Loaded {
-            value: c.kbdr,
+            value: c.devices.kbdr,
             kbsr: kbsr % 0x8000,
         },
         0xFE04 => Loaded {
@@ -31,7 +34,10 @@ pub fn load(c: Control, memory: &[u16], a: u16) -> Loaded
         },
         0xFE06 => Loaded { value: 0, kbsr },
         0xFFFC => Loaded { value: c.psr, kbsr },
-        0xFFFE => Loaded { value: c.mcr, kbsr },
+        0xFFFE => Loaded {
+            value: c.devices.mcr,
+            kbsr,
+        },
         _ => {
             let value = word_at(memory, a);
             Loaded { value, kbsr }
@@ -66,18 +72,29 @@ fn show(c: Control, output: &mut [u8], v: u16) -> Obeyed
     }
 }
 
-// The record after a store to KBSR, PSR or MCR.
-fn with_devices(c: Control, kbsr: u16, psr: u16, mcr: u16) -> Control
-    ensures { λ n. ⌜ ((regs : List ℕ) (clock : ℕ) → whole regs clock n ≡ withDevices kbsr psr mcr (whole regs clock c)) ⌝ }
+// The record with this KBSR, this MCR, this PSR: after a store, and after a load that clears ready.
+pub fn with_kbsr(c: Control, kbsr: u16) -> Control
+    ensures { λ n. ⌜ ((regs : List ℕ) (clock : ℕ) → whole regs clock n ≡ withKbsr kbsr (whole regs clock c)) ⌝ }
 {
+    with_devices(c, set_keyboard(c.devices, kbsr, c.devices.kbdr))
+}
+
+fn with_mcr(c: Control, mcr: u16) -> Control
+    ensures { λ n. ⌜ ((regs : List ℕ) (clock : ℕ) → whole regs clock n ≡ withMcr mcr (whole regs clock c)) ⌝ }
+{
+    with_devices(c, set_mcr(c.devices, mcr))
+}
+
+fn with_psr(c: Control, psr: u16) -> Control
+    ensures { λ n. ⌜ ((regs : List ℕ) (clock : ℕ) → whole regs clock n ≡ withPsr psr (whole regs clock c)) ⌝ }
+{
+    let devices = c.devices;
     Control {
         pc: c.pc,
         psr,
         saved_ssp: c.saved_ssp,
         saved_usp: c.saved_usp,
-        kbsr,
-        kbdr: c.kbdr,
-        mcr,
+        devices,
     }
 }
 
@@ -87,18 +104,18 @@ pub fn store(c: Control, memory: &mut [u16], output: &mut [u8], v: u16, a: u16) 
 {
     match a {
         0xFE00 => {
-            let kbsr = c.kbsr / 0x8000 * 0x8000 + v / 0x4000 % 2 * 0x4000;
-            unshown(with_devices(c, kbsr, c.psr, c.mcr))
+            let kbsr = c.devices.kbsr / 0x8000 * 0x8000 + v / 0x4000 % 2 * 0x4000;
+            unshown(with_kbsr(c, kbsr))
         }
         0xFE02 | 0xFE04 => unshown(c),
         0xFE06 => show(c, output, v),
         0xFFFC => {
             let psr = c.psr / 0x8000 * 0x8000 + v / 256 % 8 * 256 + v % 8;
-            unshown(with_devices(c, c.kbsr, psr, c.mcr))
+            unshown(with_psr(c, psr))
         }
         0xFFFE => {
             let mcr = v / 0x8000 * 0x8000;
-            unshown(with_devices(c, c.kbsr, c.psr, mcr))
+            unshown(with_mcr(c, mcr))
         }
         _ => {
             set_word(memory, a, v);

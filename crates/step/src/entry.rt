@@ -51,14 +51,13 @@ fn enter(
     set_register(regs, 6, before(before(sp)));
     let saved_usp = by_mode(c.psr, r6, c.saved_usp);
     let target = word_at(memory, vector);
+    let devices = c.devices;
     Control {
         pc: target,
         psr,
         saved_ssp: c.saved_ssp,
         saved_usp,
-        kbsr: c.kbsr,
-        kbdr: c.kbdr,
-        mcr: c.mcr,
+        devices,
     }
 }
 

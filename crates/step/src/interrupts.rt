@@ -11,7 +11,7 @@ ghost use Rattle.machine.specs.Interrupts.{pendingInterrupt};
 pub fn pending_interrupt(c: Control) -> Pending
     ensures { λ r. ⌜ ((regs : List ℕ) (clock : ℕ) → r ≡ pendingInterrupt (whole regs clock c)) ⌝ }
 {
-    if c.kbsr < 0xC000 {
+    if c.devices.kbsr < 0xC000 {
         return Pending::Nothing;
     }
     if c.psr / 256 % 8 < 4 {

@@ -1,6 +1,8 @@
 // The start of a step: the keys whose time is the clock arrive, in list order.
 use crate::Arrived;
 use machine::Control;
+use machine::set_keyboard;
+use machine::with_devices;
 ghost use mathlib.Core.Path.{_≡_};
 ghost use mathlib.Core.List.{List, [], _∷_};
 ghost use Prim.Native.Nat.{ℕ};
@@ -13,16 +15,9 @@ ghost use Rattle.step.specs.Delivery.{arrival, arrivalOf};
 pub fn press(c: Control, byte: u8) -> Control
     ensures { λ r. ⌜ ((regs : List ℕ) (clock : ℕ) → whole regs clock r ≡ afterKeys (byte ∷ []) (whole regs clock c)) ⌝ }
 {
-    let kbsr = c.kbsr % 0x8000 + 0x8000;
-    Control {
-        pc: c.pc,
-        psr: c.psr,
-        saved_ssp: c.saved_ssp,
-        saved_usp: c.saved_usp,
-        kbsr,
-        kbdr: byte as u16,
-        mcr: c.mcr,
-    }
+    let d = c.devices;
+    let kbsr = d.kbsr % 0x8000 + 0x8000;
+    with_devices(c, set_keyboard(d, kbsr, byte as u16))
 }
 
 pub fn arrive(c: Control, t: u64, times: &[u64], bytes: &[u8], from: usize) -> Arrived

@@ -17,6 +17,7 @@ ghost use Rattle.step.specs.Delivery.{effect, quiet};
 fn after_return(c: Control, regs: &mut [u16; 8], pc: u16, psr: u16, sp: u16) -> Control
     ensures { λ r. ⌜ ((clock : ℕ) → whole (now (regs .exit)) clock r ≡ afterReturn pc psr sp (whole (now (regs .entry)) clock c)) ⌝ }
 {
+    let devices = c.devices;
     if psr < 0x8000 {
         set_register(regs, 6, sp);
         return Control {
@@ -24,9 +25,7 @@ fn after_return(c: Control, regs: &mut [u16; 8], pc: u16, psr: u16, sp: u16) -> 
             psr,
             saved_ssp: c.saved_ssp,
             saved_usp: c.saved_usp,
-            kbsr: c.kbsr,
-            kbdr: c.kbdr,
-            mcr: c.mcr,
+            devices,
         };
     }
     set_register(regs, 6, c.saved_usp);
@@ -35,9 +34,7 @@ fn after_return(c: Control, regs: &mut [u16; 8], pc: u16, psr: u16, sp: u16) -> 
         psr,
         saved_ssp: sp,
         saved_usp: c.saved_usp,
-        kbsr: c.kbsr,
-        kbdr: c.kbdr,
-        mcr: c.mcr,
+        devices,
     }
 }
 

@@ -15,7 +15,7 @@ returns c =
     λ regs clock.
     let a = c .before .before .before .before .before .before .args in
     rw (c .before .before .before .match .keys1, c .unshown .ensures)
-    (ap (λ (m : Machine). delivered regs (a .memory .now) (a .output .now) (quiet m (a .memory .now))) (c .before .with-devices .ensures regs clock))
+    (ap (λ (m : Machine). delivered regs (a .memory .now) (a .output .now) (quiet m (a .memory .now))) (c .before .with-kbsr .ensures regs clock))
 
 returns-2 : tie.Need-returns-2
 unfolding stored isDevice deviceStore
@@ -33,7 +33,7 @@ returns-4 c =
     λ regs clock.
     let a = c .before .before .before .before .before .before .args in
     rw (c .before .before .before .match .keys4, c .unshown3 .ensures)
-    (ap (λ (m : Machine). delivered regs (a .memory .now) (a .output .now) (quiet m (a .memory .now))) (c .before .with-devices2 .ensures regs clock))
+    (ap (λ (m : Machine). delivered regs (a .memory .now) (a .output .now) (quiet m (a .memory .now))) (c .before .with-psr .ensures regs clock))
 
 returns-5 : tie.Need-returns-5
 unfolding stored isDevice deviceStore mcrStore
@@ -41,7 +41,7 @@ returns-5 c =
     λ regs clock.
     let a = c .before .before .before .before .before .args in
     rw (c .before .before .match .keys5, c .unshown4 .ensures)
-    (ap (λ (m : Machine). delivered regs (a .memory .now) (a .output .now) (quiet m (a .memory .now))) (c .before .with-devices3 .ensures regs clock))
+    (ap (λ (m : Machine). delivered regs (a .memory .now) (a .output .now) (quiet m (a .memory .now))) (c .before .with-mcr .ensures regs clock))
 
 returns-6 : tie.Need-returns-6
 unfolding stored

@@ -8,7 +8,7 @@ returns : tie.Need-returns
 unfolding entry afterEntry stackPointerOnEntry userStackOnEntry
 returns c =
     λ clock reason h.
-    rw (h, c .word-at .ensures, c .before .before .by-mode2 .ensures, c .before .before .before .set-register .ensures, c .before .before .before .before .before3 .ensures, c .before .before .before .before .before .before2 .ensures, c .before .before .before .before .before .before .before .before .before .push-two .ensures, c .before .before .before .before .before .before .before .before .before .before .before .by-mode .ensures, c .before .before .before .before .before .before .before .before .before .before .before .before .register .ensures)
+    rw (h, c .before .word-at .ensures, c .before .before .before .by-mode2 .ensures, c .before .before .before .before .set-register .ensures, c .before .before .before .before .before .before3 .ensures, c .before .before .before .before .before .before .before2 .ensures, c .before .before .before .before .before .before .before .before .before .before .push-two .ensures, c .before .before .before .before .before .before .before .before .before .before .before .before .by-mode .ensures, c .before .before .before .before .before .before .before .before .before .before .before .before .before .register .ensures)
 
 pub enter-spec : {M : Type 1} → statement M
 enter-spec = tie.close (tie.spec (λ c κs. search needs) (λ c κs. search needs) (λ c κs. search needs) (λ c κs. search needs) (λ c κs. search needs) (λ c κs. search needs) (λ c κs. search needs) (λ c κs. search needs) (λ c. search needs) returns)

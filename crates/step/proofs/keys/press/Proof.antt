@@ -8,7 +8,7 @@ use Rattle.step.proofs.keys.press.Tie as tie
 returns : tie.Need-returns
 unfolding afterKeys readyAfter lastKey
 returns c =
-    λ regs clock. refl
+    λ regs clock. rw (c .with-devices .ensures regs clock, c .before .set-keyboard .ensures)
 
 pub press-spec : {M : Type 1} → statement M
-press-spec = tie.close (tie.spec (λ c. search needs) returns)
+press-spec = tie.close (tie.spec (λ c. search needs) (λ c κs. search needs) (λ c κs. search needs) returns)
