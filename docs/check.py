@@ -1,0 +1,84 @@
+#!/usr/bin/env python3
+"""Checks what the documents say of the files beside them, and exits 1 with a line for each difference.
+
+- Each wrong program, crates/CRATE/must-fail/NAME.edit, stands once in the tables of docs/PROOFS.md whose first heading
+  is Edit, as `CRATE/NAME`; and these tables name no other.
+- Each rule that a document, a crate, the header or the Rust wrapper cites (M4.1) is in docs/MACHINE.md, once.
+- Each relative link of a document leads to a file.
+
+With an argument, the root of the repository to check; otherwise the one that this file is in.
+"""
+
+import re
+import sys
+from collections import Counter
+from pathlib import Path
+from typing import Iterator
+
+EDIT = re.compile(r"`([^`]*)`")
+RULE = re.compile(r"\bM\d+\.\d+\b")
+DEFINED_RULE = re.compile(r"\*\*(M\d+\.\d+)\*\*")
+LINK = re.compile(r"\]\(([^)\s]+)\)")
+FENCE = re.compile(r"^```.*?^```$", re.MULTILINE | re.DOTALL)
+CITING = ("crates/*/src/**/*.rt", "crates/*/*/**/*.antt", "include/*.h", "host/src/*.rs")
+
+
+def rows(markdown: str) -> Iterator[list[str]]:
+    """The cells of each row, its table's first heading put before them."""
+    heading = None
+    for line in markdown.splitlines():
+        if not line.startswith("|"):
+            heading = None
+            continue
+        cells = [cell.strip() for cell in line.strip("|").split("|")]
+        if heading is None:
+            heading = cells[0]
+        elif set(cells[0]) - set("-:"):
+            yield [heading, *cells]
+
+
+def edits(root: Path) -> list[str]:
+    """Differences between the must-fail edits and those that PROOFS.md lists."""
+    text = (root / "docs/PROOFS.md").read_text(encoding="utf-8")
+    listed = Counter(name for heading, first, *_ in rows(text) if heading == "Edit" for name in EDIT.findall(first))
+    files = {f"{path.parts[-3]}/{path.stem}" for path in root.glob("crates/*/must-fail/*.edit")}
+    return (
+        [f"docs/PROOFS.md: no table of edits has {name}" for name in sorted(files - listed.keys())]
+        + [f"docs/PROOFS.md: no must-fail edit is named {name}" for name in sorted(listed.keys() - files)]
+        + [f"docs/PROOFS.md: {name} stands {count} times" for name, count in sorted(listed.items()) if count > 1]
+    )
+
+
+def rules(root: Path, documents: list[Path]) -> list[str]:
+    """Rules that are cited and not in MACHINE.md, or are there twice."""
+    defined = Counter(DEFINED_RULE.findall((root / "docs/MACHINE.md").read_text(encoding="utf-8")))
+    found = [f"docs/MACHINE.md: {rule} stands {count} times" for rule, count in defined.items() if count > 1]
+    for path in [*documents, *(path for pattern in CITING for path in sorted(root.glob(pattern)))]:
+        cited = set(RULE.findall(path.read_text(encoding="utf-8"))) - defined.keys()
+        found += [f"{path.relative_to(root)}: docs/MACHINE.md has no {rule}" for rule in sorted(cited)]
+    return found
+
+
+def links(root: Path, documents: list[Path]) -> list[str]:
+    """Relative links that lead to no file."""
+    return [
+        f"{path.relative_to(root)}: no file {target}"
+        for path in documents
+        for target in LINK.findall(FENCE.sub("", path.read_text(encoding="utf-8")))
+        if not re.match(r"[a-z]+:|#", target) and not (path.parent / target.split("#")[0]).exists()
+    ]
+
+
+def main() -> int:
+    root = Path(sys.argv[1] if len(sys.argv) > 1 else Path(__file__).parent.parent).resolve()
+    documents = [*sorted(root.glob("*.md")), *sorted(root.glob("docs/**/*.md"))]
+    found = edits(root) + rules(root, documents) + links(root, documents)
+    for line in found:
+        print(line, file=sys.stderr)
+    if not found:
+        print(f"documents: {len(documents)} agree with the files beside them")
+    return 1 if found else 0
+
+
+if __name__ == "__main__":
+    sys.exit(main())
