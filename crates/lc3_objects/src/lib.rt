@@ -9,14 +9,14 @@ ghost use Rattle.lc3_objects.specs.Answers.{hostLoading, hostSaving};
 pub struct Lc3Loaded {
     pub words: u32,
     pub origin: u16,
-    pub refusal: u16,
+    pub refusal: u32,
 }
 
 // The number of bytes written, with 0; or 0, with the number of the refusal.
 #[repr(C)]
 pub struct Lc3Counted {
     pub count: u64,
-    pub refusal: u64,
+    pub refusal: u32,
 }
 
 #[no_mangle]
@@ -27,7 +27,7 @@ pub extern "C" fn lc3_load(file: &[u8], memory: &mut [u16]) -> Lc3Loaded
     Lc3Loaded {
         words: loaded.words,
         origin: loaded.origin,
-        refusal: loaded.refusal as u16,
+        refusal: loaded.refusal as u32,
     }
 }
 
@@ -43,6 +43,6 @@ pub extern "C" fn lc3_save(
     let saved = object::save(memory, origin, words, output);
     Lc3Counted {
         count: saved.count as u64,
-        refusal: saved.refusal as u64,
+        refusal: saved.refusal as u32,
     }
 }

@@ -34,14 +34,14 @@ pub struct Lc3Instruction {
 #[repr(C)]
 pub struct Lc3Written {
     pub word: u16,
-    pub refusal: u16,
+    pub refusal: u32,
 }
 
 // A byte count and 0, or 0 and the reason of the refusal, 16.
 #[repr(C)]
 pub struct Lc3Counted {
     pub count: u64,
-    pub refusal: u64,
+    pub refusal: u32,
 }
 
 // The instruction that a word is.
@@ -79,7 +79,7 @@ pub extern "C" fn lc3_write(instruction: Lc3Instruction) -> Lc3Written
     let written = write(i);
     Lc3Written {
         word: written.word,
-        refusal: written.refusal as u16,
+        refusal: written.refusal as u32,
     }
 }
 
@@ -91,6 +91,6 @@ pub extern "C" fn lc3_line(word: u16, output: &mut [u8]) -> Lc3Counted
     let counted = line(word, output);
     Lc3Counted {
         count: counted.count as u64,
-        refusal: counted.refusal as u64,
+        refusal: counted.refusal as u32,
     }
 }

@@ -1,0 +1,2 @@
+-- The version of the host interface.
+pub mod Version
