@@ -4,7 +4,10 @@
 # make bench  time against C: runs, lines of text, and object files
 # make soak   many more random runs against the reference simulator
 
-ARCHIVES = target/staticlib/liblc3_machine.a target/staticlib/liblc3_words.a target/staticlib/liblc3_objects.a
+EXPORTS = lc3_machine lc3_words lc3_objects lc3_version
+ARCHIVES = $(EXPORTS:%=target/staticlib/lib%.a)
+# The shared library has the name by which hosts ask for it: it ends in the version of the header.
+SONAME := liblc3.so.$(shell sed -n 's/^.define LC3_VERSION //p' include/lc3.h)
 CARGO = cargo test --quiet --offline --release --manifest-path host/Cargo.toml --target-dir build/cargo
 
 .PHONY: run test lib bench soak format host clean
@@ -37,14 +40,20 @@ lib: build/liblc3.so
 target/staticlib/lib%.a: crates.txt $(shell find crates -name '*.rt' -o -name '*.antt')
 	rt staticlib $*
 
+# The archives' objects under names of their own.
 build/liblc3.a: $(ARCHIVES)
-	mkdir -p build/objects
-	cd build/objects && rm -f *.o && for a in $(ARCHIVES); do n=$$(basename $$a .a); mkdir -p $$n && cd $$n && ar x ../../../$$a && for o in *.o; do mv $$o ../$$n-$$o; done && cd .. && rmdir $$n; done
-	rm -f $@
+	rm -rf $@ build/objects
+	for name in $(EXPORTS); do \
+	    mkdir -p build/objects/$$name && (cd build/objects/$$name && ar x ../../../target/staticlib/lib$$name.a) && \
+	    for o in build/objects/$$name/*.o; do mv $$o build/objects/$$name-$${o##*/} || exit; done || exit; \
+	done
 	ar rcs $@ build/objects/*.o
 
-build/liblc3.so: build/liblc3.a
-	gcc -shared -o $@ -Wl,--whole-archive $< -Wl,--no-whole-archive
+build/$(SONAME): build/liblc3.a
+	gcc -shared -Wl,-soname,$(SONAME) -o $@ -Wl,--whole-archive $< -Wl,--no-whole-archive
+
+build/liblc3.so: build/$(SONAME)
+	ln -sf $(SONAME) $@
 
 bench: lib
 	host/bench/run.sh

@@ -1,25 +1,33 @@
 /*
  * lc3.h: the LC-3 machine with privilege, interrupts and a console, for hosts in C and C++.
- * Interface version 1, for x86-64 with the System V calling convention.
+ * For x86-64 with the System V calling convention.
  *
- *   lc3_fresh   makes the record of a machine that has not run yet
- *   lc3_run     runs up to n steps over lent memory
- *   lc3_step    runs one step and alters the host's own record
- *   lc3_read    reads a word as an instruction
- *   lc3_write   writes an instruction as a word
- *   lc3_line    writes a word as a line of text
- *   lc3_load    reads an object file into lent memory
- *   lc3_save    writes an object file from a range of lent memory
+ *   lc3_version  the version of the interface that the library was built for
+ *   lc3_fresh    makes the record of a machine that has not run yet
+ *   lc3_run      runs up to n steps over lent memory
+ *   lc3_step     runs one step and alters the host's own record
+ *   lc3_read     reads a word as an instruction
+ *   lc3_write    writes an instruction as a word
+ *   lc3_line     writes a word as a line of text
+ *   lc3_load     reads an object file into lent memory
+ *   lc3_save     writes an object file from a range of lent memory
  *
  * What a host owes and may rely on:
  *
- * - Buffers are lent for the length of the call. The library keeps no pointer, allocates nothing
- *   and has no state of its own, so calls with separate buffers may be made from several threads.
- * - Each buffer is a pointer and a number of elements (not bytes). The pointer must be valid for
- *   that many elements and aligned for them. An empty buffer takes any aligned pointer but NULL.
- * - Memory, times, bytes, output, file and the record lent to lc3_step may not overlap.
- * - Every call is answered: a call that cannot be obeyed is refused with a number that says why,
- *   and a refused call leaves the record and every buffer as it was.
+ * - The library keeps nothing. Buffers are lent for the length of the call; it holds no pointer
+ *   after it, allocates nothing and has no state of its own.
+ * - Buffers must be real and apart. Each is a pointer and a number of elements (not bytes): the
+ *   pointer must be valid for that many elements and aligned for them. An empty buffer takes any
+ *   aligned pointer but NULL. Memory, times, bytes, output, file and the record lent to lc3_step
+ *   may not overlap.
+ * - Several threads may call at once. What a call only reads they may share while nobody writes
+ *   it: times and bytes of lc3_run and lc3_step, file of lc3_load, memory of lc3_save. What a call
+ *   writes is that call's alone: memory of lc3_run, lc3_step and lc3_load, every output, and the
+ *   record lent to lc3_step.
+ * - Every call is answered. One that cannot be obeyed is refused with a number that says why, and
+ *   a refused call leaves every field of the record and every buffer as it was.
+ * - Padding means nothing. The bytes of a struct that belong to no field may hold anything and may
+ *   change in any call: compare structs field by field.
  *
  * Numbers with a leading x are hexadecimal. PSR, Saved_SSP, KBSR and the other terms are those of
  * Patt and Patel, Introduction to Computing Systems, third edition, Appendix A.
@@ -34,6 +42,13 @@
 #ifdef __cplusplus
 extern "C" {
 #endif
+
+/*
+ * The version of this interface. It rises by 1 whenever the layout of a struct or the meaning of a
+ * call changes. The name that the shared library is loaded by (its SONAME) ends in it, as in
+ * liblc3.so.2, so that no host meets another version than it was built for.
+ */
+#define LC3_VERSION 2
 
 /* Sizes and limits. */
 #define LC3_MEMORY_WORDS 65536            /* words of memory: no other number is accepted */
@@ -62,37 +77,46 @@ extern "C" {
 #define LC3_ADDRESS_PSR 0xFFFC
 #define LC3_ADDRESS_MCR 0xFFFE
 
-/* Why a call was refused: of the reasons that apply, the first in the order named for the call. */
+/*
+ * Why a call was refused. Where several reasons apply, the first in the call's own order is
+ * answered:
+ *
+ *   lc3_write           1, 2, 3
+ *   lc3_run, lc3_step   11, 12, 13, 14, 15
+ *   lc3_line            16
+ *   lc3_load            11, 17, 18
+ *   lc3_save            11, 18, 16
+ */
 enum {
     LC3_ACCEPTED = 0,
-    /* lc3_write */
     LC3_REFUSED_REGISTER = 1, /* a register is above 7 */
     LC3_REFUSED_FIELD = 2,    /* a value is out of its field's range, or the kind is unknown */
     LC3_REFUSED_MASK = 3,     /* the mask of a BR is above 7 */
-    /* lc3_run and lc3_step */
-    LC3_REFUSED_MEMORY = 11, /* memory is not LC3_MEMORY_WORDS words */
-    LC3_REFUSED_RECORD = 12, /* an undefined bit in PSR, KBSR, KBDR or MCR, or a clock too high */
-    LC3_REFUSED_STEPS = 13,  /* n is above LC3_MAX_STEPS, or clock + n above LC3_MAX_CLOCK */
-    LC3_REFUSED_LISTS = 14,  /* times and bytes differ in length */
-    LC3_REFUSED_TIMES = 15,  /* a time is below the clock or below the time before it */
-    /* lc3_line: 16; lc3_load: 11, 17, 18; lc3_save: 11, 18, 16 */
-    LC3_REFUSED_OUTPUT = 16, /* the line, or the file, does not fit the output */
-    LC3_REFUSED_FILE = 17,   /* the file has an odd number of bytes, or fewer than two */
-    LC3_REFUSED_RANGE = 18   /* origin + words is above LC3_MEMORY_WORDS */
+    LC3_REFUSED_MEMORY = 11,  /* memory is not LC3_MEMORY_WORDS words */
+    LC3_REFUSED_RECORD = 12,  /* an undefined bit in PSR, KBSR, KBDR or MCR, or a clock too high */
+    LC3_REFUSED_STEPS = 13,   /* n is above LC3_MAX_STEPS, or clock + n above LC3_MAX_CLOCK */
+    LC3_REFUSED_LISTS = 14,   /* times and bytes differ in length */
+    LC3_REFUSED_TIMES = 15,   /* a time is below the clock or below the time before it */
+    LC3_REFUSED_OUTPUT = 16,  /* the line, or the file, does not fit the output */
+    LC3_REFUSED_FILE = 17,    /* the file has an odd number of bytes, or fewer than two */
+    LC3_REFUSED_RANGE = 18    /* origin + words is above LC3_MEMORY_WORDS */
 };
 
-/* Why a run stopped. Tested before each step, in this order; nothing of the next step, not even
- * the arrival of its keys, has happened. */
+/*
+ * Why a run stopped. The reasons are tested before each step, in this order; nothing of the next
+ * step, not even the arrival of its keys, has happened.
+ *
+ * LC3_DONE comes first, so a machine that halts in the last step that was asked for answers
+ * LC3_DONE with the MCR's clock enable clear. A host that has come to its own limit of steps asks
+ * the record: the machine is halted if (record.mcr & LC3_MCR_CLOCK) == 0.
+ */
 enum {
     LC3_DONE = 0,       /* n steps were made */
     LC3_HALTED = 1,     /* the MCR's clock enable is clear */
     LC3_OUTPUT_FULL = 2 /* the next step stores to the DDR and the output has no free byte */
 };
 
-/*
- * The machine, apart from its memory. A host may read and alter every field between calls. Two
- * bytes before the clock are padding without meaning: compare records field by field.
- */
+/* The machine, apart from its memory. A host may read and alter every field between calls. */
 typedef struct {
     uint16_t regs[8];   /* R0 to R7 */
     uint16_t pc;        /* address of the next instruction */
@@ -105,7 +129,7 @@ typedef struct {
     uint64_t clock;     /* steps made since the machine was fresh */
 } lc3_record;
 
-/* What lc3_run answers. A refused call answers the record it was handed and zeros. */
+/* What lc3_run answers. A refused call answers the record that it was handed, and zeros. */
 typedef struct {
     lc3_record record; /* the machine after the run */
     uint64_t steps;    /* steps made */
@@ -122,9 +146,9 @@ typedef struct {
 } lc3_report;
 
 /*
- * An instruction: its kind, then registers a, b, c in the order in which the book's assembler
- * writes them, then the number it carries. An empty place is answered as 0 by lc3_read and
- * ignored by lc3_write.
+ * An instruction as numbers. First its kind, then registers a, b, c in the order in which the
+ * book's assembler writes them, then the number that it carries. An empty place is answered as 0
+ * by lc3_read and ignored by lc3_write.
  *
  *   kind                assembler            a      b      c      value
  *   LC3_BR              BRnzp LABEL          mask                 PCoffset9   -256 to 255
@@ -180,90 +204,101 @@ enum {
 /* What lc3_write answers. */
 typedef struct {
     uint16_t word;    /* 0 where refused */
-    uint16_t refusal; /* LC3_ACCEPTED, or LC3_REFUSED_REGISTER to LC3_REFUSED_MASK */
+    uint32_t refusal; /* LC3_ACCEPTED, or LC3_REFUSED_REGISTER to LC3_REFUSED_MASK */
 } lc3_written;
 
 /* What lc3_load answers; zeros where refused. */
 typedef struct {
-    uint32_t words;   /* words read */
+    uint32_t words;   /* words of the file, its origin not counted */
     uint16_t origin;  /* address of the first */
-    uint16_t refusal; /* LC3_ACCEPTED, LC3_REFUSED_MEMORY, LC3_REFUSED_FILE or LC3_REFUSED_RANGE */
+    uint32_t refusal; /* LC3_ACCEPTED, LC3_REFUSED_MEMORY, LC3_REFUSED_FILE or LC3_REFUSED_RANGE */
 } lc3_loaded;
 
-/* What a call answers that writes bytes to a lent output. */
+/* What lc3_line and lc3_save answer, which write bytes to a lent output. */
 typedef struct {
     uint64_t count;   /* bytes written; 0 where refused */
-    uint64_t refusal; /* LC3_ACCEPTED, or why the call was refused */
+    uint32_t refusal; /* LC3_ACCEPTED, or why the call was refused */
 } lc3_counted;
 
 /*
- * A machine at pc, in User mode if user holds and in Supervisor mode if not, with condition code
- * Z, priority 0, clock 0 and the clock enabled. The supervisor stack begins at x3000 and the user
- * stack at user_stack: R6 is the current mode's pointer, the other one is saved. All else is 0.
+ * The version of the interface that the library was built for. A host that loads the library at
+ * run time compares it with its header's LC3_VERSION before any other call.
+ */
+uint32_t lc3_version(void);
+
+/*
+ * Makes the record of a machine that has not run yet. It stands at pc, in User mode if user holds
+ * and in Supervisor mode if not, with condition code Z, priority 0, clock 0 and the clock enabled.
+ * The supervisor stack begins at x3000 and the user stack at user_stack: R6 is the current mode's
+ * pointer, the other one is saved. All else is 0.
  */
 lc3_record lc3_fresh(uint16_t pc, bool user, uint16_t user_stack);
 
 /*
- * Runs record over memory until a stop, for n steps at most.
+ * Runs a machine for up to n steps. It stops earlier where the machine is halted or the output is
+ * full.
  *
  * memory   65,536 words, altered in place. The words at the device addresses are never reached by
  *          loads and stores, but are by fetches, pushes, pops and vectors.
  * times    when each key is pressed, on the record's clock: none below it, none below the one
- *          before. Keys of equal time arrive in list order, and the last of them stays in KBDR.
- * bytes    the keys, as many as times.
+ *          before. Keys of equal time arrive in list order.
+ * bytes    the keys, as many as times. A key that finds the one before it unread replaces it: KBDR
+ *          holds one key.
  * output   takes the bytes shown, in order from the first; what lies after them is left as lent.
  *
  * To go on with a run, hand in the answered record, the same memory, the lists without their
  * first answer.keys keys, and an output with a free byte: any such division of a run comes to
  * what the undivided run does.
  */
-lc3_answer lc3_run(lc3_record record, uint16_t *memory, size_t words, const uint64_t *times,
+lc3_answer lc3_run(lc3_record record, uint16_t *memory, size_t memory_len, const uint64_t *times,
                    size_t times_len, const uint8_t *bytes, size_t bytes_len, uint8_t *output,
                    size_t output_len, uint64_t n);
 
 /*
- * Runs one step on the host's own record: as lc3_run with n = 1, its answered record stored in
- * *record. A refused or stopped step leaves *record as it was.
+ * Runs one step on the host's own record. It does what lc3_run does with n = 1, and stores the
+ * answered record in *record. A refused or stopped step leaves every field of *record as it was.
  */
-lc3_report lc3_step(lc3_record *record, uint16_t *memory, size_t words, const uint64_t *times,
+lc3_report lc3_step(lc3_record *record, uint16_t *memory, size_t memory_len, const uint64_t *times,
                     size_t times_len, const uint8_t *bytes, size_t bytes_len, uint8_t *output,
                     size_t output_len);
 
-/* The instruction that a word is. Every word is one; bits that its format fixes are ignored. */
+/* Reads a word as an instruction. Every word is one; bits that its format fixes are ignored. */
 lc3_instruction lc3_read(uint16_t word);
 
 /*
- * The word that an instruction is, with the bits that its format fixes as the format has them. A
+ * Writes an instruction as a word. The bits that its format fixes are as the format has them. A
  * kind above LC3_TRAP is refused with LC3_REFUSED_FIELD, whatever its operands; so is a value
  * that does not fit into 16 bits where the kind takes one, as any other value out of range.
  */
 lc3_written lc3_write(lc3_instruction instruction);
 
 /*
- * Writes a word as a line of text, with a line feed and no zero byte after it: the mnemonic, a
- * space, and the operands of the book's assembler parted by a comma and a space, with the offset
- * for a label. Registers are R0 to R7, signed fields # and a decimal number, a trap vector x and
- * two hexadecimal digits: x14E7 gives "ADD R2, R3, #7", x09FF "BRn #-1", xF025 "TRAP x25". RTI and
- * RET, which is JMP R7, stand alone. A reserved word, one with wrong fixed bits and a BR that tests
- * nothing are data: x0005 gives ".FILL x0005". Distinct words give distinct lines.
+ * Writes a word as a line of text: x14E7 gives "ADD R2, R3, #7" and a line feed. No zero byte
+ * follows, no line has more than LC3_MAX_LINE bytes, and what lies after it is left as lent.
  *
- * No line has more than LC3_MAX_LINE bytes. What lies after the line is left as lent.
+ * A line is the mnemonic, a space, and the operands of the book's assembler parted by a comma and a
+ * space, with the offset in place of a label. Registers are R0 to R7; signed fields are # and a
+ * decimal number; a trap vector is x and two hexadecimal digits. All letters are capitals, those of
+ * hexadecimal digits too, but for the codes of a BR, which follow it in the order n, z, p: x09FF
+ * gives "BRn #-1", x0A00 "BRnp #0", xF0AB "TRAP xAB". RTI, and RET for JMP R7, stand alone. A
+ * reserved word, one with wrong fixed bits and a BR that tests nothing are data, with four
+ * hexadecimal digits: xDEAD gives ".FILL xDEAD". Distinct words give distinct lines.
  */
 lc3_counted lc3_line(uint16_t word, uint8_t *output, size_t output_len);
 
 /*
- * Reads an object file: its first word is the origin, and the others are stored from there on.
- * Each word of the file is two bytes, the high byte first. No other word of memory changes. A
- * file of two bytes has no words and is accepted.
+ * Reads an object file into memory. The file's first word is the origin, and the others are stored
+ * from there on; each is two bytes, the high byte first. No other word of memory changes. A file of
+ * two bytes has no words and is accepted.
  */
-lc3_loaded lc3_load(const uint8_t *file, size_t file_len, uint16_t *memory, size_t words);
+lc3_loaded lc3_load(const uint8_t *file, size_t file_len, uint16_t *memory, size_t memory_len);
 
 /*
- * Writes the object file of the given number of words from origin on: 2 + 2 * words bytes from
- * the start of output; what lies after them is left as lent. A range of no words is a file of two
- * bytes.
+ * Writes a range of memory as an object file. The range is that of the given number of words from
+ * origin on; the file takes 2 + 2 * words bytes from the start of output, and what lies after them
+ * is left as lent. A range of no words is a file of two bytes.
  */
-lc3_counted lc3_save(const uint16_t *memory, size_t memory_words, uint16_t origin, size_t words,
+lc3_counted lc3_save(const uint16_t *memory, size_t memory_len, uint16_t origin, size_t words,
                      uint8_t *output, size_t output_len);
 
 #ifdef __cplusplus
@@ -310,14 +345,14 @@ LC3_LAYOUT(offsetof(lc3_instruction, b) == 2);
 LC3_LAYOUT(offsetof(lc3_instruction, c) == 3);
 LC3_LAYOUT(offsetof(lc3_instruction, value) == 4);
 
-LC3_LAYOUT(sizeof(lc3_written) == 4);
+LC3_LAYOUT(sizeof(lc3_written) == 8);
 LC3_LAYOUT(offsetof(lc3_written, word) == 0);
-LC3_LAYOUT(offsetof(lc3_written, refusal) == 2);
+LC3_LAYOUT(offsetof(lc3_written, refusal) == 4);
 
-LC3_LAYOUT(sizeof(lc3_loaded) == 8);
+LC3_LAYOUT(sizeof(lc3_loaded) == 12);
 LC3_LAYOUT(offsetof(lc3_loaded, words) == 0);
 LC3_LAYOUT(offsetof(lc3_loaded, origin) == 4);
-LC3_LAYOUT(offsetof(lc3_loaded, refusal) == 6);
+LC3_LAYOUT(offsetof(lc3_loaded, refusal) == 8);
 
 LC3_LAYOUT(sizeof(lc3_counted) == 16);
 LC3_LAYOUT(offsetof(lc3_counted, count) == 0);

@@ -43,7 +43,7 @@ typedef struct {
     lc3_record record;
     uint64_t times[KEYS];
     uint8_t bytes[KEYS];
-    size_t words, bytes_len, output_len;
+    size_t memory_len, bytes_len, output_len;
     uint64_t n;
 } random_case;
 
@@ -68,7 +68,7 @@ static void fill_memory(bool rich) {
 
 /* A record, keys near its clock and a small output; now and then something to refuse. */
 static random_case make_case(unsigned number) {
-    random_case c = {.words = LC3_MEMORY_WORDS, .bytes_len = KEYS};
+    random_case c = {.memory_len = LC3_MEMORY_WORDS, .bytes_len = KEYS};
     for (int i = 0; i < 8; i++) c.record.regs[i] = any() % 2 ? any() : edge();
     c.record.pc = any() % 4 ? any() : edge();
     c.record.psr = any() & 0x8707;
@@ -86,7 +86,7 @@ static random_case make_case(unsigned number) {
     }
     c.output_len = any() % (OUTPUT + 1);
     c.n = any() % 400;
-    if (number % 40 == 1) c.words--;
+    if (number % 40 == 1) c.memory_len--;
     if (number % 40 == 2) c.record.psr |= 1 << any() % 16;
     if (number % 40 == 3) c.record.clock = LC3_MAX_CLOCK - any() % 400;
     if (number % 40 == 4) c.bytes_len--;
@@ -98,7 +98,7 @@ static lc3_answer obey_case(run_function *run, const random_case *c, uint16_t *m
                             uint8_t *output) {
     memcpy(memory, lent, sizeof lent);
     memset(output, 0xAA, OUTPUT);
-    return run(c->record, memory, c->words, c->times, KEYS, c->bytes, c->bytes_len, output,
+    return run(c->record, memory, c->memory_len, c->times, KEYS, c->bytes, c->bytes_len, output,
                c->output_len, c->n);
 }
 
@@ -196,9 +196,9 @@ enum { BATCH = 4096 };
 static lc3_record single;
 static lc3_instruction instructions[BATCH];
 
-static lc3_answer single_run(size_t words, const uint64_t *times, size_t keys) {
+static lc3_answer single_run(size_t memory_len, const uint64_t *times, size_t keys) {
     uint8_t output[1];
-    return lc3_run(single, lent, words, times, keys, no_bytes, keys, output, 1, 1);
+    return lc3_run(single, lent, memory_len, times, keys, no_bytes, keys, output, 1, 1);
 }
 
 static void run_one(void) {

@@ -5,7 +5,7 @@
 
 #include "lc3.h"
 
-typedef lc3_answer run_function(lc3_record record, uint16_t *memory, size_t words,
+typedef lc3_answer run_function(lc3_record record, uint16_t *memory, size_t memory_len,
                                 const uint64_t *times, size_t times_len, const uint8_t *bytes,
                                 size_t bytes_len, uint8_t *output, size_t output_len, uint64_t n);
 

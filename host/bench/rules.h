@@ -111,9 +111,9 @@ static bool in_order(const uint64_t *times, size_t length, uint64_t last) {
     return true;
 }
 
-static uint32_t refusal(const lc3_record *m, size_t words, const uint64_t *times, size_t times_len,
-                        size_t bytes_len, uint64_t n) {
-    if (words != LC3_MEMORY_WORDS) return LC3_REFUSED_MEMORY;
+static uint32_t refusal(const lc3_record *m, size_t memory_len, const uint64_t *times,
+                        size_t times_len, size_t bytes_len, uint64_t n) {
+    if (memory_len != LC3_MEMORY_WORDS) return LC3_REFUSED_MEMORY;
     if (!sound(m)) return LC3_REFUSED_RECORD;
     if (n > LC3_MAX_STEPS || m->clock + n > LC3_MAX_CLOCK) return LC3_REFUSED_STEPS;
     if (times_len != bytes_len) return LC3_REFUSED_LISTS;

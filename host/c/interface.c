@@ -1,6 +1,6 @@
 /*
- * Every function of lc3.h from a host's side: the fourteen examples, the refusals at their
- * boundaries, the stops, the reading and writing of all instructions, lines of text, and
+ * Every function of lc3.h from a host's side: the version, the fourteen examples, the refusals at
+ * their boundaries, the stops, the reading and writing of all instructions, lines of text, and
  * object files.
  */
 #include "lc3.h"
@@ -79,7 +79,7 @@ static void check_buffers(void) {
 /* The arguments of a call but for memory and output, which are the buffers above. */
 typedef struct {
     lc3_record record;
-    size_t words;
+    size_t memory_len;
     uint64_t times[3];
     size_t times_len;
     uint8_t bytes[3];
@@ -89,19 +89,21 @@ typedef struct {
 } arguments;
 
 static arguments usual(void) {
-    return (arguments){
-        .record = lc3_fresh(0x3000, true, 0xFDFF), .words = WORDS, .output_len = OUTPUT, .n = 1};
+    return (arguments){.record = lc3_fresh(0x3000, true, 0xFDFF),
+                       .memory_len = WORDS,
+                       .output_len = OUTPUT,
+                       .n = 1};
 }
 
 static lc3_answer run(const arguments *c) {
-    return lc3_run(c->record, memory, c->words, c->times, c->times_len, c->bytes, c->bytes_len,
-                   output, c->output_len, c->n);
+    return lc3_run(c->record, memory, c->memory_len, c->times, c->times_len, c->bytes,
+                   c->bytes_len, output, c->output_len, c->n);
 }
 
 /* lc3_step on a copy of the record, answered in lc3_run's form. */
 static lc3_answer step(const arguments *c) {
     lc3_answer a = {.record = c->record};
-    lc3_report r = lc3_step(&a.record, memory, c->words, c->times, c->times_len, c->bytes,
+    lc3_report r = lc3_step(&a.record, memory, c->memory_len, c->times, c->times_len, c->bytes,
                             c->bytes_len, output, c->output_len);
     a.steps = r.steps;
     a.keys = r.keys;
@@ -118,6 +120,13 @@ static void check_answer(const lc3_answer *got, const lc3_answer *wanted) {
     CHECK(got->shown, wanted->shown);
     CHECK(got->refusal, wanted->refusal);
     CHECK(got->stop, wanted->stop);
+}
+
+/* ---- The version ---- */
+
+static void test_version(void) {
+    part = "version";
+    CHECK(lc3_version(), LC3_VERSION);
 }
 
 /* ---- A fresh record ---- */
@@ -292,13 +301,13 @@ static void check_refusal(const char *name, const arguments *c, uint32_t number)
 
 static void test_refused_memory(void) {
     arguments c = usual();
-    c.words = WORDS - 1;
+    c.memory_len = WORDS - 1;
     check_refusal("65,535 words", &c, LC3_REFUSED_MEMORY);
-    c.words = WORDS + 1;
+    c.memory_len = WORDS + 1;
     check_refusal("65,537 words", &c, LC3_REFUSED_MEMORY);
-    c.words = 0;
+    c.memory_len = 0;
     check_refusal("no words", &c, LC3_REFUSED_MEMORY);
-    c.words = WORDS;
+    c.memory_len = WORDS;
     check_refusal("65,536 words", &c, LC3_ACCEPTED);
 }
 
@@ -365,13 +374,13 @@ static void test_refused_keys(void) {
 /* All five reasons at once, then one less each time: the first that applies is answered. */
 static void test_refusal_order(void) {
     arguments c = usual();
-    c.words = WORDS - 1;
+    c.memory_len = WORDS - 1;
     c.record.psr = 0x0008;
     c.record.clock = 5;
     c.n = LC3_MAX_STEPS + 1;
     c.times_len = 1;
     check_refusal("all reasons", &c, LC3_REFUSED_MEMORY);
-    c.words = WORDS;
+    c.memory_len = WORDS;
     check_refusal("all but memory", &c, LC3_REFUSED_RECORD);
     c.record.psr = LC3_PSR_Z;
     check_refusal("steps, lists and times", &c, LC3_REFUSED_STEPS);
@@ -432,6 +441,10 @@ static void test_halted(void) {
     after.mcr = 0;
     after.clock = 1;
     check_stop(&c, run, (lc3_answer){.record = after, .steps = 1, .stop = LC3_HALTED});
+
+    part = "halted in the last step that was asked for";
+    c.n = 1;
+    check_stop(&c, run, (lc3_answer){.record = after, .steps = 1, .stop = LC3_DONE});
 
     part = "a step of a halted machine";
     c.record = after;
@@ -512,13 +525,20 @@ static void test_keys(void) {
     after.kbdr = 'y';
     after.clock = 1;
     check_stop(&c, run, (lc3_answer){.record = after, .steps = 1, .keys = 2, .stop = LC3_DONE});
+
+    part = "a key that finds the one before it unread";
+    c.n = 2;
+    after.pc = 0x3002;
+    after.kbdr = 'z';
+    after.clock = 2;
+    check_stop(&c, run, (lc3_answer){.record = after, .steps = 2, .keys = 3, .stop = LC3_DONE});
 }
 
 /* ---- Single steps and divided runs ---- */
 
 /* A random record, three keys near its clock and a small output. */
 static arguments any_arguments(void) {
-    arguments c = {.words = WORDS, .times_len = 3, .bytes_len = 3, .output_len = any() % 3};
+    arguments c = {.memory_len = WORDS, .times_len = 3, .bytes_len = 3, .output_len = any() % 3};
     for (int i = 0; i < 8; i++) c.record.regs[i] = any() % 3 ? any() : 0xFE00 + 2 * (any() % 4);
     c.record.pc = any();
     c.record.psr = any() & 0x8707;
@@ -742,20 +762,20 @@ static void test_write(void) {
 
 /* ---- Object files ---- */
 
-static void check_load(const char *name, const uint8_t *file, size_t length, size_t words,
+static void check_load(const char *name, const uint8_t *file, size_t length, size_t memory_len,
                        lc3_loaded wanted) {
     part = name;
-    lc3_loaded got = lc3_load(file, length, memory, words);
+    lc3_loaded got = lc3_load(file, length, memory, memory_len);
     CHECK(got.words, wanted.words);
     CHECK(got.origin, wanted.origin);
     CHECK(got.refusal, wanted.refusal);
     check_buffers();
 }
 
-static void check_save(const char *name, size_t memory_words, uint16_t origin, size_t words,
+static void check_save(const char *name, size_t memory_len, uint16_t origin, size_t words,
                        size_t room, lc3_counted wanted) {
     part = name;
-    lc3_counted got = lc3_save(memory, memory_words, origin, words, output, room);
+    lc3_counted got = lc3_save(memory, memory_len, origin, words, output, room);
     CHECK(got.count, wanted.count);
     CHECK(got.refusal, wanted.refusal);
     check_buffers();
@@ -799,6 +819,8 @@ static void test_line(void) {
         {0x6BE0, "LDR R5, R7, #-32\n"},
         {0x0E00, "BRnzp #0\n"},
         {0x0BFF, "BRnp #-1\n"},
+        {0x09FF, "BRn #-1\n"},
+        {0x0A00, "BRnp #0\n"},
         {0x0005, ".FILL x0005\n"},
         {0x4C00, "JSR #-1024\n"},
         {0x40C0, "JSRR R3\n"},
@@ -827,6 +849,7 @@ static void test_line(void) {
 }
 
 int main(void) {
+    test_version();
     test_fresh();
     test_examples();
     test_refusals();

@@ -1,7 +1,11 @@
-//! The C interface, version 1, as `lc3.h` declares it.
+//! The C interface, as `lc3.h` declares it.
 //!
 //! Use it only where the answers to refused calls matter in full: the safe functions of this crate
 //! leave out the record and the counts of a refused call, which are the record handed in and zeros.
+
+mod constants;
+
+pub use constants::*;
 
 use crate::Record;
 use std::mem::{align_of, offset_of, size_of};
@@ -63,19 +67,19 @@ pub struct Written {
     /// The word, or 0 if refused.
     pub word: u16,
     /// 0, or the number of the refusal, 1 to 3.
-    pub refusal: u16,
+    pub refusal: u32,
 }
 
 /// What reading an object file answers: `lc3_loaded`.
 #[repr(C)]
 #[derive(Clone, Copy, Debug, PartialEq, Eq)]
 pub struct Loaded {
-    /// The words read.
+    /// The words of the file, its origin not counted.
     pub words: u32,
     /// The address of the first.
     pub origin: u16,
     /// 0, or the number of the refusal: 11, 17 or 18.
-    pub refusal: u16,
+    pub refusal: u32,
 }
 
 /// What a call answers that writes bytes to a lent output: `lc3_counted`.
@@ -85,7 +89,7 @@ pub struct Counted {
     /// The bytes written, or 0 if refused.
     pub count: u64,
     /// 0, or the number of the refusal.
-    pub refusal: u64,
+    pub refusal: u32,
 }
 
 // The layout that C gives the same declarations.
@@ -107,15 +111,18 @@ const _: () = assert!(size_of::<Fields>() == 8 && align_of::<Fields>() == 4);
 const _: () = assert!(offset_of!(Fields, kind) == 0 && offset_of!(Fields, a) == 1);
 const _: () = assert!(offset_of!(Fields, b) == 2 && offset_of!(Fields, c) == 3);
 const _: () = assert!(offset_of!(Fields, value) == 4);
-const _: () = assert!(size_of::<Written>() == 4 && align_of::<Written>() == 2);
-const _: () = assert!(offset_of!(Written, word) == 0 && offset_of!(Written, refusal) == 2);
-const _: () = assert!(size_of::<Loaded>() == 8 && align_of::<Loaded>() == 4);
+const _: () = assert!(size_of::<Written>() == 8 && align_of::<Written>() == 4);
+const _: () = assert!(offset_of!(Written, word) == 0 && offset_of!(Written, refusal) == 4);
+const _: () = assert!(size_of::<Loaded>() == 12 && align_of::<Loaded>() == 4);
 const _: () = assert!(offset_of!(Loaded, words) == 0 && offset_of!(Loaded, origin) == 4);
-const _: () = assert!(offset_of!(Loaded, refusal) == 6);
+const _: () = assert!(offset_of!(Loaded, refusal) == 8);
 const _: () = assert!(size_of::<Counted>() == 16 && align_of::<Counted>() == 8);
 const _: () = assert!(offset_of!(Counted, count) == 0 && offset_of!(Counted, refusal) == 8);
 
 unsafe extern "C" {
+    /// The version of the interface that the library was built for.
+    pub safe fn lc3_version() -> u32;
+
     /// Makes a fresh record.
     pub safe fn lc3_fresh(pc: u16, user: bool, user_stack: u16) -> Record;
 
@@ -141,7 +148,7 @@ unsafe extern "C" {
     pub fn lc3_run(
         record: Record,
         memory: *mut u16,
-        words: usize,
+        memory_len: usize,
         times: *const u64,
         times_len: usize,
         bytes: *const u8,
@@ -160,7 +167,7 @@ unsafe extern "C" {
     pub fn lc3_step(
         record: *mut Record,
         memory: *mut u16,
-        words: usize,
+        memory_len: usize,
         times: *const u64,
         times_len: usize,
         bytes: *const u8,
@@ -175,7 +182,12 @@ unsafe extern "C" {
     ///
     /// Each pointer must be valid for its number of elements, `memory` also for writing, and the
     /// two buffers may not overlap.
-    pub fn lc3_load(file: *const u8, file_len: usize, memory: *mut u16, words: usize) -> Loaded;
+    pub fn lc3_load(
+        file: *const u8,
+        file_len: usize,
+        memory: *mut u16,
+        memory_len: usize,
+    ) -> Loaded;
 
     /// Writes an object file from a range of memory.
     ///
@@ -185,7 +197,7 @@ unsafe extern "C" {
     /// two buffers may not overlap.
     pub fn lc3_save(
         memory: *const u16,
-        memory_words: usize,
+        memory_len: usize,
         origin: u16,
         words: usize,
         output: *mut u8,

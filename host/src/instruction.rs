@@ -1,7 +1,7 @@
 //! Instruction words.
 
+use crate::error::accepted;
 use crate::ffi::{self, Fields};
-use std::error::Error;
 use std::fmt;
 
 /// An instruction, with its operands in the order of the assembler.
@@ -143,6 +143,7 @@ pub enum Instruction {
 
 /// Why an instruction has no word. Where several apply, the first is answered.
 #[derive(Clone, Copy, Debug, PartialEq, Eq, Hash)]
+#[non_exhaustive]
 pub enum WriteRefusal {
     /// A register is above 7.
     Register,
@@ -153,16 +154,19 @@ pub enum WriteRefusal {
 }
 
 impl WriteRefusal {
+    const ALL: [WriteRefusal; 3] =
+        [WriteRefusal::Register, WriteRefusal::Value, WriteRefusal::Mask];
+
     /// The refusal's number, 1 to 3.
     ///
     /// ```
     /// assert_eq!(lc3::WriteRefusal::Mask.code(), 3);
     /// ```
-    pub fn code(self) -> u16 {
+    pub fn code(self) -> u32 {
         match self {
-            WriteRefusal::Register => 1,
-            WriteRefusal::Value => 2,
-            WriteRefusal::Mask => 3,
+            WriteRefusal::Register => ffi::LC3_REFUSED_REGISTER,
+            WriteRefusal::Value => ffi::LC3_REFUSED_FIELD,
+            WriteRefusal::Mask => ffi::LC3_REFUSED_MASK,
         }
     }
 }
@@ -177,7 +181,7 @@ impl fmt::Display for WriteRefusal {
     }
 }
 
-impl Error for WriteRefusal {}
+impl std::error::Error for WriteRefusal {}
 
 /// Fields with up to three registers, or a mask in place of the first, and a value.
 fn fields(kind: u8, [a, b, c]: [u8; 3], value: i32) -> Fields {
@@ -187,25 +191,37 @@ fn fields(kind: u8, [a, b, c]: [u8; 3], value: i32) -> Fields {
 impl From<Instruction> for Fields {
     fn from(instruction: Instruction) -> Fields {
         match instruction {
-            Instruction::Br { mask, offset9 } => fields(0, [mask, 0, 0], offset9.into()),
-            Instruction::AddRegister { dr, sr1, sr2 } => fields(1, [dr, sr1, sr2], 0),
-            Instruction::AddImmediate { dr, sr1, imm5 } => fields(2, [dr, sr1, 0], imm5.into()),
-            Instruction::Ld { dr, offset9 } => fields(3, [dr, 0, 0], offset9.into()),
-            Instruction::St { sr, offset9 } => fields(4, [sr, 0, 0], offset9.into()),
-            Instruction::Jsr { offset11 } => fields(5, [0, 0, 0], offset11.into()),
-            Instruction::Jsrr { base } => fields(6, [base, 0, 0], 0),
-            Instruction::AndRegister { dr, sr1, sr2 } => fields(7, [dr, sr1, sr2], 0),
-            Instruction::AndImmediate { dr, sr1, imm5 } => fields(8, [dr, sr1, 0], imm5.into()),
-            Instruction::Ldr { dr, base, offset6 } => fields(9, [dr, base, 0], offset6.into()),
-            Instruction::Str { sr, base, offset6 } => fields(10, [sr, base, 0], offset6.into()),
-            Instruction::Rti => fields(11, [0, 0, 0], 0),
-            Instruction::Not { dr, sr } => fields(12, [dr, sr, 0], 0),
-            Instruction::Ldi { dr, offset9 } => fields(13, [dr, 0, 0], offset9.into()),
-            Instruction::Sti { sr, offset9 } => fields(14, [sr, 0, 0], offset9.into()),
-            Instruction::Jmp { base } => fields(15, [base, 0, 0], 0),
-            Instruction::Reserved { field } => fields(16, [0, 0, 0], field.into()),
-            Instruction::Lea { dr, offset9 } => fields(17, [dr, 0, 0], offset9.into()),
-            Instruction::Trap { vector } => fields(18, [0, 0, 0], vector.into()),
+            Instruction::Br { mask, offset9 } => fields(ffi::LC3_BR, [mask, 0, 0], offset9.into()),
+            Instruction::AddRegister { dr, sr1, sr2 } => {
+                fields(ffi::LC3_ADD_REGISTER, [dr, sr1, sr2], 0)
+            }
+            Instruction::AddImmediate { dr, sr1, imm5 } => {
+                fields(ffi::LC3_ADD_IMMEDIATE, [dr, sr1, 0], imm5.into())
+            }
+            Instruction::Ld { dr, offset9 } => fields(ffi::LC3_LD, [dr, 0, 0], offset9.into()),
+            Instruction::St { sr, offset9 } => fields(ffi::LC3_ST, [sr, 0, 0], offset9.into()),
+            Instruction::Jsr { offset11 } => fields(ffi::LC3_JSR, [0, 0, 0], offset11.into()),
+            Instruction::Jsrr { base } => fields(ffi::LC3_JSRR, [base, 0, 0], 0),
+            Instruction::AndRegister { dr, sr1, sr2 } => {
+                fields(ffi::LC3_AND_REGISTER, [dr, sr1, sr2], 0)
+            }
+            Instruction::AndImmediate { dr, sr1, imm5 } => {
+                fields(ffi::LC3_AND_IMMEDIATE, [dr, sr1, 0], imm5.into())
+            }
+            Instruction::Ldr { dr, base, offset6 } => {
+                fields(ffi::LC3_LDR, [dr, base, 0], offset6.into())
+            }
+            Instruction::Str { sr, base, offset6 } => {
+                fields(ffi::LC3_STR, [sr, base, 0], offset6.into())
+            }
+            Instruction::Rti => fields(ffi::LC3_RTI, [0, 0, 0], 0),
+            Instruction::Not { dr, sr } => fields(ffi::LC3_NOT, [dr, sr, 0], 0),
+            Instruction::Ldi { dr, offset9 } => fields(ffi::LC3_LDI, [dr, 0, 0], offset9.into()),
+            Instruction::Sti { sr, offset9 } => fields(ffi::LC3_STI, [sr, 0, 0], offset9.into()),
+            Instruction::Jmp { base } => fields(ffi::LC3_JMP, [base, 0, 0], 0),
+            Instruction::Reserved { field } => fields(ffi::LC3_RESERVED, [0, 0, 0], field.into()),
+            Instruction::Lea { dr, offset9 } => fields(ffi::LC3_LEA, [dr, 0, 0], offset9.into()),
+            Instruction::Trap { vector } => fields(ffi::LC3_TRAP, [0, 0, 0], vector.into()),
         }
     }
 }
@@ -216,26 +232,26 @@ impl Instruction {
         let Fields { kind, a, b, c, value } = fields;
         let (signed, unsigned) = (value as i16, value as u16);
         match kind {
-            0 => Instruction::Br { mask: a, offset9: signed },
-            1 => Instruction::AddRegister { dr: a, sr1: b, sr2: c },
-            2 => Instruction::AddImmediate { dr: a, sr1: b, imm5: signed },
-            3 => Instruction::Ld { dr: a, offset9: signed },
-            4 => Instruction::St { sr: a, offset9: signed },
-            5 => Instruction::Jsr { offset11: signed },
-            6 => Instruction::Jsrr { base: a },
-            7 => Instruction::AndRegister { dr: a, sr1: b, sr2: c },
-            8 => Instruction::AndImmediate { dr: a, sr1: b, imm5: signed },
-            9 => Instruction::Ldr { dr: a, base: b, offset6: signed },
-            10 => Instruction::Str { sr: a, base: b, offset6: signed },
-            11 => Instruction::Rti,
-            12 => Instruction::Not { dr: a, sr: b },
-            13 => Instruction::Ldi { dr: a, offset9: signed },
-            14 => Instruction::Sti { sr: a, offset9: signed },
-            15 => Instruction::Jmp { base: a },
-            16 => Instruction::Reserved { field: unsigned },
-            17 => Instruction::Lea { dr: a, offset9: signed },
-            18 => Instruction::Trap { vector: unsigned },
-            _ => unreachable!("the library reads kinds 0 to 18"),
+            ffi::LC3_BR => Instruction::Br { mask: a, offset9: signed },
+            ffi::LC3_ADD_REGISTER => Instruction::AddRegister { dr: a, sr1: b, sr2: c },
+            ffi::LC3_ADD_IMMEDIATE => Instruction::AddImmediate { dr: a, sr1: b, imm5: signed },
+            ffi::LC3_LD => Instruction::Ld { dr: a, offset9: signed },
+            ffi::LC3_ST => Instruction::St { sr: a, offset9: signed },
+            ffi::LC3_JSR => Instruction::Jsr { offset11: signed },
+            ffi::LC3_JSRR => Instruction::Jsrr { base: a },
+            ffi::LC3_AND_REGISTER => Instruction::AndRegister { dr: a, sr1: b, sr2: c },
+            ffi::LC3_AND_IMMEDIATE => Instruction::AndImmediate { dr: a, sr1: b, imm5: signed },
+            ffi::LC3_LDR => Instruction::Ldr { dr: a, base: b, offset6: signed },
+            ffi::LC3_STR => Instruction::Str { sr: a, base: b, offset6: signed },
+            ffi::LC3_RTI => Instruction::Rti,
+            ffi::LC3_NOT => Instruction::Not { dr: a, sr: b },
+            ffi::LC3_LDI => Instruction::Ldi { dr: a, offset9: signed },
+            ffi::LC3_STI => Instruction::Sti { sr: a, offset9: signed },
+            ffi::LC3_JMP => Instruction::Jmp { base: a },
+            ffi::LC3_RESERVED => Instruction::Reserved { field: unsigned },
+            ffi::LC3_LEA => Instruction::Lea { dr: a, offset9: signed },
+            ffi::LC3_TRAP => Instruction::Trap { vector: unsigned },
+            _ => unreachable!("the library read kind {kind}"),
         }
     }
 }
@@ -262,11 +278,6 @@ pub fn read(word: u16) -> Instruction {
 /// ```
 pub fn write(instruction: &Instruction) -> Result<u16, WriteRefusal> {
     let written = ffi::lc3_write((*instruction).into());
-    match written.refusal {
-        0 => Ok(written.word),
-        1 => Err(WriteRefusal::Register),
-        2 => Err(WriteRefusal::Value),
-        3 => Err(WriteRefusal::Mask),
-        _ => unreachable!("the library answers refusals 1 to 3"),
-    }
+    accepted(written.refusal, &WriteRefusal::ALL, WriteRefusal::code)?;
+    Ok(written.word)
 }

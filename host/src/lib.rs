@@ -1,11 +1,17 @@
 //! The LC-3 with privilege, interrupts and a console.
 //!
-//! This crate is a safe wrapper of the static library `liblc3.a`. It has the library's five
-//! operations: [`read`] a word as an instruction, [`write`](write()) an instruction as a word,
-//! show a word as a [`line`](line()) of text, make a fresh record with [`Record::fresh`], and
-//! [`run`] a number of steps over lent memory; and [`step`], a run of one step that alters the
-//! record it is lent. Programs arrive as object files, which [`load`] reads into memory and
-//! [`save`] writes from it. Nothing is kept between calls.
+//! This crate is a safe wrapper of the static library `liblc3.a`. It has the library's nine calls:
+//!
+//! - [`version()`], the version of the interface;
+//! - [`Record::fresh`] for a machine that has not run yet, [`run`](run()) for a number of steps over
+//!   lent memory, and [`step`] for one step, which alters the record that it is lent;
+//! - [`read`] for a word as an instruction, [`write`](write()) for an instruction as a word, and
+//!   [`line`](line()) for a word as a line of text;
+//! - [`load`] and [`save`] for object files.
+//!
+//! Nothing is kept between calls. A call that cannot be obeyed is refused and alters nothing; each
+//! kind of refusal converts into [`Error`]. The C interface itself, with the constants of `lc3.h`
+//! under their names, is in [`ffi`].
 //!
 //! The archive is taken from the directory in the environment variable `LC3_LIB_DIR` when the
 //! crate is built, or else from `../build`.
@@ -31,11 +37,12 @@
 //! assert_eq!(run.stop, Stop::Halted);
 //! assert_eq!((run.steps, run.shown), (4, 1));
 //! assert_eq!(output[0], b'A');
-//! # Ok::<(), lc3::Refusal>(())
+//! # Ok::<(), lc3::Error>(())
 //! ```
 
 #![warn(missing_docs)]
 
+mod error;
 pub mod ffi;
 mod instruction;
 mod line;
@@ -43,11 +50,21 @@ mod object;
 mod record;
 mod run;
 
+pub use error::Error;
 pub use instruction::{read, write, Instruction, WriteRefusal};
 pub use line::{line, line_string, LineRefusal, LINE_LIMIT};
 pub use object::{load, save, Loaded, ObjectRefusal};
 pub use record::{Mode, Record};
 pub use run::{run, step, Keys, Refusal, Run, StepReport, Stop, CLOCK_LIMIT, STEP_LIMIT, WORDS};
+
+/// The version of the interface that the library was built for.
+///
+/// ```
+/// assert_eq!(lc3::version(), lc3::ffi::LC3_VERSION);
+/// ```
+pub fn version() -> u32 {
+    ffi::lc3_version()
+}
 
 // The README's examples are tests.
 #[cfg(doctest)]

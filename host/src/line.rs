@@ -1,56 +1,62 @@
 //! Words as lines of text.
 
+use crate::error::accepted;
 use crate::ffi;
-use std::error::Error;
 use std::fmt;
 
 /// The bytes of the longest line, its line feed included.
-pub const LINE_LIMIT: usize = 17;
+pub const LINE_LIMIT: usize = ffi::LC3_MAX_LINE;
 
-/// Why a line was not written: it does not fit the output.
+/// Why a line was not written.
 #[derive(Clone, Copy, Debug, PartialEq, Eq, Hash)]
-pub struct LineRefusal;
+#[non_exhaustive]
+pub enum LineRefusal {
+    /// The line does not fit the output.
+    Output,
+}
 
 impl LineRefusal {
     /// The refusal's number, 16.
     ///
     /// ```
-    /// assert_eq!(lc3::LineRefusal.code(), 16);
+    /// assert_eq!(lc3::LineRefusal::Output.code(), 16);
     /// ```
     pub fn code(self) -> u32 {
-        16
+        match self {
+            LineRefusal::Output => ffi::LC3_REFUSED_OUTPUT,
+        }
     }
 }
 
 impl fmt::Display for LineRefusal {
     fn fmt(&self, f: &mut fmt::Formatter<'_>) -> fmt::Result {
-        f.write_str("the line does not fit the output")
+        f.write_str(match self {
+            LineRefusal::Output => "the line does not fit the output",
+        })
     }
 }
 
-impl Error for LineRefusal {}
+impl std::error::Error for LineRefusal {}
 
 /// Writes a word as a line of text to the start of `output`, and answers its length.
 ///
-/// The line ends in a line feed. A reserved word, one with wrong fixed bits and a BR that tests
-/// nothing are data, as `.FILL x0005`. What lies after the line is left as it was; where the line
-/// does not fit, all of `output` is.
+/// The line ends in a line feed. Hexadecimal digits are capitals, and the codes of a BR stand in
+/// the order n, z, p. A reserved word, one with wrong fixed bits and a BR that tests nothing are
+/// data, as `.FILL x0005`. What lies after the line is left as it was; where the line does not fit,
+/// all of `output` is.
 ///
 /// ```
 /// let mut output = [0; lc3::LINE_LIMIT];
 /// let count = lc3::line(0x14E7, &mut output)?;
 /// assert_eq!(&output[..count], b"ADD R2, R3, #7\n");
-/// assert_eq!(lc3::line(0x14E7, &mut output[..14]), Err(lc3::LineRefusal));
+/// assert_eq!(lc3::line(0x14E7, &mut output[..14]), Err(lc3::LineRefusal::Output));
 /// # Ok::<(), lc3::LineRefusal>(())
 /// ```
 pub fn line(word: u16, output: &mut [u8]) -> Result<usize, LineRefusal> {
     // SAFETY: the slice is valid for writing its length.
     let counted = unsafe { ffi::lc3_line(word, output.as_mut_ptr(), output.len()) };
-    match counted.refusal {
-        0 => Ok(counted.count as usize),
-        16 => Err(LineRefusal),
-        _ => unreachable!("the library answers refusal 16"),
-    }
+    accepted(counted.refusal, &[LineRefusal::Output], LineRefusal::code)?;
+    Ok(counted.count as usize)
 }
 
 /// The line of a word, its line feed included.

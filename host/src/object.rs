@@ -1,7 +1,7 @@
 //! Object files.
 
+use crate::error::accepted;
 use crate::ffi;
-use std::error::Error;
 use std::fmt;
 
 /// What reading a file answers.
@@ -16,6 +16,7 @@ pub struct Loaded {
 /// Why an object file was not read or not written. Where several apply, the first is answered, in
 /// the order memory, file, range for [`load`] and memory, range, output for [`save`].
 #[derive(Clone, Copy, Debug, PartialEq, Eq, Hash)]
+#[non_exhaustive]
 pub enum ObjectRefusal {
     /// Memory is not [`WORDS`](crate::WORDS) words.
     Memory,
@@ -28,6 +29,9 @@ pub enum ObjectRefusal {
 }
 
 impl ObjectRefusal {
+    const ALL: [ObjectRefusal; 4] =
+        [ObjectRefusal::Memory, ObjectRefusal::Output, ObjectRefusal::File, ObjectRefusal::Range];
+
     /// The refusal's number: 11, or 16 to 18.
     ///
     /// ```
@@ -35,22 +39,10 @@ impl ObjectRefusal {
     /// ```
     pub fn code(self) -> u32 {
         match self {
-            ObjectRefusal::Memory => 11,
-            ObjectRefusal::Output => 16,
-            ObjectRefusal::File => 17,
-            ObjectRefusal::Range => 18,
-        }
-    }
-
-    /// The refusal that a number stands for; 0 is none.
-    fn from_code(code: u64) -> Option<ObjectRefusal> {
-        match code {
-            0 => None,
-            11 => Some(ObjectRefusal::Memory),
-            16 => Some(ObjectRefusal::Output),
-            17 => Some(ObjectRefusal::File),
-            18 => Some(ObjectRefusal::Range),
-            _ => unreachable!("the library answers refusals 11 and 16 to 18"),
+            ObjectRefusal::Memory => ffi::LC3_REFUSED_MEMORY,
+            ObjectRefusal::Output => ffi::LC3_REFUSED_OUTPUT,
+            ObjectRefusal::File => ffi::LC3_REFUSED_FILE,
+            ObjectRefusal::Range => ffi::LC3_REFUSED_RANGE,
         }
     }
 }
@@ -66,7 +58,7 @@ impl fmt::Display for ObjectRefusal {
     }
 }
 
-impl Error for ObjectRefusal {}
+impl std::error::Error for ObjectRefusal {}
 
 /// Reads an object file into memory: the first word of the file is the origin, and the others are
 /// stored from there on, each with its high byte first. No other word of memory changes.
@@ -88,10 +80,8 @@ pub fn load(file: &[u8], memory: &mut [u16]) -> Result<Loaded, ObjectRefusal> {
     // the file.
     let answer =
         unsafe { ffi::lc3_load(file.as_ptr(), file.len(), memory.as_mut_ptr(), memory.len()) };
-    match ObjectRefusal::from_code(answer.refusal.into()) {
-        None => Ok(Loaded { origin: answer.origin, words: answer.words as usize }),
-        Some(refusal) => Err(refusal),
-    }
+    accepted(answer.refusal, &ObjectRefusal::ALL, ObjectRefusal::code)?;
+    Ok(Loaded { origin: answer.origin, words: answer.words as usize })
 }
 
 /// Writes the object file of `words` words of memory from `origin` on to the start of `output`, and
@@ -129,8 +119,6 @@ pub fn save(
             output.len(),
         )
     };
-    match ObjectRefusal::from_code(answer.refusal) {
-        None => Ok(usize::try_from(answer.count).expect("a count within a slice")),
-        Some(refusal) => Err(refusal),
-    }
+    accepted(answer.refusal, &ObjectRefusal::ALL, ObjectRefusal::code)?;
+    Ok(usize::try_from(answer.count).expect("a count within a slice"))
 }

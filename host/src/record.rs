@@ -1,6 +1,6 @@
 //! The machine's record.
 
-use crate::ffi;
+use crate::ffi::{self, LC3_MCR_CLOCK, LC3_PSR_USER};
 
 /// The two modes of privilege.
 #[derive(Clone, Copy, Debug, PartialEq, Eq, Hash)]
@@ -58,10 +58,31 @@ impl Record {
 
     /// The mode in bit 15 of PSR.
     pub fn mode(&self) -> Mode {
-        if self.psr & 0x8000 == 0 {
+        if self.psr & LC3_PSR_USER == 0 {
             Mode::Supervisor
         } else {
             Mode::User
         }
+    }
+
+    /// Whether the machine is halted: bit 15 of MCR is clear.
+    ///
+    /// A machine that halts in the last step that was asked for answers
+    /// [`Stop::Done`](crate::Stop::Done), so this is what a host asks at its own limit of steps.
+    ///
+    /// ```
+    /// use lc3::{Keys, Mode, Record, Stop};
+    ///
+    /// let mut memory = vec![0; lc3::WORDS];
+    /// memory[0x3000] = 0xB001; // STI R0, x3002
+    /// memory[0x3002] = lc3::ffi::LC3_ADDRESS_MCR;
+    /// let record = Record::fresh(0x3000, Mode::Supervisor, 0xFDFF);
+    /// let run = lc3::run(record, &mut memory, Keys::NONE, &mut [], 1)?;
+    /// assert_eq!(run.stop, Stop::Done);
+    /// assert!(run.record.is_halted() && !record.is_halted());
+    /// # Ok::<(), lc3::Error>(())
+    /// ```
+    pub fn is_halted(&self) -> bool {
+        self.mcr & LC3_MCR_CLOCK == 0
     }
 }

@@ -1,19 +1,21 @@
 //! Runs and single steps.
 
+use crate::error::accepted;
 use crate::{ffi, Record};
-use std::error::Error;
 use std::fmt;
 
 /// The number of words of memory that a run needs.
-pub const WORDS: usize = 65_536;
+pub const WORDS: usize = ffi::LC3_MEMORY_WORDS;
 
 /// The most steps that one run may be asked for.
-pub const STEP_LIMIT: u64 = 1_048_576;
+pub const STEP_LIMIT: u64 = ffi::LC3_MAX_STEPS;
 
 /// The highest clock.
-pub const CLOCK_LIMIT: u64 = 1 << 48;
+pub const CLOCK_LIMIT: u64 = ffi::LC3_MAX_CLOCK;
 
 /// Key presses: the clock at which each arrives, and its byte.
+///
+/// A key that finds the one before it unread replaces it.
 #[derive(Clone, Copy, Debug, Default, PartialEq, Eq)]
 pub struct Keys<'a> {
     /// The times, none below the one before it.
@@ -45,8 +47,10 @@ impl<'a> Keys<'a> {
 
 /// Why a run stopped.
 #[derive(Clone, Copy, Debug, PartialEq, Eq, Hash)]
+#[non_exhaustive]
 pub enum Stop {
-    /// All steps asked for were made.
+    /// All steps asked for were made. The last of them may have halted the machine:
+    /// [`Record::is_halted`] tells.
     Done,
     /// Bit 15 of MCR is clear.
     Halted,
@@ -55,18 +59,43 @@ pub enum Stop {
 }
 
 impl Stop {
+    /// The stop's number, 0 to 2.
+    ///
+    /// ```
+    /// assert_eq!(lc3::Stop::Halted.code(), 1);
+    /// ```
+    pub fn code(self) -> u32 {
+        match self {
+            Stop::Done => ffi::LC3_DONE,
+            Stop::Halted => ffi::LC3_HALTED,
+            Stop::OutputFull => ffi::LC3_OUTPUT_FULL,
+        }
+    }
+
+    /// The stop that a number stands for.
     fn from_code(code: u32) -> Stop {
         match code {
-            0 => Stop::Done,
-            1 => Stop::Halted,
-            2 => Stop::OutputFull,
-            _ => unreachable!("the library answers stops 0 to 2"),
+            ffi::LC3_DONE => Stop::Done,
+            ffi::LC3_HALTED => Stop::Halted,
+            ffi::LC3_OUTPUT_FULL => Stop::OutputFull,
+            _ => unreachable!("the library answered stop {code}"),
         }
+    }
+}
+
+impl fmt::Display for Stop {
+    fn fmt(&self, f: &mut fmt::Formatter<'_>) -> fmt::Result {
+        f.write_str(match self {
+            Stop::Done => "all steps asked for were made",
+            Stop::Halted => "the machine is halted",
+            Stop::OutputFull => "the output is full",
+        })
     }
 }
 
 /// Why a run was turned down. Where several apply, the first is answered.
 #[derive(Clone, Copy, Debug, PartialEq, Eq, Hash)]
+#[non_exhaustive]
 pub enum Refusal {
     /// Memory is not [`WORDS`] words.
     Memory,
@@ -81,6 +110,9 @@ pub enum Refusal {
 }
 
 impl Refusal {
+    const ALL: [Refusal; 5] =
+        [Refusal::Memory, Refusal::Record, Refusal::Steps, Refusal::KeyLists, Refusal::KeyTimes];
+
     /// The refusal's number, 11 to 15.
     ///
     /// ```
@@ -88,24 +120,11 @@ impl Refusal {
     /// ```
     pub fn code(self) -> u32 {
         match self {
-            Refusal::Memory => 11,
-            Refusal::Record => 12,
-            Refusal::Steps => 13,
-            Refusal::KeyLists => 14,
-            Refusal::KeyTimes => 15,
-        }
-    }
-
-    /// The refusal that a number stands for; 0 is none.
-    fn from_code(code: u32) -> Option<Refusal> {
-        match code {
-            0 => None,
-            11 => Some(Refusal::Memory),
-            12 => Some(Refusal::Record),
-            13 => Some(Refusal::Steps),
-            14 => Some(Refusal::KeyLists),
-            15 => Some(Refusal::KeyTimes),
-            _ => unreachable!("the library answers refusals 11 to 15"),
+            Refusal::Memory => ffi::LC3_REFUSED_MEMORY,
+            Refusal::Record => ffi::LC3_REFUSED_RECORD,
+            Refusal::Steps => ffi::LC3_REFUSED_STEPS,
+            Refusal::KeyLists => ffi::LC3_REFUSED_LISTS,
+            Refusal::KeyTimes => ffi::LC3_REFUSED_TIMES,
         }
     }
 }
@@ -122,7 +141,7 @@ impl fmt::Display for Refusal {
     }
 }
 
-impl Error for Refusal {}
+impl std::error::Error for Refusal {}
 
 /// What a run did.
 #[derive(Clone, Copy, Debug, PartialEq, Eq)]
@@ -197,16 +216,14 @@ pub fn run(
             n,
         )
     };
-    match Refusal::from_code(answer.refusal) {
-        Some(refusal) => Err(refusal),
-        None => Ok(Run {
-            record: answer.record,
-            steps: answer.steps,
-            keys: count(answer.keys),
-            shown: count(answer.shown),
-            stop: Stop::from_code(answer.stop),
-        }),
-    }
+    accepted(answer.refusal, &Refusal::ALL, Refusal::code)?;
+    Ok(Run {
+        record: answer.record,
+        steps: answer.steps,
+        keys: count(answer.keys),
+        shown: count(answer.shown),
+        stop: Stop::from_code(answer.stop),
+    })
 }
 
 /// Makes a single step, and alters `record` itself: otherwise [`run`] with `n` = 1.
@@ -247,13 +264,11 @@ pub fn step(
             output.len(),
         )
     };
-    match Refusal::from_code(report.refusal) {
-        Some(refusal) => Err(refusal),
-        None => Ok(StepReport {
-            steps: report.steps,
-            keys: count(report.keys),
-            shown: count(report.shown),
-            stop: Stop::from_code(report.stop),
-        }),
-    }
+    accepted(report.refusal, &Refusal::ALL, Refusal::code)?;
+    Ok(StepReport {
+        steps: report.steps,
+        keys: count(report.keys),
+        shown: count(report.shown),
+        stop: Stop::from_code(report.stop),
+    })
 }

@@ -212,7 +212,7 @@ fn bench() -> Bench {
 fn memory_of_any_other_length_is_refused() {
     let mut bench = bench();
     for words in [0, 1, WORDS / 2, WORDS - 1, WORDS + 1] {
-        expect(&mut bench, 11, |case| case.words = words);
+        expect(&mut bench, 11, |case| case.memory_len = words);
     }
     expect(&mut bench, 0, |_| ());
 }
@@ -283,7 +283,7 @@ fn keys_must_come_in_order_and_not_before_the_clock() {
 
 /// What brings about each refusal by itself, 11 first.
 const SPOILERS: [fn(&mut Case); 5] = [
-    |case| case.words = WORDS - 1,
+    |case| case.memory_len = WORDS - 1,
     |case| case.record.kbsr |= 1,
     |case| case.n = STEP_LIMIT + 1,
     |case| case.bytes.push(0),

@@ -15,8 +15,8 @@ const BYTE: u8 = 0xA5;
 const WORD: u16 = 0xA5A5;
 
 /// Reads a file by the rules of the format: the refusal, or the origin and the words.
-fn read(file: &[u8], memory_words: usize) -> Result<(u16, Vec<u16>), u16> {
-    if memory_words != 1 << 16 {
+fn read(file: &[u8], memory_len: usize) -> Result<(u16, Vec<u16>), u32> {
+    if memory_len != 1 << 16 {
         return Err(11);
     }
     let words: Vec<u16> =
@@ -33,7 +33,7 @@ fn read(file: &[u8], memory_words: usize) -> Result<(u16, Vec<u16>), u16> {
 }
 
 /// Writes a file by the same rules.
-fn write(memory: &[u16], origin: u16, words: usize, room: usize) -> Result<Vec<u8>, u64> {
+fn write(memory: &[u16], origin: u16, words: usize, room: usize) -> Result<Vec<u8>, u32> {
     if memory.len() != 1 << 16 {
         return Err(11);
     }

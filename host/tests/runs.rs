@@ -4,7 +4,7 @@ mod reference;
 mod support;
 
 use lc3::ffi::{Answer, Report};
-use lc3::{Keys, Record, Refusal, Stop};
+use lc3::{Keys, Record, Refusal};
 use reference::machine::{self, Cause, Entry, Event, CAUSES};
 use support::cases::{self, accepted, Case, Family, FAMILIES};
 use support::{assert_same_buffers, Announce, Buffers, Rng};
@@ -95,14 +95,6 @@ fn a_single_step_equals_a_run_of_one_refusals_included() {
     });
 }
 
-fn stop_code(stop: Stop) -> u32 {
-    match stop {
-        Stop::Done => 0,
-        Stop::Halted => 1,
-        Stop::OutputFull => 2,
-    }
-}
-
 #[test]
 fn the_wrapper_answers_what_the_library_answers() {
     let (mut raw, mut safe) = (Buffers::new(), Buffers::new());
@@ -117,7 +109,7 @@ fn the_wrapper_answers_what_the_library_answers() {
             Ok(run) => {
                 assert_eq!((run.record, run.steps), (expected.record, expected.steps));
                 assert_eq!((run.keys as u64, run.shown as u64), (expected.keys, expected.shown));
-                assert_eq!((stop_code(run.stop), 0), (expected.stop, expected.refusal));
+                assert_eq!((run.stop.code(), 0), (expected.stop, expected.refusal));
             }
         }
         assert_same_buffers(&safe, &raw);
@@ -140,7 +132,7 @@ fn the_wrapper_steps_as_the_library_does() {
             Ok(report) => {
                 assert_eq!((report.steps, report.keys as u64), (expected.steps, expected.keys));
                 assert_eq!(report.shown as u64, expected.shown);
-                assert_eq!((stop_code(report.stop), 0), (expected.stop, expected.refusal));
+                assert_eq!((report.stop.code(), 0), (expected.stop, expected.refusal));
             }
         }
         assert_eq!(record, expected_record);

@@ -132,7 +132,7 @@ fn spell(row: &str, bit: usize, letter: char, number: impl Fn(char) -> i32) -> u
 }
 
 /// Writes an instruction given as the numbers of the C interface, or tells why not: 1, 2 or 3.
-pub fn write(kind: u8, a: u8, b: u8, c: u8, value: i32) -> Result<u16, u16> {
+pub fn write(kind: u8, a: u8, b: u8, c: u8, value: i32) -> Result<u16, u32> {
     let &(_, row) = FIGURE.get(usize::from(kind)).ok_or(2u16)?;
     let too_high = |number: u8, field| row.contains(field) && number > 7;
     if too_high(a, 'a') || too_high(b, 'b') || too_high(c, 'c') {

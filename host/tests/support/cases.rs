@@ -11,7 +11,7 @@ use lc3::{Record, CLOCK_LIMIT, STEP_LIMIT, WORDS};
 #[derive(Clone, Debug)]
 pub struct Case {
     pub record: Record,
-    pub words: usize,
+    pub memory_len: usize,
     pub patches: Vec<(u16, u16)>,
     pub times: Vec<u64>,
     pub bytes: Vec<u8>,
@@ -66,7 +66,7 @@ const LENGTH: i32 = 24;
 pub fn accepted() -> Case {
     Case {
         record: machine::fresh(0x3000, false, 0xFDFF),
-        words: WORDS,
+        memory_len: WORDS,
         patches: vec![(0x3000, 0x0000)],
         times: vec![],
         bytes: vec![],
@@ -103,7 +103,8 @@ pub fn case_in_mode(rng: &mut Rng, family: Family, user: bool) -> Case {
     let output = generator.output();
     let Generator { rng, patches, .. } = generator;
     let n = rng.pick(&[0, 1, 2, 5, 20, 60, 150]);
-    let mut case = Case { record, words: WORDS, patches, times: vec![], bytes: vec![], output, n };
+    let mut case =
+        Case { record, memory_len: WORDS, patches, times: vec![], bytes: vec![], output, n };
     set_clock(rng, &mut case);
     set_keys(rng, &mut case, family);
     if family == Family::Refusals {
@@ -322,7 +323,7 @@ fn spoil(rng: &mut Rng, case: &mut Case) {
 }
 
 fn spoil_memory(rng: &mut Rng, case: &mut Case) {
-    case.words = rng.pick(&[0, 1, 0x3000, WORDS - 1, WORDS + 1]);
+    case.memory_len = rng.pick(&[0, 1, 0x3000, WORDS - 1, WORDS + 1]);
 }
 
 fn spoil_record(rng: &mut Rng, case: &mut Case) {

@@ -125,7 +125,7 @@ impl Buffers {
 
     /// Fills the buffers as a case has them, over the words of a template.
     pub fn set(&mut self, case: &Case, template: &[u16]) {
-        self.memory.set(&template[..case.words]);
+        self.memory.set(&template[..case.memory_len]);
         for &(at, word) in &case.patches {
             if let Some(cell) = self.memory.get_mut().get_mut(usize::from(at)) {
                 *cell = word;
