@@ -13,14 +13,17 @@ CARGO = cargo test --quiet --offline --release --manifest-path host/Cargo.toml -
 .PHONY: run test lib bench soak format host clean
 
 run:
-	rt check demo >/dev/null
+	@echo "The demonstration. It is proved before it runs: about 3 minutes on two cores the first time, then seconds."
+	@tools/progress build/run.log rt check demo
 	@cd crates/demo/data && ../../../target/bin/demo
 
 # The archives are built from the crates that `rt ci` has just proved. Its verdict is repeated as the last line of all.
-test: format
-	@mkdir -p build
-	rt ci >build/ci.log 2>&1 || { cat build/ci.log; exit 1; }
-	@sed '$$d' build/ci.log
+test:
+	@echo "Everything: formatting, all proofs from nothing, wrong programs that must be refused, and then the host tests."
+	@echo "That takes about half an hour on two cores."
+	@tools/prerequisites
+	@$(MAKE) --no-print-directory format
+	@tools/progress build/ci.log rt ci
 	@$(MAKE) --no-print-directory host
 	@tail -n 1 build/ci.log
 
@@ -33,17 +36,18 @@ host: lib
 	host/bench/symbols.sh '*::run' '*::go' '*::run_accepted'
 	host/bench/count.sh
 	$(CARGO) -- --nocapture
-	RUSTDOCFLAGS="-D warnings" cargo doc --quiet --no-deps --offline --manifest-path host/Cargo.toml --target-dir build/cargo
+	RUSTDOCFLAGS="-D warnings" \
+	    cargo doc --quiet --no-deps --offline --manifest-path host/Cargo.toml --target-dir build/cargo
 
 lib: build/liblc3.so
 
 target/staticlib/lib%.a: crates.txt $(shell find crates -name '*.rt' -o -name '*.antt')
-	rt staticlib $*
+	@tools/progress build/$*.log rt staticlib $*
 
 # The archives' objects under names of their own.
 build/liblc3.a: $(ARCHIVES)
 	rm -rf $@ build/objects
-	for name in $(EXPORTS); do \
+	@for name in $(EXPORTS); do \
 	    mkdir -p build/objects/$$name && (cd build/objects/$$name && ar x ../../../target/staticlib/lib$$name.a) && \
 	    for o in build/objects/$$name/*.o; do mv $$o build/objects/$$name-$${o##*/} || exit; done || exit; \
 	done

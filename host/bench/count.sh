@@ -19,7 +19,7 @@ work=$(mktemp -d)
 trap 'rm -rf "$work"' EXIT
 
 [ -f "$lib" ] || { echo "host/bench/count.sh: no $lib" >&2; exit 2; }
-command -v valgrind >/dev/null || apt-get install -y valgrind
+command -v valgrind >/dev/null || { echo "host/bench/count.sh: no valgrind" >&2; exit 2; }
 
 $cc -std=c11 -O3 -Iinclude host/bench/count.c host/bench/plain.c host/bench/tuned.c \
     "$lib" -o "$work/count"
