@@ -28,6 +28,7 @@ test:
 	@tail -n 1 build/ci.log
 
 format:
+	python3 docs/check.py
 	rt fmt --check
 	cargo fmt --check --manifest-path host/Cargo.toml
 
