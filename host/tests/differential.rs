@@ -197,6 +197,12 @@ fn soak() {
     compare_random_runs(support::runs(20_000_000));
 }
 
+#[test]
+#[should_panic(expected = "0 runs")]
+fn a_count_of_0_runs_is_no_test() {
+    support::at_least_one(0);
+}
+
 /// Panics unless the accepted case, changed so, gets the refusal from both; 0 is none.
 fn expect(bench: &mut Bench, refusal: u32, change: impl FnOnce(&mut Case)) {
     let mut case = accepted();

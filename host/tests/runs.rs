@@ -156,10 +156,11 @@ fn in_user_space(&(at, _): &(u16, u16)) -> bool {
     USER_SPACE.contains(&usize::from(at))
 }
 
-/// One run of a pair: a case over a template of its own.
+/// One run of a pair: a case over a template of its own, and the words that it is lent.
 struct Side {
     case: Case,
     template: Vec<u16>,
+    lent: Vec<u16>,
     buffers: Buffers,
 }
 
@@ -181,6 +182,17 @@ impl Meeting {
 }
 
 impl Side {
+    fn new(template: Vec<u16>) -> Self {
+        Side { case: accepted(), template, lent: Vec::new(), buffers: Buffers::new() }
+    }
+
+    fn take(&mut self, case: Case) {
+        self.buffers.set(&case, &self.template);
+        self.lent.clear();
+        self.lent.extend_from_slice(self.buffers.memory.get());
+        self.case = case;
+    }
+
     /// The library's answer to `n` steps from the start.
     fn run(&mut self, n: u64) -> Answer {
         self.buffers.set(&self.case, &self.template);
@@ -207,10 +219,15 @@ impl Side {
         &self.buffers.memory.get()[USER_SPACE]
     }
 
-    /// Panics unless the last run showed nothing.
-    fn assert_nothing_shown(&self, answer: &Answer) {
+    /// Panics unless the last run showed nothing, and left all that User mode cannot alter as it was.
+    fn assert_undisturbed(&self, answer: &Answer) {
         assert_eq!(answer.shown, 0);
         assert_eq!(self.buffers.output.get(), self.case.output);
+        assert_eq!(hidden(&answer.record), hidden(&self.case.record));
+        let (words, lent) = (self.buffers.memory.get(), &self.lent);
+        let (below, above) = (..USER_SPACE.start, USER_SPACE.end..);
+        assert!(words[below] == lent[below], "a word below User memory was altered");
+        assert!(words[above.clone()] == lent[above], "a word above User memory was altered");
     }
 
     /// PSR and PC as the library pushes them in the entry after so many steps.
@@ -224,9 +241,14 @@ impl Side {
     }
 }
 
-/// The part of a record that a User program may see.
-fn visible(record: &Record) -> ([u16; 8], u16, u16) {
-    (record.regs, record.pc, record.psr)
+/// The part of a record that a User program may see, and MCR, which may halt it.
+fn visible(record: &Record) -> ([u16; 8], u16, u16, u16) {
+    (record.regs, record.pc, record.psr, record.mcr)
+}
+
+/// The part of a record that a User program cannot alter: MCR and both saved stack pointers.
+fn hidden(record: &Record) -> (u16, u16, u16) {
+    (record.mcr, record.saved_ssp, record.saved_usp)
 }
 
 /// An accepted case in User mode, most often deaf to the keyboard.
@@ -260,8 +282,8 @@ fn check_after(one: &mut Side, other: &mut Side, k: u64) {
     assert_eq!((first.steps, second.steps), (k, k));
     assert_eq!(visible(&first.record), visible(&second.record));
     assert!(one.user_words() == other.user_words(), "the words of User memory differ");
-    one.assert_nothing_shown(&first);
-    other.assert_nothing_shown(&second);
+    one.assert_undisturbed(&first);
+    other.assert_undisturbed(&second);
 }
 
 /// Panics unless the library's two runs agree up to and with the first trap or exception, or to
@@ -286,15 +308,14 @@ fn check_pair(one: &mut Side, other: &mut Side, meeting: &Meeting, other_meeting
 fn user_runs_that_differ_in_what_is_privileged_agree_up_to_a_trap_or_exception() {
     let seed = support::seed();
     let template = |number| cases::template(&mut Rng::of_case(!seed, number));
-    let side = |template| Side { case: accepted(), template, buffers: Buffers::new() };
-    let (mut one, mut other) = (side(template(0)), side(template(1)));
+    let (mut one, mut other) = (Side::new(template(0)), Side::new(template(1)));
     other.template[USER_SPACE].copy_from_slice(&one.template[USER_SPACE]);
     let (mut met, mut steps) = ([0u64; CAUSES], 0);
     for number in 0..support::runs(30_000) {
         let mut rng = Rng::of_case(seed, number);
         let case = user_case(&mut rng);
-        other.case = privileged_twin(&mut rng, &case);
-        one.case = case.clone();
+        other.take(privileged_twin(&mut rng, &case));
+        one.take(case.clone());
         let _announce = Announce { seed, number, case: &case };
         let (meeting, other_meeting) = (one.meeting(), other.meeting());
         if ![meeting.cause(), other_meeting.cause()].contains(&Cause::Keyboard) {

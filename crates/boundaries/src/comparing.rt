@@ -1,12 +1,16 @@
 // Whether the memory and the record are as they were handed in.
 use machine::Machine;
+ghost use mathlib.Core.Path.{_≡_};
+ghost use Prim.Native.Nat.{_+_, _%_};
 
 // The word lent at an address: BRnzp, by the low bits of the address. So a run makes every step, and alters no word.
-pub fn lent_word(i: usize) -> u16 {
+pub(crate) fn lent_word(i: usize) -> u16
+    ensures { λ r. ⌜ r ≡ 0x0E00 + i % 512 ⌝ }
+{
     0x0E00 + (i % 512) as u16
 }
 
-pub fn same_memory(memory: &[u16]) -> bool {
+pub(crate) fn same_memory(memory: &[u16]) -> bool {
     let mut i = 0;
     while i < memory.len() {
         if memory[i] != lent_word(i) {
@@ -31,7 +35,7 @@ fn same_words(a: &[u16], b: &[u16]) -> bool {
     true
 }
 
-pub fn same_record(a: Machine, b: Machine) -> bool {
+pub(crate) fn same_record(a: Machine, b: Machine) -> bool {
     let x = a.regs;
     let y = b.regs;
     let registers = same_words(&x, &y);

@@ -16,7 +16,7 @@ fn print(text: &[u8]) {
     io::write_all(1, text);
 }
 
-pub fn title() {
+pub(crate) fn title() {
     print(b"The boundaries of a run\n");
     print(b"=======================\n\n");
     print(b"Each line is one call: what was handed in, and the answer. 'All as handed in'\n");
@@ -24,13 +24,13 @@ pub fn title() {
     print(b"with what they were before the call.\n");
 }
 
-pub fn heading(text: &[u8]) {
+pub(crate) fn heading(text: &[u8]) {
     print(b"\n");
     print(text);
     print(b"\n");
 }
 
-pub fn fill(memory: &mut [u16]) {
+pub(crate) fn fill(memory: &mut [u16]) {
     let mut i = 0;
     while i < memory.len() {
         memory[i] = lent_word(i);
@@ -39,7 +39,7 @@ pub fn fill(memory: &mut [u16]) {
 }
 
 // The record of every case but for what the case sets: each field is defined, and most differ.
-pub fn record() -> Machine {
+pub(crate) fn record() -> Machine {
     let devices = machine::set_keyboard(machine::fresh_devices(), 0, 0x0055);
     Machine {
         regs: [1, 2, 3, 4, 5, 6, 0x2F00, 8],
@@ -123,7 +123,14 @@ fn unaltered(m: Machine, after: Machine, memory: &[u16], output: &[u8]) -> bool 
 }
 
 // Makes the call and prints its line.
-pub fn attempt(text: &[u8], m: Machine, memory: &mut [u16], times: &[u64], bytes: &[u8], n: u64) {
+pub(crate) fn attempt(
+    text: &[u8],
+    m: Machine,
+    memory: &mut [u16],
+    times: &[u64],
+    bytes: &[u8],
+    n: u64,
+) {
     let mut output = BLANK;
     let a = run::run(m, memory, times, bytes, &mut output, n);
     column(text);

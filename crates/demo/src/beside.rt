@@ -27,7 +27,7 @@ fn same_words(a: &[u16], b: &[u16]) -> bool {
     true
 }
 
-pub fn same_record(a: Machine, b: Machine) -> bool {
+pub(crate) fn same_record(a: Machine, b: Machine) -> bool {
     let x = a.regs;
     let y = b.regs;
     let registers = same_words(&x, &y);
@@ -100,7 +100,7 @@ fn print_compared(steps: u64, same: u64) {
 }
 
 // Makes the two sittings, and answers the last record of the first.
-pub fn sit_beside(
+pub(crate) fn sit_beside(
     first: Machine,
     memory: &mut [u16],
     other: &mut [u16],

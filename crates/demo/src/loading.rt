@@ -5,7 +5,7 @@ use crate::printing::print_word;
 use object::Loaded;
 
 // A small file, by one read. A file that cannot be read is loaded as an empty one, which is turned away.
-pub fn load(path: &[u8], memory: &mut [u16]) -> Loaded {
+pub(crate) fn load(path: &[u8], memory: &mut [u16]) -> Loaded {
     let mut bytes = [0u8; 2048];
     let fd = os::open_read(path);
     let got = libc::read(fd, &mut bytes);
@@ -15,7 +15,7 @@ pub fn load(path: &[u8], memory: &mut [u16]) -> Loaded {
 }
 
 // Loads a file and says what came of it.
-pub fn load_and_tell(path: &[u8], memory: &mut [u16]) {
+pub(crate) fn load_and_tell(path: &[u8], memory: &mut [u16]) {
     let loaded = load(path, memory);
     print(b"  ");
     print(path);

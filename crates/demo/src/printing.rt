@@ -4,12 +4,12 @@ const SPACES: [u8; 20] = [b' '; 20];
 
 const DIGITS: [u8; 16] = *b"0123456789ABCDEF";
 
-pub fn print(text: &[u8]) {
+pub(crate) fn print(text: &[u8]) {
     io::write_all(1, text);
 }
 
 // A decimal number, to the right of a column.
-pub fn print_number(n: u64, width: usize) {
+pub(crate) fn print_number(n: u64, width: usize) {
     let mut text = [0u8; 20];
     let k = io::decimal(n, &mut text);
     if k <= width {
@@ -25,7 +25,7 @@ fn digit(x: u16) -> u8 {
 }
 
 // A word as the book writes it: x and four hexadecimal digits.
-pub fn print_word(x: u16) {
+pub(crate) fn print_word(x: u16) {
     let text = [
         b'x',
         digit(x / 4096),
@@ -46,7 +46,7 @@ fn print_byte(b: u8) {
 }
 
 // Bytes of the display between quotation marks.
-pub fn print_shown(bytes: &[u8]) {
+pub(crate) fn print_shown(bytes: &[u8]) {
     print(b"\"");
     let mut i = 0;
     while i < bytes.len() {

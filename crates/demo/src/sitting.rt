@@ -27,7 +27,7 @@ pub struct Sat {
 }
 
 // Where a count stands after some more, within a length.
-pub fn later(at: usize, more: usize, length: usize) -> usize
+pub(crate) fn later(at: usize, more: usize, length: usize) -> usize
     requires { ⌜ at ≤ length ⌝ }
     ensures { λ r. ⌜ (at ≤ r) × (r ≤ length) ⌝ }
 {
@@ -55,7 +55,7 @@ fn mode_text(psr: u16) {
     }
 }
 
-pub fn is_over(e: Ending) -> bool {
+pub(crate) fn is_over(e: Ending) -> bool {
     match e {
         Ending::Done => false,
         Ending::Halted => true,
@@ -105,7 +105,7 @@ fn call_on(
 }
 
 // Makes the calls and prints the table.
-pub fn sit(
+pub(crate) fn sit(
     first: Machine,
     memory: &mut [u16],
     times: &[u64],

@@ -7,3 +7,4 @@ mod FixedBits
 pub mod ReadingBack
 pub mod DistinctLines
 pub mod LongestLine
+pub mod Examples

@@ -1,5 +1,13 @@
 -- The characters of a line, by their codes in ASCII.
 use Prim.Native.Nat.{ℕ}
+use Prim.Native.Char.{code}
+use Prim.Native.String.{String}
+use mathlib.Core.List.{List, [], _∷_}
+
+-- The codes of a text.
+abbrev pub codesIn : String → List ℕ
+codesIn Prim.Native.String.[] = []
+codesIn (Prim.Native.String._∷_ c text) = code c ∷ codesIn text
 
 abbrev pub lineFeed : ℕ
 lineFeed = 0x0A

@@ -4,3 +4,4 @@ pub mod Operands
 pub mod Line
 pub mod Answer
 pub mod Theorems
+pub mod Examples

@@ -1,10 +1,9 @@
 -- What is proved of lines. Each statement is a type; its proof, of the same name in small letters, is in proofs/.
 use Prim.Native.Nat.{ℕ, _<_, _≤_}
 use mathlib.Core.Path.{_≡_}
-use mathlib.Core.List.{[], _∷_}
 use lib.ListN.{length}
-use Rattle.line.specs.Characters.{lineFeed, space, hash, comma, A, D, R}
-use Rattle.line.specs.Operands.{digit, decimal}
+use Rattle.line.specs.Characters.{codesIn}
+use Rattle.line.specs.Operands.{decimal}
 use Rattle.line.specs.Line.{lineOf}
 
 -- The digits determine the number.
@@ -17,7 +16,7 @@ DistinctWordsGiveDistinctLines = (v w : ℕ) → v < 65536 → w < 65536 → lin
 
 -- x14E7 gives ADD R2, R3, #7.
 abbrev pub ExampleLine : Type 0
-ExampleLine = lineOf 0x14E7 ≡ A ∷ D ∷ D ∷ space ∷ R ∷ digit 2 ∷ comma ∷ space ∷ R ∷ digit 3 ∷ comma ∷ space ∷ hash ∷ digit 7 ∷ lineFeed ∷ []
+ExampleLine = lineOf 0x14E7 ≡ codesIn "ADD R2, R3, #7\n"
 
 -- No line is longer than 17 bytes, its line feed included.
 abbrev pub LongestLine : Type 0

@@ -1,6 +1,7 @@
--- Laws of the machine's definitions, which the code's proofs and the theorems cite: single steps computed; words, tests and devices; two
--- steps side by side; what every step keeps.
+-- Laws of the machine's definitions, which the code's proofs and the theorems cite: single steps computed; words, tests
+-- and devices; two steps side by side; what every step keeps, and the words that it touches.
 pub mod Opened
+pub mod RuleExamples
 pub mod Mistakes
 pub mod WordLaws
 pub mod Tests
@@ -11,3 +12,5 @@ pub mod TwoSteps
 pub mod StepLaws
 pub mod CheckIsNeeded
 pub mod InterruptRule
+pub mod TouchedWords
+pub mod ReadWords

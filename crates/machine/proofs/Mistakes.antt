@@ -7,13 +7,8 @@ pub no-invited-mistake : NoInvitedMistake
 unfolding opened
 no-invited-mistake = record {
   vector-after-pushes = refl;
-  psr-from-supervisor-stack = refl;
+  both-pops-from-supervisor-stack = refl;
   check-before-read = refl;
   lea-keeps-codes = refl;
   ready-kept-at-entry = refl;
-  add-adds = refl;
-  jsrr-by-old-base = refl;
-  own-address-pushed = refl;
-  mode-not-stored = refl;
-  ldi-data-checked = refl;
 }

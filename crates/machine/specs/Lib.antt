@@ -1,4 +1,5 @@
--- The machine of document 01, one concept a file, in the paper's order; then what the theorems say of a step.
+-- The machine of document 01, one concept a file, in the paper's order; then what the theorems say of a step, and the
+-- worked steps.
 pub mod Words
 pub mod Record
 pub mod Psr
@@ -12,6 +13,9 @@ pub mod Access
 pub mod Return
 pub mod Plan
 pub mod Step
+pub mod Touched
 pub mod Causes
 pub mod Visible
+pub mod Rows
+pub mod RuleExamples
 pub mod Mistakes

@@ -5,10 +5,11 @@ use native.Mathlib.Omega.{arith}
 use mathlib.Core.Path.{refl, ap}
 use mathlib.Core.List.{[], _∷_}
 use lib.ListN.{length, take-append-drop}
-use borrow.Author.Tests.{eq-eqb, lt-ltb, le-ltb}
+use borrow.Author.Tests.{eq-eqb, ne-eqb, lt-ltb, le-ltb}
 use Rattle.object.specs.File.{word, wordsOf, bytesOf, originIn, wordsIn}
 use Rattle.object.specs.Calls.{wrongSize, wrongLength, beyondMemory, tooShort, loadRefusal, saveRefusal, Loading, loadAccepted, loadBy, loadOf, Saving, saveAccepted, saveBy, saveOf}
-use Rattle.object.specs.Edges.{FileWithoutWords, RangeWithoutWords, RangeToTheEnd, FileToTheEnd, ExamplesHold}
+use Rattle.object.specs.Edges.{FileWithoutWords, RangeWithoutWords, RangeToTheEnd, FileToTheEnd}
+use Rattle.object.specs.Edges.{WrongSizeFirst, ExamplesHold}
 use Rattle.object.proofs.Acceptance.{words-in, readable-is-loaded, writable-is-saved}
 
 pub file-without-words : FileWithoutWords
@@ -34,6 +35,13 @@ file-to-the-end file memory size even least = (
   λ e. ap (λ (l : Loading). l .refusal) (readable-is-loaded file memory (record { size = size; even = even; least = least; fits = omega (arith, words-in file) })),
   λ e.
       rw (eq-eqb (length memory) 65536 size, eq-eqb (length file % 2) 0 even, le-ltb (length file) 2 least, lt-ltb 65536 (originIn file + length (wordsIn file)) (omega arith)),
+)
+
+pub wrong-size-first : WrongSizeFirst
+unfolding loadOf loadBy loadRefusal saveOf saveBy saveRefusal wrongSize
+wrong-size-first memory h = (
+  λ file. rw (ne-eqb (length memory) 65536 h),
+  λ origin count output. rw (ne-eqb (length memory) 65536 h),
 )
 
 pub examples-hold : ExamplesHold

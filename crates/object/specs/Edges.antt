@@ -33,6 +33,15 @@ FileToTheEnd =
     → (originIn file + length (wordsIn file) ≡ 65536 → loadOf file memory .refusal ≡ 0)
     × (originIn file + length (wordsIn file) ≡ 65537 → loadOf file memory .refusal ≡ 18)
 
+-- 11 comes before every other refusal: with a memory of another size it is answered whatever the file, the range or the
+-- output.
+abbrev pub WrongSizeFirst : Type 0
+WrongSizeFirst =
+    (memory : List ℕ) → (length memory ≡ 65536 → ⊥)
+    → ((file : List ℕ) → loadOf file memory ≡ record { origin = 0; words = 0; refusal = 11; memory = memory })
+    × ((origin count : ℕ) (output : List ℕ)
+    → saveOf memory origin count output ≡ record { count = 0; refusal = 11; output = output })
+
 pub data Example : Type 0 where
   -- a file; the origin, word count and refusal that reading it answers, and the last word of memory then
   reads : List ℕ → ℕ → ℕ → ℕ → ℕ → Example
@@ -48,6 +57,8 @@ examples =
     ∷ reads (0xFF ∷ 0xFF ∷ []) 0xFFFF 0 0 0
     ∷ reads (0xFF ∷ 0xFF ∷ 0x12 ∷ 0x34 ∷ []) 0xFFFF 1 0 0x1234
     ∷ reads (0xFF ∷ 0xFF ∷ 0x12 ∷ 0x34 ∷ 0x56 ∷ 0x78 ∷ []) 0 0 18 0
+    -- an odd length and too many words: 17 before 18
+    ∷ reads (0xFF ∷ 0xFF ∷ 0x12 ∷ 0x34 ∷ 0x56 ∷ 0x78 ∷ 0x9A ∷ []) 0 0 17 0
     ∷ reads (0xFF ∷ 0xFE ∷ 0x12 ∷ 0x34 ∷ 0x56 ∷ 0x78 ∷ []) 0xFFFE 2 0 0x5678
     ∷ writes 0xFFFF 0 2 2 0
     ∷ writes 0xFFFF 1 4 4 0

@@ -6,6 +6,7 @@ pub mod Acceptance
 pub mod RefusalLaws
 pub mod LoopLaws
 pub mod Examples
+pub mod CallExamples
 pub mod Continuing
 pub mod Bounds
 pub mod Noninterference

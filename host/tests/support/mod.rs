@@ -67,7 +67,13 @@ pub fn seed() -> u64 {
 
 /// The number of random runs from `LC3_RUNS`, or else `usual`.
 pub fn runs(usual: u64) -> u64 {
-    setting("LC3_RUNS").unwrap_or(usual)
+    at_least_one(setting("LC3_RUNS").unwrap_or(usual))
+}
+
+/// Panics if there is nothing to run: a test of no runs would pass.
+pub fn at_least_one(runs: u64) -> u64 {
+    assert!(runs > 0, "a test of 0 runs tests nothing");
+    runs
 }
 
 /// A buffer to lend, with cells on both sides that no call may alter.

@@ -1,0 +1,20 @@
+-- The table of fresh records, refusals and stops: by computation, once it is known whether memory has its size.
+use mathlib.Core.Path.{refl}
+use lib.ListN.{length}
+use borrow.Author.Tests.{eq-eqb, ne-eqb}
+use Rattle.run.specs.CallExamples.{CallExamplesHold}
+use Rattle.run.proofs.Examples.{opened}
+
+pub call-examples-hold : CallExamplesHold
+unfolding opened
+call-examples-hold = record {
+  fresh-in-user-mode = refl;
+  fresh-in-supervisor-mode = refl;
+  refusals = λ memory size. rw (eq-eqb (length memory) 65536 size);
+  memory-size-first = λ memory size. rw (ne-eqb (length memory) 65536 size);
+  done-with-no-step = refl;
+  halted-before-full = refl;
+  full-with-a-key-due = refl;
+  full-in-the-second-step = refl;
+  done-after-two = refl;
+}

@@ -1,0 +1,174 @@
+-- Fresh records, refusals and stops, each rule with calls that would be answered otherwise without it: one table, in
+-- document 01's order.
+use Prim.Native.Nat.{ℕ, _+_, _-_, _^_}
+use mathlib.Core.Path.{_≡_}
+use mathlib.Core.Bool.{true, false}
+use mathlib.Core.List.{List, [], _∷_, map}
+use lib.ListN.{length, replicate}
+use Rattle.machine.specs.declared.Machine.{Machine}
+use Rattle.run.specs.declared.Admission.{Admission}
+use Rattle.run.specs.declared.Admission.the-variants.{Accepted, Rejected}
+use Rattle.run.specs.declared.Ending.{Ending}
+use Rattle.run.specs.declared.Ending.the-variants.{Done, Halted, OutputFull}
+use Rattle.run.specs.Fresh.{freshOf}
+use Rattle.run.specs.Run.{End, runOf}
+use Rattle.run.specs.Refusals.{admissionOf, refusalNumber}
+use Rattle.run.specs.Call.{startOf}
+
+-- ---- refusals
+
+-- A record with this PSR, KBSR, KBDR, MCR and clock. R6 and the saved stack pointers may be anything.
+abbrev pub recordWith : ℕ → ℕ → ℕ → ℕ → ℕ → Machine
+recordWith psr kbsr kbdr mcr clock = record {
+  regs = 1 ∷ 2 ∷ 3 ∷ 4 ∷ 5 ∷ 6 ∷ 0xFFFF ∷ 8 ∷ [];
+  pc = 0x0400;
+  psr = psr;
+  «saved_ssp» = 0xFFFF;
+  «saved_usp» = 0xFFFF;
+  devices = record { kbsr = kbsr; kbdr = kbdr; mcr = mcr };
+  clock = clock;
+}
+
+-- The record, n, the key times, how many bytes there are, and the refusal: 0 where the call is accepted.
+pub data Asked : Type 0 where
+  asked : Machine → ℕ → List ℕ → ℕ → ℕ → Asked
+
+-- A record with this PSR, KBSR, KBDR, MCR and clock; the rest as above.
+abbrev pub withBits : ℕ → ℕ → ℕ → ℕ → ℕ → ℕ → List ℕ → ℕ → ℕ → Asked
+withBits psr kbsr kbdr mcr clock n times bytes refusal =
+    asked (recordWith psr kbsr kbdr mcr clock) n times bytes refusal
+
+-- A record without a fault, at this clock; the rest as above.
+abbrev pub atClock : ℕ → ℕ → List ℕ → ℕ → ℕ → Asked
+atClock clock n times bytes refusal = withBits 0x8002 0 0 0x8000 clock n times bytes refusal
+
+-- withBits PSR KBSR KBDR MCR clock n times bytes refusal; atClock clock n times bytes refusal.
+abbrev pub calls : List Asked
+calls =
+    -- every defined bit set, and none
+    withBits 0x8707 0xC000 0x00FF 0x8000 1000 5 [] 0 0
+    ∷ withBits 0x0000 0x0000 0x0000 0x0000 1000 5 [] 0 0
+    -- "12 if the record has an undefined bit": of PSR, KBSR, KBDR, MCR
+    ∷ withBits 0x800A 0x0000 0x0000 0x8000 1000 5 [] 0 12
+    ∷ withBits 0x8082 0x0000 0x0000 0x8000 1000 5 [] 0 12
+    ∷ withBits 0x8802 0x0000 0x0000 0x8000 1000 5 [] 0 12
+    ∷ withBits 0x4002 0x0000 0x0000 0x8000 1000 5 [] 0 12
+    ∷ withBits 0x8002 0x2000 0x0000 0x8000 1000 5 [] 0 12
+    ∷ withBits 0x8002 0x8001 0x0000 0x8000 1000 5 [] 0 12
+    ∷ withBits 0x8002 0x0000 0x0100 0x8000 1000 5 [] 0 12
+    ∷ withBits 0x8002 0x0000 0x8000 0x8000 1000 5 [] 0 12
+    ∷ withBits 0x8002 0x0000 0x0000 0xC000 1000 5 [] 0 12
+    ∷ withBits 0x8002 0x0000 0x0000 0x0001 1000 5 [] 0 12
+    -- "or a clock above 2^48"
+    ∷ atClock (2 ^ 48) 0 [] 0 0
+    ∷ atClock (2 ^ 48 + 1) 0 [] 0 12
+    -- "13 if n is above 1,048,576 or clock plus n above 2^48"
+    ∷ atClock 0 1048576 [] 0 0
+    ∷ atClock 0 1048577 [] 0 13
+    ∷ atClock (2 ^ 48 - 5) 5 [] 0 0
+    ∷ atClock (2 ^ 48 - 5) 6 [] 0 13
+    ∷ atClock (2 ^ 48) 1 [] 0 13
+    -- "14 if the key lists differ in length"
+    ∷ atClock 1000 5 (1000 ∷ []) 1 0
+    ∷ atClock 1000 5 (1000 ∷ []) 0 14
+    ∷ atClock 1000 5 (1000 ∷ []) 2 14
+    ∷ atClock 1000 5 [] 1 14
+    -- "15 if a time is below the clock or below the one before it"
+    ∷ atClock 1000 5 (1000 ∷ 1000 ∷ 1001 ∷ []) 3 0
+    ∷ atClock 1000 5 (999 ∷ []) 1 15
+    ∷ atClock 1000 5 (1002 ∷ 1001 ∷ []) 2 15
+    ∷ atClock 1000 5 (1000 ∷ 1002 ∷ 1001 ∷ []) 3 15
+    -- two faults: "the first of these that applies"
+    ∷ withBits 0x800A 0 0 0x8000 1000 1048577 [] 0 12
+    ∷ withBits 0x800A 0 0 0x8000 1000 5 (1000 ∷ []) 0 12
+    ∷ withBits 0x800A 0 0 0x8000 1000 5 (999 ∷ []) 1 12
+    ∷ atClock (2 ^ 48 + 1) 5 [] 0 12
+    ∷ atClock 1000 1048577 (1000 ∷ []) 0 13
+    ∷ atClock 1000 1048577 (999 ∷ []) 1 13
+    ∷ atClock 1000 5 (999 ∷ []) 0 14
+    ∷ []
+
+-- The number of the refusal, and 0 where there is none.
+abbrev pub numberOf : Admission → ℕ
+numberOf Accepted = 0
+numberOf (Rejected r) = refusalNumber r
+
+-- What the call with this memory comes to, and what the row claims.
+abbrev pub answered : List ℕ → Asked → ℕ
+answered memory (asked m n times bytes refusal) =
+    numberOf (admissionOf (startOf m memory times (replicate bytes 0) []) n)
+
+abbrev pub claimed : Asked → ℕ
+claimed (asked m n times bytes refusal) = refusal
+
+-- "11 if memory is not 65,536 words": whatever else is wrong.
+abbrev pub memorySize : Asked → ℕ
+memorySize c = 11
+
+-- ---- stops
+
+-- Supervisor mode at x0400, with R0 x0041 and R1 at DDR.
+abbrev pub storing : ℕ → Machine
+storing mcr = record {
+  regs = 0x0041 ∷ 0xFE06 ∷ 3 ∷ 4 ∷ 5 ∷ 6 ∷ 0x2F00 ∷ 8 ∷ [];
+  pc = 0x0400;
+  psr = 0x0002;
+  «saved_ssp» = 0x3000;
+  «saved_usp» = 0xFDFF;
+  devices = record { kbsr = 0; kbdr = 0; mcr = mcr };
+  clock = 41;
+}
+
+-- What a run answers but the record's registers: steps, keys, bytes shown, PC, KBDR, the output and the stop.
+pub data Answered : Type 0 where
+  answers : ℕ → ℕ → ℕ → ℕ → ℕ → List ℕ → Ending → Answered
+
+abbrev pub answersOf : End → Answered
+answersOf e =
+    answers (e .steps) (e .keys) (e .shown) (e .machine .pc) (e .machine .devices .kbdr) (e .output) (e .ending)
+
+-- n steps of STR R0, R1, #0, which stands everywhere, with this MCR, a key due in each of the first two steps, and this
+-- output.
+abbrev pub stores : ℕ → List ℕ → ℕ → Answered
+stores mcr output n =
+    answersOf
+    (runOf (startOf (storing mcr) (replicate 65536 0x7040) (41 ∷ 42 ∷ []) (0x61 ∷ 0x62 ∷ []) output) n)
+
+-- ---- the table
+
+pub record CallExamplesHold : Type 0 where
+  -- "A fresh record takes PC, mode and user stack pointer: codes Z, priority 0, MCR x8000, supervisor stack x3000. R6
+  -- is the current mode's pointer and the other mode's is saved; all else is 0."
+  pub fresh-in-user-mode :
+      freshOf 0x1234 true 0x5678
+      ≡ record {
+        regs = 0 ∷ 0 ∷ 0 ∷ 0 ∷ 0 ∷ 0 ∷ 0x5678 ∷ 0 ∷ [];
+        pc = 0x1234;
+        psr = 0x8002;
+        «saved_ssp» = 0x3000;
+        «saved_usp» = 0;
+        devices = record { kbsr = 0; kbdr = 0; mcr = 0x8000 };
+        clock = 0;
+      }
+  pub fresh-in-supervisor-mode :
+      freshOf 0x1234 false 0x5678
+      ≡ record {
+        regs = 0 ∷ 0 ∷ 0 ∷ 0 ∷ 0 ∷ 0 ∷ 0x3000 ∷ 0 ∷ [];
+        pc = 0x1234;
+        psr = 0x0002;
+        «saved_ssp» = 0;
+        «saved_usp» = 0x5678;
+        devices = record { kbsr = 0; kbdr = 0; mcr = 0x8000 };
+        clock = 0;
+      }
+  -- The refusals of the rows above, with any memory of 65,536 words; and with any other memory all of them are 11.
+  pub refusals : (memory : List ℕ) → length memory ≡ 65536 → map (answered memory) calls ≡ map claimed calls
+  pub memory-size-first :
+      (memory : List ℕ) → (length memory ≡ 65536 → ⊥) → map (answered memory) calls ≡ map memorySize calls
+  -- The stops, "tested before each step in this order: done, halted, output full".
+  pub done-with-no-step : stores 0 [] 0 ≡ answers 0 0 0 0x0400 0 [] Done
+  pub halted-before-full : stores 0 [] 1 ≡ answers 0 0 0 0x0400 0 [] Halted
+  -- "None of the stopped step has happened, key arrival included."
+  pub full-with-a-key-due : stores 0x8000 [] 1 ≡ answers 0 0 0 0x0400 0 [] OutputFull
+  pub full-in-the-second-step : stores 0x8000 (0 ∷ []) 2 ≡ answers 1 1 1 0x0401 0x61 (0x41 ∷ []) OutputFull
+  pub done-after-two : stores 0x8000 (0 ∷ 0 ∷ 0 ∷ []) 2 ≡ answers 2 2 2 0x0402 0x62 (0x41 ∷ 0x41 ∷ 0 ∷ []) Done
