@@ -1,17 +1,20 @@
 #!/bin/sh
 # Counts the library's processor instructions per step, which no load on the computer disturbs.
-# Exits 1 where a program takes more than the limit.
+# Exits 1 where a program takes more than the limit. `poll` loads a device register in every second step, which is an
+# ordinary step after a quiet one was tried: it has a limit of its own.
 #
 # The cost of starting and of the call itself is the same for any number of steps, so the
 # difference between two lengths counts steps alone.
 #
 #   LC3_LIB_DIR   where liblc3.a is      build
 #   CC            C compiler             gcc
-#   COUNT_LIMIT   instructions per step  80
+#   COUNT_LIMIT   instructions per step  40
+#   POLL_LIMIT    the same for poll      92
 set -eu
 cd "$(dirname "$0")/../.."
 
-limit=${COUNT_LIMIT:-80}
+limit=${COUNT_LIMIT:-40}
+poll_limit=${POLL_LIMIT:-92}
 steps=20000
 lib=${LC3_LIB_DIR:-build}/liblc3.a
 cc=${CC:-gcc}
@@ -41,12 +44,13 @@ per_step() {
 decimal() { printf '%d.%02d' $(($1 / 100)) $(($1 % 100)); }
 
 status=0
-echo "instructions per step, limit $limit"
-for program in count copy sieve calls; do
+echo "instructions per step, limit $limit, for poll $poll_limit"
+for program in count copy sieve calls poll; do
     library=$(per_step library $program)
     plain=$(per_step plain $program)
     tuned=$(per_step tuned $program)
     verdict=
+    [ $program = poll ] && limit=$poll_limit
     if [ "$library" -gt $((limit * 100)) ]; then
         verdict="over the limit"
         status=1

@@ -1,6 +1,6 @@
 /*
  * The programs that are timed and counted: words from x3000 up, in User mode, without end. TRAP x25
- * leads to an RTI at x0200.
+ * leads to an RTI at x0200, TRAP x20 to a routine that waits for a key.
  */
 #ifndef PROGRAMS_H
 #define PROGRAMS_H
@@ -94,6 +94,18 @@ static const uint16_t calls_words[] = {
     0x4E20, /* PLACE   .FILL  x4E20 */
 };
 
+/* Waiting for a key that never comes: every second step loads a device register. */
+static const uint16_t poll_words[] = {
+    0xF020, /*         TRAP   x20 */
+};
+
+static const uint16_t getc_words[] = {
+    0xA002, /* WAIT    LDI    R0, KBSR */
+    0x07FE, /*         BRzp   WAIT */
+    0x8000, /*         RTI */
+    0xFE00, /* KBSR    .FILL  xFE00 */
+};
+
 typedef struct {
     const char *name;
     const uint16_t *words;
@@ -105,16 +117,19 @@ static const program programs[] = {
     {"copy", copy_words, sizeof copy_words / sizeof *copy_words},
     {"sieve", sieve_words, sizeof sieve_words / sizeof *sieve_words},
     {"calls", calls_words, sizeof calls_words / sizeof *calls_words},
+    {"poll", poll_words, sizeof poll_words / sizeof *poll_words},
 };
 
 enum { PROGRAMS = sizeof programs / sizeof *programs };
 
-/* Loads a program and the trap's vector and routine into cleared memory. */
+/* Loads a program and the traps' vectors and routines into cleared memory. */
 static inline void load_program(uint16_t *memory, const program *p) {
     memset(memory, 0, LC3_MEMORY_WORDS * sizeof *memory);
     memcpy(memory + 0x3000, p->words, p->length * sizeof *memory);
     memory[0x0025] = 0x0200;
     memory[0x0200] = 0x8000; /* RTI */
+    memory[0x0020] = 0x0210;
+    memcpy(memory + 0x0210, getc_words, sizeof getc_words);
 }
 
 #endif

@@ -5,6 +5,7 @@ pub mod RunKeeps
 pub mod Acceptance
 pub mod RefusalLaws
 pub mod LoopLaws
+pub mod QuietLaws
 pub mod Examples
 pub mod CallExamples
 pub mod Continuing

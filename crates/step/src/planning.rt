@@ -4,12 +4,12 @@ use crate::words::bit_and;
 use crate::words::complement;
 use crate::words::next;
 use crate::words::register;
+use crate::words::sum;
 use machine::Plan;
 use word::Instruction;
 ghost use mathlib.Core.Path.{_≡_};
 ghost use mathlib.Core.Bool.{cond};
-ghost use Prim.Native.Nat.{_+_};
-ghost use Rattle.machine.specs.Words.{wrap, plus};
+ghost use Rattle.machine.specs.Words.{plus};
 ghost use Rattle.machine.specs.Psr.{isTaken};
 ghost use Rattle.machine.specs.Plan.{planOf};
 
@@ -20,12 +20,6 @@ fn branch(mask: u8, psr: u16, next: u16, n: i16) -> u16
         return word::fields::offset(next, n);
     }
     next
-}
-
-fn sum(a: u16, b: u16) -> u16
-    ensures { λ r. ⌜ r ≡ wrap (a + b) ⌝ }
-{
-    std::num::wrapping_add_u16(a, b)
 }
 
 pub fn plan_for(regs: &[u16; 8], pc: u16, psr: u16, i: Instruction) -> Plan

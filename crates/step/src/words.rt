@@ -1,7 +1,7 @@
 // Words of 16 bits, and the registers R0 to R7.
 ghost use mathlib.Core.Path.{_≡_};
-ghost use Prim.Native.Nat.{_-_};
-ghost use Rattle.machine.specs.Words.{next, before, wordAnd, complement, register, withRegister};
+ghost use Prim.Native.Nat.{_+_, _-_};
+ghost use Rattle.machine.specs.Words.{wrap, next, before, wordAnd, complement, register, withRegister};
 
 pub fn next(a: u16) -> u16
     ensures { λ r. ⌜ r ≡ next a ⌝ }
@@ -13,6 +13,12 @@ pub fn before(a: u16) -> u16
     ensures { λ r. ⌜ r ≡ before a ⌝ }
 {
     std::num::wrapping_sub_u16(a, 1)
+}
+
+pub fn sum(a: u16, b: u16) -> u16
+    ensures { λ r. ⌜ r ≡ wrap (a + b) ⌝ }
+{
+    std::num::wrapping_add_u16(a, b)
 }
 
 pub fn bit_and(a: u16, b: u16) -> u16

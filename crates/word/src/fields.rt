@@ -4,6 +4,26 @@ ghost use mathlib.Core.Path.{_≡_};
 ghost use Prim.Native.Nat.{_+_, _%_, _<_, _≤_};
 ghost use lib.Signed.{mag};
 ghost use Rattle.word.specs.Field.{signed, bits};
+ghost use Rattle.word.specs.Reading.{bits11to9, bits8to6, bits2to0};
+
+// The places of registers in a word: DR, SR or the BR mask; SR1, SR or BaseR; SR2.
+pub fn bits11to9(word: u16) -> u8
+    ensures { λ r. ⌜ r ≡ bits11to9 word ⌝ }
+{
+    (word / 512 % 8) as u8
+}
+
+pub fn bits8to6(word: u16) -> u8
+    ensures { λ r. ⌜ r ≡ bits8to6 word ⌝ }
+{
+    (word / 64 % 8) as u8
+}
+
+pub fn bits2to0(word: u16) -> u8
+    ensures { λ r. ⌜ r ≡ bits2to0 word ⌝ }
+{
+    (word % 8) as u8
+}
 
 // The signed number in the low bits of a word: sign extension.
 pub(crate) fn extend(word: u16, half: u16) -> i16

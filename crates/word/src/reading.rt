@@ -1,6 +1,7 @@
 // Reading a word as an instruction ('Instruction words' of document 01). Every word is accepted,
 // and bits that Figure A.2 fixes are ignored.
 use super::Instruction;
+use super::fields;
 use super::fields::extend;
 ghost use mathlib.Core.Path.{_≡_};
 ghost use Rattle.word.specs.Reading.{readOf, readAdd, readJsr, readAnd};
@@ -10,8 +11,8 @@ pub fn read(word: u16) -> Instruction
     ensures { λ r. ⌜ r ≡ readOf word ⌝ }
 {
     let opcode = word / 4096;
-    let bits11to9 = (word / 512 % 8) as u8;
-    let bits8to6 = (word / 64 % 8) as u8;
+    let bits11to9 = fields::bits11to9(word);
+    let bits8to6 = fields::bits8to6(word);
     match opcode {
         0 => Instruction::Br(bits11to9, extend(word, 256)),
         1 => read_add(word),
@@ -36,9 +37,9 @@ pub fn read(word: u16) -> Instruction
 fn read_add(word: u16) -> Instruction
     ensures { λ r. ⌜ r ≡ readAdd word ⌝ }
 {
-    let bits11to9 = (word / 512 % 8) as u8;
-    let bits8to6 = (word / 64 % 8) as u8;
-    let bits2to0 = (word % 8) as u8;
+    let bits11to9 = fields::bits11to9(word);
+    let bits8to6 = fields::bits8to6(word);
+    let bits2to0 = fields::bits2to0(word);
     if word / 32 % 2 == 0 {
         Instruction::AddRegister(bits11to9, bits8to6, bits2to0)
     } else {
@@ -50,7 +51,7 @@ fn read_add(word: u16) -> Instruction
 fn read_jsr(word: u16) -> Instruction
     ensures { λ r. ⌜ r ≡ readJsr word ⌝ }
 {
-    let bits8to6 = (word / 64 % 8) as u8;
+    let bits8to6 = fields::bits8to6(word);
     if word / 2048 % 2 == 0 {
         Instruction::Jsrr(bits8to6)
     } else {
@@ -62,9 +63,9 @@ fn read_jsr(word: u16) -> Instruction
 fn read_and(word: u16) -> Instruction
     ensures { λ r. ⌜ r ≡ readAnd word ⌝ }
 {
-    let bits11to9 = (word / 512 % 8) as u8;
-    let bits8to6 = (word / 64 % 8) as u8;
-    let bits2to0 = (word % 8) as u8;
+    let bits11to9 = fields::bits11to9(word);
+    let bits8to6 = fields::bits8to6(word);
+    let bits2to0 = fields::bits2to0(word);
     if word / 32 % 2 == 0 {
         Instruction::AndRegister(bits11to9, bits8to6, bits2to0)
     } else {

@@ -7,10 +7,32 @@ use Rattle.word.proofs.reading.read_and.Statement.{statement}
 use Rattle.word.proofs.reading.read_and.Tie as tie
 
 returns : tie.Need-returns
-returns c = simp (eq-eqb (c .before .args .word / 32 % 2) 0 (c .if1 .taken))
+returns c =
+    let fields = c .before in
+    simp (
+      eq-eqb (fields .before .before .before .args .word / 32 % 2) 0 (c .if1 .taken),
+      fields .before .before .bits11to9 .ensures,
+      fields .before .bits8to6 .ensures,
+      fields .bits2to0 .ensures,
+    )
 
 returns-2 : tie.Need-returns-2
-returns-2 c = simp (ne-eqb (c .before .before .args .word / 32 % 2) 0 (c .before .if1 .left), kept _ _ (c .extend .ok) (c .extend .ensures))
+returns-2 c =
+    let fields = c .before .before in
+    simp (
+      ne-eqb (fields .before .before .before .args .word / 32 % 2) 0 (c .before .if1 .left),
+      fields .before .before .bits11to9 .ensures,
+      fields .before .bits8to6 .ensures,
+      kept _ _ (c .extend .ok) (c .extend .ensures),
+    )
 
 pub read-and-spec : {M : Type 1} → statement M
-read-and-spec = tie.close (tie.spec (λ c. search needs) (λ c. search needs) (λ c. search needs) (λ c κs. search needs) returns returns-2)
+read-and-spec =
+    tie.close
+    (tie.spec
+    (λ c κs. search needs)
+    (λ c κs. search needs)
+    (λ c κs. search needs)
+    (λ c κs. search needs)
+    returns
+    returns-2)

@@ -1,0 +1,2 @@
+-- What a quiet step answers and leaves.
+pub mod Quiet
