@@ -11,6 +11,9 @@
  *   lc3_line     writes a word as a line of text
  *   lc3_load     reads an object file into lent memory
  *   lc3_save     writes an object file from a range of lent memory
+ *   lc3_monitor  puts the ready-made monitor into lent memory; lc3_monitor_routines says where
+ *                its routines are
+ *   lc3_vectors  writes the vector words for the routines of any monitor
  *
  * What a host owes and may rely on:
  *
@@ -22,8 +25,8 @@
  *   may not overlap.
  * - Several threads may call at once. What a call only reads they may share while nobody writes
  *   it: times and bytes of lc3_run and lc3_step, file of lc3_load, memory of lc3_save. What a call
- *   writes is that call's alone: memory of lc3_run, lc3_step and lc3_load, every output, and the
- *   record lent to lc3_step.
+ *   writes is that call's alone: memory of lc3_run, lc3_step, lc3_load and lc3_monitor, every
+ *   output, and the record lent to lc3_step.
  * - Every call is answered. One that cannot be obeyed is refused with a number that says why, and
  *   a refused call leaves every field of the record and every buffer as it was.
  * - Padding means nothing. The bytes of a struct that belong to no field may hold anything and may
@@ -55,6 +58,8 @@ extern "C" {
 #define LC3_MAX_STEPS 1048576             /* steps of one call; a longer run is several calls */
 #define LC3_MAX_CLOCK (UINT64_C(1) << 48) /* the clock never passes this */
 #define LC3_MAX_LINE 17                   /* bytes of the longest line, its line feed included */
+#define LC3_VECTOR_WORDS 512              /* the vector words, x0000 to x01FF */
+#define LC3_MONITOR_WORDS 677             /* the words of the ready-made monitor, x0000 to x02A4 */
 
 /* Bits of the PSR. No other bit may be set in a record; any pattern of N, Z, P is allowed. */
 #define LC3_PSR_USER 0x8000     /* set in User mode, clear in Supervisor mode */
@@ -86,6 +91,8 @@ extern "C" {
  *   lc3_line            16
  *   lc3_load            11, 17, 18
  *   lc3_save            11, 18, 16
+ *   lc3_monitor         11
+ *   lc3_vectors         16
  */
 enum {
     LC3_ACCEPTED = 0,
@@ -97,7 +104,7 @@ enum {
     LC3_REFUSED_STEPS = 13,   /* n is above LC3_MAX_STEPS, or clock + n above LC3_MAX_CLOCK */
     LC3_REFUSED_LISTS = 14,   /* times and bytes differ in length */
     LC3_REFUSED_TIMES = 15,   /* a time is below the clock or below the time before it */
-    LC3_REFUSED_OUTPUT = 16,  /* the line, or the file, does not fit the output */
+    LC3_REFUSED_OUTPUT = 16,  /* the line, the file or the vector words do not fit the output */
     LC3_REFUSED_FILE = 17,    /* the file has an odd number of bytes, or fewer than two */
     LC3_REFUSED_RANGE = 18    /* origin + words is above LC3_MEMORY_WORDS */
 };
@@ -220,6 +227,14 @@ typedef struct {
     uint32_t refusal; /* LC3_ACCEPTED, or why the call was refused */
 } lc3_counted;
 
+/* The addresses of a monitor's routines: what the words x0000 to x01FF of memory hold. */
+typedef struct {
+    uint16_t getc, out, puts, input, putsp, halt; /* TRAP x20 to x25; input is IN's */
+    uint16_t trap;                                /* every other trap */
+    uint16_t exception;                           /* privilege, illegal opcode, access */
+    uint16_t interrupt;                           /* every other word of x0100 to x01FF */
+} lc3_routines;
+
 /*
  * The version of the interface that the library was built for. A host that loads the library at
  * run time compares it with its header's LC3_VERSION before any other call.
@@ -301,6 +316,28 @@ lc3_loaded lc3_load(const uint8_t *file, size_t file_len, uint16_t *memory, size
 lc3_counted lc3_save(const uint16_t *memory, size_t memory_len, uint16_t origin, size_t words,
                      uint8_t *output, size_t output_len);
 
+/*
+ * Puts the ready-made monitor into memory: the words x0000 to x02A4, and no other. Its routines are
+ * GETC, OUT, PUTS, IN, PUTSP and HALT of Table A.3 at trap vectors x20 to x25; every other trap and
+ * the three exceptions halt and show nothing; interrupts return at once. docs/MONITOR.md describes
+ * them, docs/monitor.lst lists them. Answers the refusal.
+ *
+ * A candidate's program then starts in User mode, by lc3_fresh(origin, true, user_stack). The
+ * routines use the supervisor stack from x2FFF down to x2FF8.
+ */
+uint32_t lc3_monitor(uint16_t *memory, size_t memory_len);
+
+/* Where the ready-made monitor's routines are. */
+lc3_routines lc3_monitor_routines(void);
+
+/*
+ * Writes the words x0000 to x01FF of a monitor with these routines to the start of output, whose
+ * other words are left as lent, so that output may be memory itself. Answers the refusal:
+ * LC3_REFUSED_OUTPUT where output has fewer than LC3_VECTOR_WORDS words. The routines of
+ * lc3_monitor_routines give the very words that lc3_monitor puts there.
+ */
+uint32_t lc3_vectors(lc3_routines routines, uint16_t *output, size_t output_len);
+
 #ifdef __cplusplus
 }
 #define LC3_LAYOUT(condition) static_assert(condition, #condition)
@@ -357,6 +394,17 @@ LC3_LAYOUT(offsetof(lc3_loaded, refusal) == 8);
 LC3_LAYOUT(sizeof(lc3_counted) == 16);
 LC3_LAYOUT(offsetof(lc3_counted, count) == 0);
 LC3_LAYOUT(offsetof(lc3_counted, refusal) == 8);
+
+LC3_LAYOUT(sizeof(lc3_routines) == 18);
+LC3_LAYOUT(offsetof(lc3_routines, getc) == 0);
+LC3_LAYOUT(offsetof(lc3_routines, out) == 2);
+LC3_LAYOUT(offsetof(lc3_routines, puts) == 4);
+LC3_LAYOUT(offsetof(lc3_routines, input) == 6);
+LC3_LAYOUT(offsetof(lc3_routines, putsp) == 8);
+LC3_LAYOUT(offsetof(lc3_routines, halt) == 10);
+LC3_LAYOUT(offsetof(lc3_routines, trap) == 12);
+LC3_LAYOUT(offsetof(lc3_routines, exception) == 14);
+LC3_LAYOUT(offsetof(lc3_routines, interrupt) == 16);
 
 #undef LC3_LAYOUT
 

@@ -1,7 +1,7 @@
 /*
  * Every function of lc3.h from a host's side: the version, the fourteen examples, the refusals at
- * their boundaries, the stops, the reading and writing of all instructions, lines of text, and
- * object files.
+ * their boundaries, the stops, the reading and writing of all instructions, lines of text, object
+ * files, and the ready-made monitor.
  */
 #include "lc3.h"
 
@@ -848,6 +848,65 @@ static void test_line(void) {
     }
 }
 
+/* ---- The monitor ---- */
+
+/* The address that the vector word at a has to hold. */
+static uint16_t vector_word(const lc3_routines *r, size_t a) {
+    const uint16_t services[] = {r->getc, r->out, r->puts, r->input, r->putsp, r->halt};
+    if (0x20 <= a && a <= 0x25) return services[a - 0x20];
+    if (a < 0x100) return r->trap;
+    return a < 0x103 ? r->exception : r->interrupt;
+}
+
+/* Vector words for random routines, at the lengths of output around their own. */
+static void test_vectors(void) {
+    part = "vectors";
+    static const size_t lengths[] = {0, 1, LC3_VECTOR_WORDS - 1, LC3_VECTOR_WORDS,
+                                     LC3_VECTOR_WORDS + 1, WORDS};
+    for (size_t i = 0; i < sizeof lengths / sizeof *lengths; i++) {
+        lc3_routines r = {any(), any(), any(), any(), any(), any(), any(), any(), any()};
+        bool fits = lengths[i] >= LC3_VECTOR_WORDS;
+        fill_memory();
+        keep_buffers();
+        for (size_t a = 0; fits && a < LC3_VECTOR_WORDS; a++) wanted_memory[a] = vector_word(&r, a);
+        CHECK(lc3_vectors(r, memory, lengths[i]), fits ? LC3_ACCEPTED : LC3_REFUSED_OUTPUT);
+        check_buffers();
+    }
+}
+
+/* The monitor's own words, and no other word of memory; other sizes of memory are refused. */
+static void test_monitor(void) {
+    part = "monitor";
+    fill_memory();
+    keep_buffers();
+    CHECK(lc3_monitor(memory, 0), LC3_REFUSED_MEMORY);
+    CHECK(lc3_monitor(memory, WORDS - 1), LC3_REFUSED_MEMORY);
+    CHECK(lc3_monitor(memory, WORDS + 1), LC3_REFUSED_MEMORY);
+    check_buffers();
+    CHECK(lc3_monitor(memory, WORDS), LC3_ACCEPTED);
+    CHECK(lc3_vectors(lc3_monitor_routines(), wanted_memory, WORDS), LC3_ACCEPTED);
+    CHECK(memcmp(memory, wanted_memory, LC3_VECTOR_WORDS * sizeof *memory), 0);
+    CHECK(memory[LC3_VECTOR_WORDS], 0xA07F); /* GETC's LDI R0, KBSR */
+    CHECK(memory[LC3_MONITOR_WORDS - 2], 0x000A); /* the end of HALT's message */
+    CHECK(memory[LC3_MONITOR_WORDS - 1], 0x0000);
+    CHECK(memcmp(memory + LC3_MONITOR_WORDS, wanted_memory + LC3_MONITOR_WORDS,
+                 (WORDS + 1 - LC3_MONITOR_WORDS) * sizeof *memory), 0);
+}
+
+/* HALT, called by a program in User mode. */
+static void test_halt(void) {
+    part = "halt";
+    clear_buffers();
+    CHECK(lc3_monitor(memory, WORDS), LC3_ACCEPTED);
+    memory[0x3000] = 0xF025;
+    arguments c = usual();
+    c.n = 1000;
+    lc3_answer a = run(&c);
+    CHECK(a.stop, LC3_HALTED);
+    CHECK(a.shown, 7);
+    CHECK(memcmp(output, "Halted\n", 7), 0);
+}
+
 int main(void) {
     test_version();
     test_fresh();
@@ -865,6 +924,9 @@ int main(void) {
     test_line();
     test_load();
     test_save();
+    test_vectors();
+    test_monitor();
+    test_halt();
     printf("interface: %lu checks, %lu failures\n", checks, failures);
     return failures != 0;
 }

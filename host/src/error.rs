@@ -1,7 +1,7 @@
 //! Refusals of every call as one type.
 
 use crate::ffi::LC3_ACCEPTED;
-use crate::{LineRefusal, ObjectRefusal, Refusal, WriteRefusal};
+use crate::{LineRefusal, MonitorRefusal, ObjectRefusal, Refusal, WriteRefusal};
 use std::fmt;
 
 /// Why a call was refused, whichever call it was: every refusal converts into it.
@@ -31,6 +31,8 @@ pub enum Error {
     Line(LineRefusal),
     /// An object file was not read or not written.
     Object(ObjectRefusal),
+    /// The monitor was not put into memory.
+    Monitor(MonitorRefusal),
 }
 
 impl Error {
@@ -41,6 +43,7 @@ impl Error {
             Error::Run(refusal) => refusal.code(),
             Error::Line(refusal) => refusal.code(),
             Error::Object(refusal) => refusal.code(),
+            Error::Monitor(refusal) => refusal.code(),
         }
     }
 }
@@ -52,6 +55,7 @@ impl fmt::Display for Error {
             Error::Run(refusal) => refusal.fmt(f),
             Error::Line(refusal) => refusal.fmt(f),
             Error::Object(refusal) => refusal.fmt(f),
+            Error::Monitor(refusal) => refusal.fmt(f),
         }
     }
 }
@@ -79,6 +83,12 @@ impl From<LineRefusal> for Error {
 impl From<ObjectRefusal> for Error {
     fn from(refusal: ObjectRefusal) -> Error {
         Error::Object(refusal)
+    }
+}
+
+impl From<MonitorRefusal> for Error {
+    fn from(refusal: MonitorRefusal) -> Error {
+        Error::Monitor(refusal)
     }
 }
 

@@ -92,6 +92,30 @@ pub struct Counted {
     pub refusal: u32,
 }
 
+/// The addresses of a monitor's routines: `lc3_routines`.
+#[repr(C)]
+#[derive(Clone, Copy, Debug, PartialEq, Eq)]
+pub struct Routines {
+    /// TRAP x20: GETC.
+    pub getc: u16,
+    /// TRAP x21: OUT.
+    pub out: u16,
+    /// TRAP x22: PUTS.
+    pub puts: u16,
+    /// TRAP x23: IN.
+    pub input: u16,
+    /// TRAP x24: PUTSP.
+    pub putsp: u16,
+    /// TRAP x25: HALT.
+    pub halt: u16,
+    /// Every other trap.
+    pub trap: u16,
+    /// The privilege, illegal opcode and access exceptions.
+    pub exception: u16,
+    /// Every other word of x0100 to x01FF.
+    pub interrupt: u16,
+}
+
 // The layout that C gives the same declarations.
 const _: () = assert!(size_of::<Record>() == 40 && align_of::<Record>() == 8);
 const _: () = assert!(offset_of!(Record, regs) == 0 && offset_of!(Record, pc) == 16);
@@ -118,6 +142,12 @@ const _: () = assert!(offset_of!(Loaded, words) == 0 && offset_of!(Loaded, origi
 const _: () = assert!(offset_of!(Loaded, refusal) == 8);
 const _: () = assert!(size_of::<Counted>() == 16 && align_of::<Counted>() == 8);
 const _: () = assert!(offset_of!(Counted, count) == 0 && offset_of!(Counted, refusal) == 8);
+const _: () = assert!(size_of::<Routines>() == 18 && align_of::<Routines>() == 2);
+const _: () = assert!(offset_of!(Routines, getc) == 0 && offset_of!(Routines, out) == 2);
+const _: () = assert!(offset_of!(Routines, puts) == 4 && offset_of!(Routines, input) == 6);
+const _: () = assert!(offset_of!(Routines, putsp) == 8 && offset_of!(Routines, halt) == 10);
+const _: () = assert!(offset_of!(Routines, trap) == 12 && offset_of!(Routines, exception) == 14);
+const _: () = assert!(offset_of!(Routines, interrupt) == 16);
 
 unsafe extern "C" {
     /// The version of the interface that the library was built for.
@@ -203,4 +233,21 @@ unsafe extern "C" {
         output: *mut u8,
         output_len: usize,
     ) -> Counted;
+
+    /// Puts the ready-made monitor into memory.
+    ///
+    /// # Safety
+    ///
+    /// `memory` must be valid for writing `memory_len` words.
+    pub fn lc3_monitor(memory: *mut u16, memory_len: usize) -> u32;
+
+    /// Where the ready-made monitor's routines are.
+    pub safe fn lc3_monitor_routines() -> Routines;
+
+    /// Writes the vector words for these routines.
+    ///
+    /// # Safety
+    ///
+    /// `output` must be valid for writing `output_len` words.
+    pub fn lc3_vectors(routines: Routines, output: *mut u16, output_len: usize) -> u32;
 }

@@ -1,13 +1,15 @@
 //! The LC-3 with privilege, interrupts and a console.
 //!
-//! This crate is a safe wrapper of the static library `liblc3.a`. It has the library's nine calls:
+//! This crate is a safe wrapper of the static library `liblc3.a`. It has the library's twelve calls:
 //!
 //! - [`version()`], the version of the interface;
 //! - [`Record::fresh`] for a machine that has not run yet, [`run`](run()) for a number of steps over
 //!   lent memory, and [`step`] for one step, which alters the record that it is lent;
 //! - [`read`] for a word as an instruction, [`write`](write()) for an instruction as a word, and
 //!   [`line`](line()) for a word as a line of text;
-//! - [`load`] and [`save`] for object files.
+//! - [`load`] and [`save`] for object files;
+//! - [`install_monitor`] for the ready-made monitor, [`Routines::of_monitor`] for the addresses of its
+//!   routines, and [`vectors`] for the vector words of any monitor.
 //!
 //! Nothing is kept between calls. A call that cannot be obeyed is refused and alters nothing; each
 //! kind of refusal converts into [`Error`]. The C interface itself, with the constants of `lc3.h`
@@ -46,6 +48,7 @@ mod error;
 pub mod ffi;
 mod instruction;
 mod line;
+mod monitor;
 mod object;
 mod record;
 mod run;
@@ -53,6 +56,9 @@ mod run;
 pub use error::Error;
 pub use instruction::{read, write, Instruction, WriteRefusal};
 pub use line::{line, line_string, LineRefusal, LINE_LIMIT};
+pub use monitor::{
+    install_monitor, vectors, MonitorRefusal, Routines, MONITOR_WORDS, VECTOR_WORDS,
+};
 pub use object::{load, save, Loaded, ObjectRefusal};
 pub use record::{Mode, Record};
 pub use run::{run, step, Keys, Refusal, Run, StepReport, Stop, CLOCK_LIMIT, STEP_LIMIT, WORDS};

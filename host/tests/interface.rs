@@ -1,7 +1,10 @@
 //! That header, library, shared library and wrapper have one version and the same constants, and
 //! that every refusal and stop has its number and a text of its own.
 
-use lc3::{ffi, Error, LineRefusal, Mode, ObjectRefusal, Record, Refusal, Stop, WriteRefusal};
+use lc3::{
+    ffi, Error, LineRefusal, Mode, MonitorRefusal, ObjectRefusal, Record, Refusal, Stop,
+    WriteRefusal,
+};
 use std::collections::{BTreeMap, HashSet};
 use std::fs;
 use std::path::Path;
@@ -51,7 +54,8 @@ macro_rules! constants {
 fn the_constants_are_those_of_the_header() {
     let of_the_wrapper = constants! {
         LC3_VERSION
-        LC3_MEMORY_WORDS LC3_MAX_STEPS LC3_MAX_CLOCK LC3_MAX_LINE
+        LC3_MEMORY_WORDS LC3_MAX_STEPS LC3_MAX_CLOCK LC3_MAX_LINE LC3_VECTOR_WORDS
+        LC3_MONITOR_WORDS
         LC3_PSR_USER LC3_PSR_PRIORITY LC3_PSR_N LC3_PSR_Z LC3_PSR_P
         LC3_KBSR_READY LC3_KBSR_INTERRUPT LC3_KBDR_BYTE LC3_MCR_CLOCK
         LC3_ADDRESS_KBSR LC3_ADDRESS_KBDR LC3_ADDRESS_DSR LC3_ADDRESS_DDR LC3_ADDRESS_PSR
@@ -83,7 +87,7 @@ fn header_library_shared_library_and_wrapper_have_one_version() {
 
 #[test]
 fn every_refusal_converts_with_its_number_and_text() {
-    let errors: [Error; 13] = [
+    let errors: [Error; 14] = [
         WriteRefusal::Register.into(),
         WriteRefusal::Value.into(),
         WriteRefusal::Mask.into(),
@@ -97,12 +101,13 @@ fn every_refusal_converts_with_its_number_and_text() {
         ObjectRefusal::Output.into(),
         ObjectRefusal::File.into(),
         ObjectRefusal::Range.into(),
+        MonitorRefusal::Memory.into(),
     ];
-    assert_eq!(errors.map(Error::code), [1, 2, 3, 11, 12, 13, 14, 15, 16, 11, 16, 17, 18]);
+    assert_eq!(errors.map(Error::code), [1, 2, 3, 11, 12, 13, 14, 15, 16, 11, 16, 17, 18, 11]);
     assert_eq!(Error::from(Refusal::KeyLists).to_string(), Refusal::KeyLists.to_string());
     // Memory of another size has one text, whichever call it was handed to.
     let texts: HashSet<String> = errors.iter().map(ToString::to_string).collect();
-    assert_eq!(texts.len(), errors.len() - 1);
+    assert_eq!(texts.len(), errors.len() - 2);
 }
 
 #[test]

@@ -49,21 +49,37 @@ fn counted(count: u64, holds: bool) -> u64
     if holds { count + 1 } else { count }
 }
 
-// The name of the routine at an address.
-fn print_routine(pc: u16) {
+// The word at an address of memory.
+fn word_at(memory: &[u16], a: u16) -> u16 {
+    let i = a as usize;
+    if i < memory.len() { memory[i] } else { 0 }
+}
+
+// What brought the candidate to the monitor's STOP, by the opcode of the word that it obeyed.
+fn print_reason(word: u16) {
+    match word / 0x1000 {
+        0x8 => print(b"STOP, by the privilege exception"),
+        0xD => print(b"STOP, by the illegal opcode exception"),
+        0xF => print(b"STOP, by a trap without a service"),
+        _ => print(b"STOP, by the access exception"),
+    }
+}
+
+// The name of the monitor's routine at an address.
+fn print_routine(pc: u16, word: u16) {
     match pc {
-        0x020A => print(b"GETC"),
-        0x0212 => print(b"OUT"),
-        0x0218 => print(b"PUTS"),
-        0x0232 => print(b"HALT"),
-        0x0239 => print(b"access exception"),
-        0x0247 => print(b"keyboard interrupt"),
+        0x0200 => print(b"GETC"),
+        0x0204 => print(b"OUT"),
+        0x020C => print(b"PUTS"),
+        0x026D => print(b"HALT"),
+        0x027C => print_reason(word),
         _ => print(b"another routine"),
     }
 }
 
-// A line for a step that left User mode: the clock, the PC and R0 before it, R0 after it, and the routine entered.
-fn print_entry(before: Machine, after: Machine) {
+// A line for a step that left User mode: the clock, the PC and R0 before it, R0 after it, and the routine entered. The
+// word is the one that was obeyed.
+fn print_entry(before: Machine, after: Machine, word: u16) {
     if before.psr < 0x8000 {
         return;
     }
@@ -78,7 +94,7 @@ fn print_entry(before: Machine, after: Machine) {
     print(b"      ");
     print_word(after.regs[0]);
     print(b"     ");
-    print_routine(after.pc);
+    print_routine(after.pc, word);
     print(b"\n");
 }
 
@@ -89,6 +105,17 @@ fn one_step(m: Machine, memory: &mut [u16], times: &[u64], bytes: &[u8], at: usi
 {
     let mut shown = [0u8; 1];
     run::run(m, memory, &times[at..], &bytes[at..], &mut shown, 1)
+}
+
+// The same, with a line where the step leaves User mode.
+fn told_step(m: Machine, memory: &mut [u16], times: &[u64], bytes: &[u8], at: usize) -> Answer
+    requires { ⌜ at ≤ length (now times) ⌝ }
+    requires { ⌜ length (now times) ≡ length (now bytes) ⌝ }
+{
+    let word = word_at(memory, m.pc);
+    let a = one_step(m, memory, times, bytes, at);
+    print_entry(m, a.machine, word);
+    a
 }
 
 fn print_compared(steps: u64, same: u64) {
@@ -115,7 +142,7 @@ pub(crate) fn sit_beside(
     let mut same = 0;
     let mut steps = 0;
     while steps < STEPS {
-        let a = one_step(m, memory, times, bytes, at);
+        let a = told_step(m, memory, times, bytes, at);
         let b = one_step(o, other, times, bytes, at);
         let r = a.report;
         let ending = r.ending;
@@ -123,9 +150,7 @@ pub(crate) fn sit_beside(
             print_compared(steps, same);
             return m;
         }
-        let after = a.machine;
-        print_entry(m, after);
-        m = after;
+        m = a.machine;
         o = b.machine;
         same = counted(same, same_record(m, o));
         at = later(at, r.keys, times.len());

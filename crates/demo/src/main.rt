@@ -1,4 +1,4 @@
-// A sitting: a monitor and a candidate's program on the machine, with recorded keys, in several calls of the run.
+// A sitting: the ready-made monitor and a candidate's program on the machine, with recorded keys, in several calls.
 // The gate compares what is printed with the file stdout.
 use beside::same_record;
 use beside::sit_beside;
@@ -19,9 +19,7 @@ const TIMES: [u64; 6] = [300, 400, 500, 600, 700, 800];
 // What the candidate types.
 const KEYS: [u8; 6] = *b"Ada 7\n";
 
-// The monitor, the candidate's program, and the answers of two examiners. Each has a listing beside it.
-const MONITOR: [u8; 11] = *b"monitor.obj";
-
+// The candidate's program, and the answers of two examiners. Each has a listing beside it.
 const CANDIDATE: [u8; 13] = *b"candidate.obj";
 
 const ANSWERS: [u8; 11] = *b"answers.obj";
@@ -31,27 +29,28 @@ const OTHER_ANSWERS: [u8; 17] = *b"other_answers.obj";
 fn introduce() {
     print(b"A sitting on the LC-3\n");
     print(b"=====================\n\n");
-    print(b"The monitor at x0200 serves traps, exceptions and the keyboard. The candidate's\n");
-    print(b"program at x3000 runs in User mode: it asks for a name, echoes it in capitals,\n");
-    print(b"then reaches for the examiner's answers, in privileged memory at x2000.\n");
+    print(b"The ready-made monitor serves traps and exceptions. The candidate's program at\n");
+    print(b"x3000 runs in User mode: it asks for a name, echoes it in capitals, then reaches\n");
+    print(b"for the examiner's answers, in privileged memory at x2000. The access exception\n");
+    print(b"stops it: the monitor halts the machine and shows nothing.\n");
     print(b"Recorded keys: A d a space 7 Enter, at clocks 300, 400, 500, 600, 700, 800.\n\n");
 }
 
 fn load_all(memory: &mut [u16]) {
+    monitor::install(memory);
     print(b"Object files:\n");
-    load_and_tell(&MONITOR, memory);
     load_and_tell(&CANDIDATE, memory);
     load_and_tell(&ANSWERS, memory);
 }
 
 fn load_sitting(memory: &mut [u16], answers: &[u8]) {
-    load(&MONITOR, memory);
+    monitor::install(memory);
     load(&CANDIDATE, memory);
     load(answers, memory);
 }
 
 fn print_heading() {
-    print(b"\nIn calls of at most 200 steps and 8 bytes, each going on from the one before:\n\n");
+    print(b"\nIn calls of at most 200 steps and 4 bytes, each going on from the one before:\n\n");
     print(b"call  steps  keys  shown  stop         clock  PC     mode        display\n");
 }
 
@@ -82,7 +81,7 @@ fn in_steps(m: Machine) -> Machine {
 
 fn main() {
     introduce();
-    let m = run::fresh(0x0200, false, 0xFDFF);
+    let m = run::fresh(0x3000, true, 0xFDFF);
     let a = in_calls(m);
     let b = in_steps(m);
     if same_record(a, b) {

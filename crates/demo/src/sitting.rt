@@ -15,7 +15,7 @@ ghost use lib.ListN.{length};
 const STEPS: u64 = 200;
 
 // The most bytes of one call.
-const ROOM: usize = 8;
+const ROOM: usize = 4;
 
 // The most calls.
 const CALLS: u64 = 20;

@@ -11,6 +11,10 @@ pub const LC3_MAX_STEPS: u64 = 1_048_576;
 pub const LC3_MAX_CLOCK: u64 = 1 << 48;
 /// Bytes of the longest line, its line feed included.
 pub const LC3_MAX_LINE: usize = 17;
+/// The vector words, x0000 to x01FF.
+pub const LC3_VECTOR_WORDS: usize = 512;
+/// The words of the ready-made monitor, x0000 to x02A4.
+pub const LC3_MONITOR_WORDS: usize = 677;
 
 /// Bit of the PSR: set in User mode, clear in Supervisor mode.
 pub const LC3_PSR_USER: u16 = 0x8000;
@@ -63,7 +67,7 @@ pub const LC3_REFUSED_STEPS: u32 = 13;
 pub const LC3_REFUSED_LISTS: u32 = 14;
 /// Refusal: a time is below the clock or below the one before it.
 pub const LC3_REFUSED_TIMES: u32 = 15;
-/// Refusal: the line, or the file, does not fit the output.
+/// Refusal: the line, the file or the vector words do not fit the output.
 pub const LC3_REFUSED_OUTPUT: u32 = 16;
 /// Refusal: the file has an odd number of bytes, or fewer than two.
 pub const LC3_REFUSED_FILE: u32 = 17;

@@ -15,11 +15,11 @@ abbrev μ-loop : tie.MeasureT-loop
 loop-holds : tie.Need-loop-holds Inv-loop μ-loop
 loop-holds c = search needs
 
+told-step-requires : tie.Need-told-step-requires Inv-loop μ-loop
+told-step-requires c κs = search needs
+
 one-step-requires : tie.Need-one-step-requires Inv-loop μ-loop
 one-step-requires c κs = search needs
-
-one-step-requires-2 : tie.Need-one-step-requires-2 Inv-loop μ-loop
-one-step-requires-2 c κs = search needs
 
 is-over-requires : tie.Need-is-over-requires Inv-loop μ-loop
 is-over-requires c κs = search needs
@@ -35,9 +35,6 @@ same-length-2 c = search needs
 
 returns : tie.Need-returns Inv-loop μ-loop
 returns c = search needs
-
-print-entry-requires : tie.Need-print-entry-requires Inv-loop μ-loop
-print-entry-requires c κs = search needs
 
 same-record-requires : tie.Need-same-record-requires Inv-loop μ-loop
 same-record-requires c κs = search needs
@@ -73,14 +70,13 @@ sit-beside-spec =
     Inv-loop
     μ-loop
     loop-holds
+    told-step-requires
     one-step-requires
-    one-step-requires-2
     is-over-requires
     print-compared-requires
     same-length
     same-length-2
     returns
-    print-entry-requires
     same-record-requires
     counted-requires
     later-requires

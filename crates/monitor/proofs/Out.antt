@@ -1,0 +1,396 @@
+-- OUT, step by step: TRAP, ADD, STR, LDI, BRzp, STI, LDR, ADD, RTI. Each is one application of the law of its kind.
+use Prim.Native.Nat.{ℕ, _+_, _*_, _/_, _%_, _≤_, _<_}
+use native.Mathlib.Omega.{arith}
+use mathlib.Core.Path.{_≡_, refl, sym, ap, subst, _∙_}
+use mathlib.Core.Bool.{Bool, true, false, cond, _&&_}
+use mathlib.Core.List.{List, [], _∷_}
+use lib.ListN.{length, getD, set, take, drop, length-set}
+use lib.Seq.{getD-set-same, getD-set-other, take-set-le, drop-set-lt}
+use Rattle.word.specs.Reading.{readOf}
+use Rattle.word.specs.declared.Instruction.the-variants.{Trap}
+use Rattle.machine.specs.declared.Machine.{Machine}
+use Rattle.machine.specs.declared.Devices.{Devices}
+use Rattle.machine.specs.declared.Plan.the-variants.{Jump, Call}
+use Rattle.machine.specs.Words.{next, andBits}
+use Rattle.machine.specs.Psr.{inUserMode, definedPsr, codesOf, isTaken}
+use Rattle.machine.specs.Keys.{readyAfter, lastKey}
+use Rattle.machine.specs.Protection.{privileged, denied}
+use Rattle.machine.specs.Devices.{DSR, DDR, isDevice}
+use Rattle.machine.specs.Entry.{pushed}
+use Rattle.machine.specs.Causes.{takesInterrupt}
+use Rattle.machine.specs.Plan.{planOf}
+use Rattle.run.specs.declared.Ending.the-variants.{Done}
+use Rattle.run.specs.Run.{Start, End, begin, nextStep}
+use Rattle.run.specs.Call.{callOf}
+use Rattle.run.specs.Noninterference.{causeAt}
+use Rattle.machine.proofs.StepLaws.{codesOf-below}
+use Rattle.run.proofs.RunLaws.{run-of-none, done-steps-are-made}
+use Rattle.run.proofs.Acceptance.{accepted-is-acceptable, call-is-run}
+use Rattle.monitor.specs.Out.{CallsOut, Uninterrupted, Resumed, outSteps, OutShows}
+use Rattle.monitor.proofs.Execution.{View, machineAt, standingAt, At, Quiet, Leads, then, no-interrupt}
+use Rattle.monitor.proofs.Instructions.{Plans, trapped, traps}
+use Rattle.monitor.proofs.Instructions.{moves, jumps, loads, stores, polls, shows, returns}
+use Rattle.monitor.proofs.Intact.{Intact, intact, word-at, still-intact, reading, planned}
+
+-- BRzp is not taken after a negative value.
+not-taken : (h : ℕ) → isTaken 3 (h * 8 + 4) ≡ false
+unfolding isTaken andBits
+not-taken h = let e : (h * 8 + 4) % 8 ≡ 4 = omega arith in rw e
+
+-- ---- the eight steps of the routine, in Supervisor mode
+
+-- From these registers, and a memory that holds the monitor's words, with a free byte in the output.
+module _ (s : Start) (bound : ℕ) (quiet : Quiet s bound) (r₀ r₁ r₂ r₃ r₄ r₅ r₇ high usp : ℕ) (mem output : List ℕ)
+    (above : high < 4096) (i : Intact mem) (size : length mem ≡ 65536) (free : 0 < length output) where
+  -- R1, R6, PC, the codes, the memory and the output are all that changes.
+  abbrev view : ℕ → ℕ → ℕ → ℕ → List ℕ → List ℕ → ℕ → View
+  view r₁′ r₆ pc codes memory output shown = record {
+    regs = r₀ ∷ r₁′ ∷ r₂ ∷ r₃ ∷ r₄ ∷ r₅ ∷ r₆ ∷ r₇ ∷ [];
+    pc = pc;
+    high = high;
+    codes = codes;
+    ssp = 0x3000;
+    usp = usp;
+    memory = memory;
+    output = output;
+    shown = shown;
+  }
+
+  -- the memory with R1 kept, and the output with the byte shown
+  abbrev kept : List ℕ
+  kept = set mem 0x2FFD r₁
+
+  abbrev with-byte : List ℕ
+  with-byte = set output 0 (r₀ % 256)
+
+  kept-intact : Intact kept
+  kept-intact = still-intact i 0x2FFD r₁ (omega arith)
+
+  at-0204 : (codes : ℕ) → codes < 8
+      → Leads s bound (view r₁ 0x2FFE 0x0204 codes mem output 0) 1 (view r₁ 0x2FFD 0x0205 1 mem output 0)
+  unfolding reading codesOf
+  at-0204 codes below = moves quiet above below 6 0x2FFD 0x0205 (planned i (omega arith) refl)
+
+  at-0205 : Leads s bound (view r₁ 0x2FFD 0x0205 1 mem output 0) 1 (view r₁ 0x2FFD 0x0206 1 kept output 0)
+  unfolding reading isDevice
+  at-0205 = stores quiet above (omega arith) r₁ 0x2FFD (planned i (omega arith) refl) refl
+
+  at-0206 : Leads s bound (view r₁ 0x2FFD 0x0206 1 kept output 0) 1 (view 0x8000 0x2FFD 0x0207 4 kept output 0)
+  unfolding reading isDevice
+  at-0206 =
+      polls quiet above (omega arith) 1 0x0282 (planned kept-intact (omega arith) refl) refl
+      (word-at kept-intact 0x0282 DSR (omega arith) refl)
+
+  at-0207 : Leads s bound (view 0x8000 0x2FFD 0x0207 4 kept output 0) 1 (view 0x8000 0x2FFD 0x0208 4 kept output 0)
+  unfolding reading
+  at-0207 =
+      jumps quiet above (omega arith) 0x0208
+      (planned kept-intact (omega arith) (ap (λ (taken : Bool). Jump (cond taken 0x0206 0x0208)) (not-taken high)))
+
+  at-0208 : Leads s bound (view 0x8000 0x2FFD 0x0208 4 kept output 0) 1 (view 0x8000 0x2FFD 0x0209 4 kept with-byte 1)
+  unfolding reading isDevice
+  at-0208 =
+      shows quiet above (omega arith) r₀ 0x0283 (planned kept-intact (omega arith) refl) refl
+      (word-at kept-intact 0x0283 DDR (omega arith) refl) free
+
+  at-0209 : Leads s bound (view 0x8000 0x2FFD 0x0209 4 kept with-byte 1) 1
+      (view r₁ 0x2FFD 0x020A (codesOf r₁) kept with-byte 1)
+  unfolding reading isDevice
+  at-0209 =
+      loads quiet above (omega arith) 1 0x2FFD r₁ (planned kept-intact (omega arith) refl) refl
+      (getD-set-same mem 0x2FFD r₁ 0 (omega (arith, size)))
+
+  at-020a : Leads s bound (view r₁ 0x2FFD 0x020A (codesOf r₁) kept with-byte 1) 1
+      (view r₁ 0x2FFE 0x020B 1 kept with-byte 1)
+  unfolding reading
+  at-020a =
+      unfold codesOf in moves quiet above (codesOf-below r₁) 6 0x2FFE 0x020B (planned kept-intact (omega arith) refl)
+
+  -- The caller's PC and PSR are on the stack.
+  module _ (pc high′ codes′ : ℕ) (pc-pushed : getD mem 0x2FFE 0 ≡ pc)
+      (psr-pushed : definedPsr (getD mem 0x2FFF 0) ≡ high′ * 8 + codes′)
+      (user : inUserMode (high′ * 8 + codes′) ≡ true) where
+    abbrev resumed : View
+    resumed = record {
+      regs = r₀ ∷ r₁ ∷ r₂ ∷ r₃ ∷ r₄ ∷ r₅ ∷ usp ∷ r₇ ∷ [];
+      pc = pc;
+      high = high′;
+      codes = codes′;
+      ssp = 0x3000;
+      usp = usp;
+      memory = kept;
+      output = with-byte;
+      shown = 1;
+    }
+
+    at-020b : Leads s bound (view r₁ 0x2FFE 0x020B 1 kept with-byte 1) 1 resumed
+    unfolding reading
+    at-020b =
+        let p : getD kept 0x2FFE 0 ≡ pc = getD-set-other mem 0x2FFD 0x2FFE r₁ 0 (λ e. omega arith) ∙ pc-pushed in
+        let q : definedPsr (getD kept 0x2FFF 0) ≡ high′ * 8 + codes′ =
+        ap definedPsr (getD-set-other mem 0x2FFD 0x2FFF r₁ 0 (λ e. omega arith)) ∙ psr-pushed in
+        returns quiet above (omega arith) 0x2FFE pc high′ codes′ (planned kept-intact (omega arith) refl) refl p q user
+
+    -- All eight.
+    routine : (codes : ℕ) → codes < 8 → Leads s bound (view r₁ 0x2FFE 0x0204 codes mem output 0) 8 resumed
+    routine codes below =
+        then (at-0204 codes below)
+        (then at-0205 (then at-0206 (then at-0207 (then at-0208 (then at-0209 (then at-020a at-020b))))))
+
+-- ---- the start: the trap, in User mode
+
+-- The record has R0 to R7.
+record Eight (regs : List ℕ) : Type 0 where
+  r₀ : ℕ
+  r₁ : ℕ
+  r₂ : ℕ
+  r₃ : ℕ
+  r₄ : ℕ
+  r₅ : ℕ
+  r₆ : ℕ
+  r₇ : ℕ
+  are : regs ≡ r₀ ∷ r₁ ∷ r₂ ∷ r₃ ∷ r₄ ∷ r₅ ∷ r₆ ∷ r₇ ∷ []
+
+eight : (regs : List ℕ) → length regs ≡ 8 → Eight regs
+eight [] h = absurd (omega arith)
+eight (a ∷ []) h = absurd (omega arith)
+eight (a ∷ b ∷ []) h = absurd (omega arith)
+eight (a ∷ b ∷ c ∷ []) h = absurd (omega arith)
+eight (a ∷ b ∷ c ∷ d ∷ []) h = absurd (omega arith)
+eight (a ∷ b ∷ c ∷ d ∷ e ∷ []) h = absurd (omega arith)
+eight (a ∷ b ∷ c ∷ d ∷ e ∷ f ∷ []) h = absurd (omega arith)
+eight (a ∷ b ∷ c ∷ d ∷ e ∷ f ∷ g ∷ []) h = absurd (omega arith)
+eight (a ∷ b ∷ c ∷ d ∷ e ∷ f ∷ g ∷ i ∷ []) h = record {
+  r₀ = a;
+  r₁ = b;
+  r₂ = c;
+  r₃ = d;
+  r₄ = e;
+  r₅ = f;
+  r₆ = g;
+  r₇ = i;
+  are = refl;
+}
+eight (a ∷ b ∷ c ∷ d ∷ e ∷ f ∷ g ∷ i ∷ j ∷ l) h = absurd (omega arith)
+
+-- Where a run stands before its first step.
+abbrev viewOf : Start → List ℕ → View
+viewOf s regs = record {
+  regs = regs;
+  pc = s .machine .pc;
+  high = s .machine .psr / 8;
+  codes = s .machine .psr % 8;
+  ssp = 0x3000;
+  usp = s .machine .«saved_usp»;
+  memory = s .memory;
+  output = s .output;
+  shown = 0;
+}
+
+machine-at-start : (s : Start) (regs : List ℕ) → s .machine .regs ≡ regs → s .machine .«saved_ssp» ≡ 0x3000
+    → s .machine ≡ machineAt (viewOf s regs) (s .machine .devices) (s .machine .clock)
+machine-at-start s regs p q =
+    let z : s .machine .psr ≡ s .machine .psr / 8 * 8 + s .machine .psr % 8 = omega arith in
+    go (s .machine) regs 0x3000 (s .machine .psr / 8 * 8 + s .machine .psr % 8) p q z
+  where
+    go : (m : Machine) (regs : List ℕ) (ssp psr : ℕ) → m .regs ≡ regs → m .«saved_ssp» ≡ ssp → m .psr ≡ psr
+        → m ≡ record {
+          regs = regs;
+          pc = m .pc;
+          psr = psr;
+          «saved_ssp» = ssp;
+          «saved_usp» = m .«saved_usp»;
+          devices = m .devices;
+          clock = m .clock;
+        }
+    go m regs ssp psr p q z = rw (← p, ← q, ← z)
+
+allowed-at : (psr pc : ℕ) → privileged pc ≡ false → denied psr pc ≡ false
+unfolding denied
+allowed-at psr pc h = go (inUserMode psr)
+  where
+    go : (b : Bool) → (b && privileged pc) ≡ false
+    go true = h
+    go false = refl
+
+trap-plans-call : (v : View) (vector : ℕ) → readOf (getD (v .memory) (v .pc) 0) ≡ Trap vector → Plans v (Call vector)
+unfolding planOf
+trap-plans-call v vector h = record { is = rw h }
+
+-- ---- the theorem
+
+-- All words but the three that are pushed are as before.
+below-kept : (mem : List ℕ) (x y z : ℕ) → take 0x2FF8 (set (set (set mem 0x2FFF x) 0x2FFE y) 0x2FFD z) ≡ take 0x2FF8 mem
+below-kept mem x y z =
+    take-set-le 0x2FF8 (set (set mem 0x2FFF x) 0x2FFE y) 0x2FFD z (omega arith)
+    ∙ take-set-le 0x2FF8 (set mem 0x2FFF x) 0x2FFE y (omega arith)
+    ∙ take-set-le 0x2FF8 mem 0x2FFF x (omega arith)
+
+above-kept : (mem : List ℕ) (x y z : ℕ) → drop 0x3000 (set (set (set mem 0x2FFF x) 0x2FFE y) 0x2FFD z) ≡ drop 0x3000 mem
+above-kept mem x y z =
+    drop-set-lt 0x3000 (set (set mem 0x2FFF x) 0x2FFE y) 0x2FFD z (omega arith)
+    ∙ drop-set-lt 0x3000 (set mem 0x2FFF x) 0x2FFE y (omega arith)
+    ∙ drop-set-lt 0x3000 mem 0x2FFF x (omega arith)
+
+module _ (s : Start) (n : ℕ) (c : CallsOut s n) (quiet : Quiet s outSteps) (x : Eight (s .machine .regs)) where
+  abbrev psr : ℕ
+  psr = s .machine .psr / 8 * 8 + s .machine .psr % 8
+
+  psr-is : s .machine .psr ≡ psr
+  psr-is = omega arith
+
+  abbrev regs : List ℕ
+  regs = x .r₀ ∷ x .r₁ ∷ x .r₂ ∷ x .r₃ ∷ x .r₄ ∷ x .r₅ ∷ x .r₆ ∷ x .r₇ ∷ []
+
+  -- the memory after the trap's two pushes
+  stack : List ℕ
+  stack = set (set (s .memory) 0x2FFF psr) 0x2FFE (next (s .machine .pc))
+
+  size : length (s .memory) ≡ 65536
+  size = accepted-is-acceptable s n (c .accepted) .size
+
+  stack-intact : Intact stack
+  unfolding stack
+  stack-intact =
+      still-intact (still-intact (intact (c .intact)) 0x2FFF psr (omega arith)) 0x2FFE (next (s .machine .pc))
+      (omega arith)
+
+  stack-size : length stack ≡ 65536
+  unfolding stack
+  stack-size =
+      length-set (set (s .memory) 0x2FFF psr) 0x2FFE (next (s .machine .pc)) ∙ length-set (s .memory) 0x2FFF psr ∙ size
+
+  pc-on-stack : getD stack 0x2FFE 0 ≡ next (s .machine .pc)
+  unfolding stack
+  pc-on-stack =
+      getD-set-same (set (s .memory) 0x2FFF psr) 0x2FFE (next (s .machine .pc)) 0
+      (omega (arith, length-set (s .memory) 0x2FFF psr, size))
+
+  psr-on-stack : definedPsr (getD stack 0x2FFF 0) ≡ psr
+  unfolding stack
+  psr-on-stack =
+      ap definedPsr
+      (getD-set-other (set (s .memory) 0x2FFF psr) 0x2FFE 0x2FFF (next (s .machine .pc)) 0 (λ e. omega arith)
+      ∙ getD-set-same (s .memory) 0x2FFF psr 0 (omega (arith, size)))
+      ∙ ap definedPsr (sym psr-is)
+      ∙ accepted-is-acceptable s n (c .accepted) .defined .psr
+      ∙ psr-is
+
+  user : inUserMode psr ≡ true
+  user = rw psr-is at (c .user-mode)
+
+  at-start : At s 0 (viewOf s regs)
+  unfolding begin
+  at-start = record {
+    keys = 0;
+    devices = s .machine .devices;
+    clock = s .machine .clock;
+    ticks = omega arith;
+    enabled = c .mcr;
+    kbsr = unfold readyAfter in refl;
+    kbdr = unfold lastKey in refl;
+    stands = run-of-none s
+        ∙ ap
+        (λ (m : Machine). record {
+          machine = m;
+          memory = s .memory;
+          output = s .output;
+          steps = 0;
+          keys = 0;
+          shown = 0;
+          ending = Done;
+        })
+        (machine-at-start s regs (x .are) (c .stack));
+    quiet = λ j h. absurd (omega arith);
+  }
+
+  to-trap : Leads s outSteps (viewOf s regs) 1 (trapped (viewOf s regs) 0x0204)
+  unfolding pushed stack reading
+  to-trap =
+      traps quiet user (omega arith) (allowed-at psr (s .machine .pc) (c .user-address)) 0x21 0x0204
+      (trap-plans-call (viewOf s regs) 0x21 (c .trap)) (word-at stack-intact 0x21 0x0204 (omega arith) refl)
+
+  abbrev after : View
+  after = record {
+    regs = regs;
+    pc = next (s .machine .pc);
+    high = s .machine .psr / 8;
+    codes = s .machine .psr % 8;
+    ssp = 0x3000;
+    usp = x .r₆;
+    memory = set stack 0x2FFD (x .r₁);
+    output = set (s .output) 0 (x .r₀ % 256);
+    shown = 1;
+  }
+
+  from-trap : Leads s outSteps (trapped (viewOf s regs) 0x0204) 8 after
+  unfolding pushed stack
+  from-trap =
+      routine s outSteps quiet (x .r₀) (x .r₁) (x .r₂) (x .r₃) (x .r₄) (x .r₅) (x .r₇) (s .machine .psr / 8 % 4096)
+      (x .r₆) stack (s .output) (omega arith) stack-intact stack-size (c .free-byte) (next (s .machine .pc))
+      (s .machine .psr / 8) (s .machine .psr % 8) pc-on-stack psr-on-stack user (s .machine .psr % 8) (omega arith)
+
+  at-end : At s outSteps after
+  at-end = then to-trap from-trap .on (omega arith) at-start
+
+  out-resumes : (e : End) (keys : ℕ) (devices : Devices) (clock : ℕ) → clock ≡ s .machine .clock + outSteps
+      → devices .kbsr ≡ readyAfter (take keys (s .bytes)) (s .machine .devices .kbsr)
+      → devices .kbdr ≡ lastKey (take keys (s .bytes)) (s .machine .devices .kbdr) → devices .mcr ≡ 0x8000
+      → e ≡ standingAt after outSteps keys devices clock → outSteps ≤ callOf s n .steps → Resumed s n outSteps e
+  unfolding stack
+  out-resumes e keys devices clock ticks kbsr kbdr mcr q makes =
+      rw q
+      (record {
+        made = makes;
+        steps = refl;
+        ending = refl;
+        shown = refl;
+        output = rw (x .are);
+        pc = refl;
+        registers = sym (x .are);
+        psr = sym psr-is;
+        saved-ssp = sym (c .stack);
+        saved-usp = rw (x .are);
+        kbsr = kbsr;
+        kbdr = kbdr;
+        mcr = mcr ∙ sym (c .mcr);
+        clock = ticks;
+        words-below = below-kept (s .memory) psr (next (s .machine .pc)) (x .r₁);
+        words-above = above-kept (s .memory) psr (next (s .machine .pc)) (x .r₁);
+      })
+
+  makes-them : outSteps ≤ callOf s n .steps
+  makes-them =
+      rw (call-is-run s n n (c .accepted) (omega arith))
+      (done-steps-are-made s n outSteps (omega (arith, c .steps)) (ap (λ (e : End). e .ending) (at-end .stands)))
+
+  shows-and-resumes : Resumed s n outSteps (callOf s outSteps)
+  shows-and-resumes =
+      out-resumes (callOf s outSteps) (at-end .keys) (at-end .devices) (at-end .clock) (at-end .ticks) (at-end .kbsr)
+      (at-end .kbdr) (at-end .enabled)
+      (call-is-run s n outSteps (c .accepted) (omega (arith, c .steps)) ∙ at-end .stands) makes-them
+
+  uninterrupted : Uninterrupted s outSteps
+  unfolding causeAt
+  uninterrupted = record {
+    none = λ j h.
+        subst (λ (e : End). takesInterrupt (nextStep s e .cause) ≡ false)
+        (sym (call-is-run s n j (c .accepted) (omega (arith, c .steps)))) (at-end .quiet j (omega arith));
+  }
+
+uninterrupted-is-quiet : (s : Start) (n : ℕ) → CallsOut s n → Uninterrupted s outSteps → Quiet s outSteps
+unfolding causeAt
+uninterrupted-is-quiet s n c u = record {
+  at = λ {k} a h.
+      subst (λ (e : End). takesInterrupt (nextStep s e .cause) ≡ false)
+      (call-is-run s n k (c .accepted) (omega (arith, c .steps))) (u .none k h);
+}
+
+pub out-shows : OutShows
+out-shows = record {
+  within = omega arith;
+  resumes = λ s n c u.
+      shows-and-resumes s n c (uninterrupted-is-quiet s n c u) (eight (s .machine .regs) (c .registers));
+  not-enabled = λ s n c h l.
+      uninterrupted s n c (record { at = λ a b. no-interrupt a h l }) (eight (s .machine .regs) (c .registers));
+}

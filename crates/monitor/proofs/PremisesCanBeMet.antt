@@ -1,0 +1,36 @@
+-- The premises of the theorem on OUT can be met: those on the start by computing, no interrupt by `not-enabled`.
+use native.Mathlib.Omega.{arith}
+use mathlib.Core.Path.{refl}
+use Rattle.word.specs.Reading.{readOf}
+use Rattle.machine.specs.Psr.{inUserMode, definedPsr}
+use Rattle.machine.specs.Protection.{privileged}
+use Rattle.run.specs.Fresh.{freshOf}
+use Rattle.run.specs.Refusals.{wrongSize, undefinedRecord, tooManySteps, unequalLists, outOfOrder, admissionOf}
+use Rattle.monitor.specs.Vectors.{vectorWord, vectorsFrom, vectorTable}
+use Rattle.monitor.specs.Routines.{routineWords, monitorWords}
+use Rattle.monitor.specs.Install.{installOf}
+use Rattle.monitor.specs.Out.{CallsOut, outCalled, PremisesCanBeMet}
+use Rattle.monitor.proofs.Out.{out-shows}
+
+called : CallsOut outCalled 32
+unfolding outCalled freshOf readOf inUserMode definedPsr privileged wrongSize undefinedRecord tooManySteps
+    unequalLists outOfOrder admissionOf vectorWord vectorsFrom vectorTable routineWords monitorWords installOf
+called = record {
+  accepted = refl;
+  steps = omega arith;
+  registers = refl;
+  user-mode = refl;
+  user-address = refl;
+  trap = refl;
+  intact = refl;
+  stack = refl;
+  mcr = refl;
+  free-byte = omega arith;
+}
+
+pub premises-can-be-met : PremisesCanBeMet
+unfolding outCalled freshOf
+premises-can-be-met = record {
+  calls-out = called;
+  uninterrupted = out-shows .not-enabled outCalled 32 called refl (omega arith);
+}

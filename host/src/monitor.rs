@@ -1,0 +1,99 @@
+//! The ready-made monitor, and the vector words of any other.
+
+use crate::error::accepted;
+use crate::ffi;
+use std::fmt;
+
+/// The vector words: x0000 to x01FF.
+pub const VECTOR_WORDS: usize = ffi::LC3_VECTOR_WORDS;
+
+/// The words of the ready-made monitor, from x0000 on.
+pub const MONITOR_WORDS: usize = ffi::LC3_MONITOR_WORDS;
+
+pub use ffi::Routines;
+
+impl Routines {
+    /// Where the ready-made monitor's routines are.
+    ///
+    /// ```
+    /// let ours = lc3::Routines::of_monitor();
+    /// assert_eq!((ours.getc, ours.out), (0x0200, 0x0204));
+    /// ```
+    pub fn of_monitor() -> Routines {
+        ffi::lc3_monitor_routines()
+    }
+}
+
+/// Why the monitor was not put into memory.
+#[derive(Clone, Copy, Debug, PartialEq, Eq, Hash)]
+#[non_exhaustive]
+pub enum MonitorRefusal {
+    /// Memory is not [`WORDS`](crate::WORDS) words.
+    Memory,
+}
+
+impl MonitorRefusal {
+    /// The refusal's number, 11.
+    ///
+    /// ```
+    /// assert_eq!(lc3::MonitorRefusal::Memory.code(), 11);
+    /// ```
+    pub fn code(self) -> u32 {
+        match self {
+            MonitorRefusal::Memory => ffi::LC3_REFUSED_MEMORY,
+        }
+    }
+}
+
+impl fmt::Display for MonitorRefusal {
+    fn fmt(&self, f: &mut fmt::Formatter<'_>) -> fmt::Result {
+        f.write_str(match self {
+            MonitorRefusal::Memory => "memory is not 65,536 words",
+        })
+    }
+}
+
+impl std::error::Error for MonitorRefusal {}
+
+/// Puts the ready-made monitor into memory: words x0000 to x02A4, and no other.
+///
+/// Its routines are GETC, OUT, PUTS, IN, PUTSP and HALT of the book's Table A.3; every other trap
+/// and the three exceptions halt and show nothing; interrupts return at once. The program that it
+/// serves starts in User mode.
+///
+/// A refused call alters nothing.
+///
+/// ```
+/// use lc3::{Keys, Mode, Record, Stop};
+///
+/// let mut memory = vec![0; lc3::WORDS];
+/// lc3::install_monitor(&mut memory)?;
+/// memory[0x3000] = 0xF025; // TRAP x25: HALT
+/// let mut output = [0; 80];
+/// let record = Record::fresh(0x3000, Mode::User, 0xFDFF);
+/// let run = lc3::run(record, &mut memory, Keys::NONE, &mut output, 1000)?;
+/// assert_eq!(run.stop, Stop::Halted);
+/// assert_eq!(&output[..run.shown], b"Halted\n");
+/// # Ok::<(), lc3::Error>(())
+/// ```
+pub fn install_monitor(memory: &mut [u16]) -> Result<(), MonitorRefusal> {
+    // SAFETY: pointer and length come from one slice.
+    let refusal = unsafe { ffi::lc3_monitor(memory.as_mut_ptr(), memory.len()) };
+    accepted(refusal, &[MonitorRefusal::Memory], MonitorRefusal::code)
+}
+
+/// The vector words, x0000 to x01FF, of a monitor with these routines.
+///
+/// ```
+/// // The ready-made monitor, but for PUTS, which is the class's own.
+/// let routines = lc3::Routines { puts: 0x1000, ..lc3::Routines::of_monitor() };
+/// let words = lc3::vectors(routines);
+/// assert_eq!((words[0x21], words[0x22]), (0x0204, 0x1000));
+/// ```
+pub fn vectors(routines: Routines) -> [u16; VECTOR_WORDS] {
+    let mut words = [0; VECTOR_WORDS];
+    // SAFETY: pointer and length come from one array.
+    let refusal = unsafe { ffi::lc3_vectors(routines, words.as_mut_ptr(), words.len()) };
+    assert_eq!(refusal, ffi::LC3_ACCEPTED, "the table fits");
+    words
+}
