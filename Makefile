@@ -4,7 +4,7 @@
 # make bench  time against C: runs, lines of text, and object files
 # make soak   many more random runs against the reference simulator
 
-EXPORTS = lc3_machine lc3_words lc3_objects lc3_monitor lc3_version
+EXPORTS = lc3_machine lc3_words lc3_lines lc3_objects lc3_monitor lc3_version
 ARCHIVES = $(EXPORTS:%=target/staticlib/lib%.a)
 # The shared library has the name by which hosts ask for it: it ends in the version of the header.
 SONAME := liblc3.so.$(shell sed -n 's/^.define LC3_VERSION //p' include/lc3.h)

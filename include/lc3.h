@@ -9,6 +9,7 @@
  *   lc3_read     reads a word as an instruction
  *   lc3_write    writes an instruction as a word
  *   lc3_line     writes a word as a line of text
+ *   lc3_page     writes the words of a range of lent memory as lines of text
  *   lc3_load     reads an object file into lent memory
  *   lc3_save     writes an object file from a range of lent memory
  *   lc3_monitor  puts the ready-made monitor into lent memory; lc3_monitor_routines says where
@@ -24,9 +25,9 @@
  *   aligned pointer but NULL. Memory, times, bytes, output, file and the record lent to lc3_step
  *   may not overlap.
  * - Several threads may call at once. What a call only reads they may share while nobody writes
- *   it: times and bytes of lc3_run and lc3_step, file of lc3_load, memory of lc3_save. What a call
- *   writes is that call's alone: memory of lc3_run, lc3_step, lc3_load and lc3_monitor, every
- *   output, and the record lent to lc3_step.
+ *   it: times and bytes of lc3_run and lc3_step, file of lc3_load, memory of lc3_page and
+ *   lc3_save. What a call writes is that call's alone: memory of lc3_run, lc3_step, lc3_load and
+ *   lc3_monitor, every output, and the record lent to lc3_step.
  * - Every call is answered. One that cannot be obeyed is refused with a number that says why, and
  *   a refused call leaves every field of the record and every buffer as it was.
  * - Padding means nothing. The bytes of a struct that belong to no field may hold anything and may
@@ -89,6 +90,7 @@ extern "C" {
  *   lc3_write           1, 2, 3
  *   lc3_run, lc3_step   11, 12, 13, 14, 15
  *   lc3_line            16
+ *   lc3_page            11, 20, 16
  *   lc3_load            11, 17, 18
  *   lc3_save            11, 18, 16
  *   lc3_monitor         11
@@ -104,9 +106,10 @@ enum {
     LC3_REFUSED_STEPS = 13,   /* n is above LC3_MAX_STEPS, or clock + n above LC3_MAX_CLOCK */
     LC3_REFUSED_LISTS = 14,   /* times and bytes differ in length */
     LC3_REFUSED_TIMES = 15,   /* a time is below the clock or below the time before it */
-    LC3_REFUSED_OUTPUT = 16,  /* the line, the file or the vector words do not fit the output */
+    LC3_REFUSED_OUTPUT = 16,  /* the line, page, file or vector words do not fit the output */
     LC3_REFUSED_FILE = 17,    /* the file has an odd number of bytes, or fewer than two */
-    LC3_REFUSED_RANGE = 18    /* origin + words is above LC3_MEMORY_WORDS */
+    LC3_REFUSED_RANGE = 18,   /* origin + words is above LC3_MEMORY_WORDS */
+    LC3_REFUSED_PAGE = 20     /* first + count is above LC3_MEMORY_WORDS */
 };
 
 /*
@@ -221,7 +224,7 @@ typedef struct {
     uint32_t refusal; /* LC3_ACCEPTED, LC3_REFUSED_MEMORY, LC3_REFUSED_FILE or LC3_REFUSED_RANGE */
 } lc3_loaded;
 
-/* What lc3_line and lc3_save answer, which write bytes to a lent output. */
+/* What lc3_line, lc3_page and lc3_save answer, which write bytes to a lent output. */
 typedef struct {
     uint64_t count;   /* bytes written; 0 where refused */
     uint32_t refusal; /* LC3_ACCEPTED, or why the call was refused */
@@ -300,6 +303,14 @@ lc3_written lc3_write(lc3_instruction instruction);
  * hexadecimal digits: xDEAD gives ".FILL xDEAD". Distinct words give distinct lines.
  */
 lc3_counted lc3_line(uint16_t word, uint8_t *output, size_t output_len);
+
+/*
+ * Lists a range of memory: the lines of count words from first on, one after the other, each as
+ * lc3_line writes it. No page has more than count * LC3_MAX_LINE bytes, no zero byte follows, and
+ * what lies after it is left as lent. A page of no lines is accepted.
+ */
+lc3_counted lc3_page(const uint16_t *memory, size_t memory_len, uint16_t first, size_t count,
+                     uint8_t *output, size_t output_len);
 
 /*
  * Reads an object file into memory. The file's first word is the origin, and the others are stored

@@ -848,6 +848,32 @@ static void test_line(void) {
     }
 }
 
+static void check_page(const char *name, size_t memory_len, uint16_t first, size_t count,
+                       size_t room, lc3_counted wanted) {
+    part = name;
+    lc3_counted got = lc3_page(memory, memory_len, first, count, output, room);
+    CHECK(got.count, wanted.count);
+    CHECK(got.refusal, wanted.refusal);
+    check_buffers();
+}
+
+/* Pages at the boundaries of the refusals, and one that ends with memory. */
+static void test_page(void) {
+    clear_buffers();
+    memory[0xFFFE] = 0xC1C0;
+    memory[0xFFFF] = 0x8000;
+    keep_buffers();
+    check_page("page: memory too short", WORDS - 1, 0xFFFF, SIZE_MAX, 0,
+               (lc3_counted){0, LC3_REFUSED_MEMORY});
+    check_page("page: range too long", WORDS, 0xFFFF, 2, 0, (lc3_counted){0, LC3_REFUSED_PAGE});
+    check_page("page: sum wraps", WORDS, 1, SIZE_MAX, 8, (lc3_counted){0, LC3_REFUSED_PAGE});
+    check_page("page: output too short", WORDS, 0xFFFE, 2, 7,
+               (lc3_counted){0, LC3_REFUSED_OUTPUT});
+    check_page("page without lines", WORDS, 0xFFFF, 0, 0, (lc3_counted){0, LC3_ACCEPTED});
+    memcpy(wanted_output, "RET\nRTI\n", 8);
+    check_page("page to the end", WORDS, 0xFFFE, 2, 8, (lc3_counted){8, LC3_ACCEPTED});
+}
+
 /* ---- The monitor ---- */
 
 /* The address that the vector word at a has to hold. */
@@ -922,6 +948,7 @@ int main(void) {
     test_read();
     test_write();
     test_line();
+    test_page();
     test_load();
     test_save();
     test_vectors();

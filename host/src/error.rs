@@ -1,7 +1,7 @@
 //! Refusals of every call as one type.
 
 use crate::ffi::LC3_ACCEPTED;
-use crate::{LineRefusal, MonitorRefusal, ObjectRefusal, Refusal, WriteRefusal};
+use crate::{LineRefusal, MonitorRefusal, ObjectRefusal, PageRefusal, Refusal, WriteRefusal};
 use std::fmt;
 
 /// Why a call was refused, whichever call it was: every refusal converts into it.
@@ -29,6 +29,8 @@ pub enum Error {
     Run(Refusal),
     /// A line was not written.
     Line(LineRefusal),
+    /// A page was not written.
+    Page(PageRefusal),
     /// An object file was not read or not written.
     Object(ObjectRefusal),
     /// The monitor was not put into memory.
@@ -42,6 +44,7 @@ impl Error {
             Error::Write(refusal) => refusal.code(),
             Error::Run(refusal) => refusal.code(),
             Error::Line(refusal) => refusal.code(),
+            Error::Page(refusal) => refusal.code(),
             Error::Object(refusal) => refusal.code(),
             Error::Monitor(refusal) => refusal.code(),
         }
@@ -54,6 +57,7 @@ impl fmt::Display for Error {
             Error::Write(refusal) => refusal.fmt(f),
             Error::Run(refusal) => refusal.fmt(f),
             Error::Line(refusal) => refusal.fmt(f),
+            Error::Page(refusal) => refusal.fmt(f),
             Error::Object(refusal) => refusal.fmt(f),
             Error::Monitor(refusal) => refusal.fmt(f),
         }
@@ -77,6 +81,12 @@ impl From<Refusal> for Error {
 impl From<LineRefusal> for Error {
     fn from(refusal: LineRefusal) -> Error {
         Error::Line(refusal)
+    }
+}
+
+impl From<PageRefusal> for Error {
+    fn from(refusal: PageRefusal) -> Error {
+        Error::Page(refusal)
     }
 }
 

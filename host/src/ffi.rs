@@ -169,6 +169,21 @@ unsafe extern "C" {
     /// `output` must be valid for writing `output_len` bytes.
     pub fn lc3_line(word: u16, output: *mut u8, output_len: usize) -> Counted;
 
+    /// Writes the words of a range of memory as lines of text.
+    ///
+    /// # Safety
+    ///
+    /// `memory` must be valid for reading `memory_len` words and `output` for writing `output_len`
+    /// bytes, and they may not overlap.
+    pub fn lc3_page(
+        memory: *const u16,
+        memory_len: usize,
+        first: u16,
+        count: usize,
+        output: *mut u8,
+        output_len: usize,
+    ) -> Counted;
+
     /// Runs up to `n` steps.
     ///
     /// # Safety

@@ -1,4 +1,4 @@
-//! Words as lines of text.
+//! Words as lines of text, and ranges of memory as pages of lines.
 
 use crate::error::accepted;
 use crate::ffi;
@@ -69,4 +69,75 @@ pub fn line_string(word: u16) -> String {
     let mut output = [0; LINE_LIMIT];
     let count = line(word, &mut output).expect("no line is longer than LINE_LIMIT");
     output[..count].iter().copied().map(char::from).collect()
+}
+
+/// Why a page was not written. Where several apply, the first is answered, in this order.
+#[derive(Clone, Copy, Debug, PartialEq, Eq, Hash)]
+#[non_exhaustive]
+pub enum PageRefusal {
+    /// Memory is not [`WORDS`](crate::WORDS) words.
+    Memory,
+    /// The page goes beyond the last word of memory.
+    Range,
+    /// The whole page does not fit the output.
+    Output,
+}
+
+impl PageRefusal {
+    const ALL: [PageRefusal; 3] = [PageRefusal::Memory, PageRefusal::Range, PageRefusal::Output];
+
+    /// The refusal's number: 11, 20 or 16.
+    ///
+    /// ```
+    /// assert_eq!(lc3::PageRefusal::Range.code(), 20);
+    /// ```
+    pub fn code(self) -> u32 {
+        match self {
+            PageRefusal::Memory => ffi::LC3_REFUSED_MEMORY,
+            PageRefusal::Range => ffi::LC3_REFUSED_PAGE,
+            PageRefusal::Output => ffi::LC3_REFUSED_OUTPUT,
+        }
+    }
+}
+
+impl fmt::Display for PageRefusal {
+    fn fmt(&self, f: &mut fmt::Formatter<'_>) -> fmt::Result {
+        f.write_str(match self {
+            PageRefusal::Memory => "memory is not 65,536 words",
+            PageRefusal::Range => "the page goes beyond the last word of memory",
+            PageRefusal::Output => "the page does not fit the output",
+        })
+    }
+}
+
+impl std::error::Error for PageRefusal {}
+
+/// Writes the lines of `count` words from `first` on, one after the other, to the start of
+/// `output`, and answers their length: at most `count` times [`LINE_LIMIT`].
+///
+/// What lies after the page is left as it was; where the page is refused, all of `output` is.
+///
+/// ```
+/// let mut memory = vec![0; lc3::WORDS];
+/// memory[0x3000..0x3002].copy_from_slice(&[0x1021, 0x0FFE]);
+/// let mut output = [0; 2 * lc3::LINE_LIMIT];
+/// let count = lc3::page(&memory, 0x3000, 2, &mut output)?;
+/// assert_eq!(&output[..count], b"ADD R0, R0, #1\nBRnzp #-2\n");
+/// assert_eq!(lc3::page(&memory, 0xFFFF, 2, &mut output), Err(lc3::PageRefusal::Range));
+/// # Ok::<(), lc3::PageRefusal>(())
+/// ```
+pub fn page(
+    memory: &[u16],
+    first: u16,
+    count: usize,
+    output: &mut [u8],
+) -> Result<usize, PageRefusal> {
+    // SAFETY: each pointer and length come from one slice, and the borrow keeps the output apart
+    // from memory.
+    let counted = unsafe {
+        let (text, room) = (output.as_mut_ptr(), output.len());
+        ffi::lc3_page(memory.as_ptr(), memory.len(), first, count, text, room)
+    };
+    accepted(counted.refusal, &PageRefusal::ALL, PageRefusal::code)?;
+    Ok(counted.count as usize)
 }

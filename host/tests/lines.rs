@@ -1,7 +1,12 @@
-//! Every word's line, held against a formatter and an assembler of the tests' own.
+//! Every word's line, held against a formatter and an assembler of the tests' own; and pages, held
+//! against the formatter's lines joined.
+
+mod reference;
+mod support;
 
 use lc3::ffi::{self, Counted};
 use std::collections::HashSet;
+use support::Rng;
 
 /// The low `bits` bits of a word as a signed number.
 fn signed(word: u16, bits: u32) -> i32 {
@@ -152,6 +157,109 @@ fn a_line_is_written_where_it_fits_and_nothing_else_is() {
                 assert_eq!(counted, Counted { count: 0, refusal: 16 });
             }
             assert_eq!(output, expected, "x{word:04X} in {lent} bytes");
+        }
+    }
+}
+
+/// What surrounds a lent output, and what it holds before the call.
+const GUARD: usize = 8;
+const BYTE: u8 = 0xA5;
+
+/// The lines of a range joined, or the number of the refusal.
+fn joined(memory: &[u16], first: u16, count: usize, room: usize) -> Result<String, u32> {
+    if memory.len() != 1 << 16 {
+        return Err(11);
+    }
+    let range = usize::from(first).checked_add(count).and_then(|end| memory.get(first.into()..end));
+    let page: String = range.ok_or(20u32)?.iter().map(|&word| formatted(word) + "\n").collect();
+    if room < page.len() {
+        return Err(16);
+    }
+    Ok(page)
+}
+
+/// Lends an output of `room` bytes between guards, and panics unless the answer and every byte are
+/// as the lines joined.
+fn check_page(memory: &[u16], first: u16, count: usize, room: usize) -> Counted {
+    let mut output = vec![BYTE; GUARD + room + GUARD];
+    let mut expected = output.clone();
+    let answer = match joined(memory, first, count, room) {
+        Ok(page) => {
+            expected[GUARD..GUARD + page.len()].copy_from_slice(page.as_bytes());
+            Counted { count: page.len() as u64, refusal: 0 }
+        }
+        Err(refusal) => Counted { count: 0, refusal },
+    };
+    // SAFETY: both pointers are valid for what is lent, the output between its guards.
+    let counted = unsafe {
+        let text = output.as_mut_ptr().add(GUARD);
+        ffi::lc3_page(memory.as_ptr(), memory.len(), first, count, text, room)
+    };
+    assert_eq!(counted, answer, "{count} lines from x{first:04X} in {room} bytes");
+    assert_eq!(output, expected, "{count} lines from x{first:04X} in {room} bytes");
+    counted
+}
+
+/// All words in order, so that each stands at its own address.
+fn all_words() -> Vec<u16> {
+    (0..=u16::MAX).collect()
+}
+
+#[test]
+fn a_page_of_the_whole_memory_is_every_line() {
+    let counted = check_page(&all_words(), 0, 1 << 16, (1 << 16) * lc3::LINE_LIMIT);
+    let lines: usize = (0..=u16::MAX).map(|word| formatted(word).len() + 1).sum();
+    assert_eq!(counted, Counted { count: lines as u64, refusal: 0 });
+}
+
+#[test]
+fn a_page_is_written_where_it_fits_whole_and_nothing_else_is() {
+    let memory = all_words();
+    for (first, count) in [(0x0000, 0), (0x14E7, 1), (0x8000, 3), (0xFFF0, 16), (0x01F0, 40)] {
+        let page = joined(&memory, first, count, usize::MAX).expect("a page of memory");
+        for room in page.len().saturating_sub(40)..=page.len() + 20 {
+            check_page(&memory, first, count, room);
+        }
+        for room in 0..page.len().min(40) {
+            check_page(&memory, first, count, room);
+        }
+    }
+}
+
+#[test]
+fn random_pages_of_random_memories() {
+    let mut rng = Rng::of_case(5, 0);
+    for _ in 0..300 {
+        let memory: Vec<u16> = (0..1 << 16).map(|_| rng.word()).collect();
+        for _ in 0..5 {
+            let first = rng.word();
+            let left = (1 << 16) - u64::from(first);
+            let count = rng.below(left.min(300) + 1) as usize;
+            let room = rng.below(count as u64 * 17 + 20) as usize;
+            check_page(&memory, first, count, room);
+            check_page(&memory, first, count, count * lc3::LINE_LIMIT);
+        }
+    }
+}
+
+#[test]
+fn a_page_is_refused_in_the_order_memory_range_output() {
+    let memory = all_words();
+    for words in [0, 1, (1 << 16) - 1] {
+        check_page(&memory[..words], 0xFFFF, usize::MAX, 0);
+    }
+    let longer: Vec<u16> = memory.iter().copied().chain([0]).collect();
+    check_page(&longer, 0, 1, 100);
+    for first in [0x0000, 0x0001, 0x3000, 0x7FFF, 0xFFFE, 0xFFFF] {
+        let left = (1 << 16) - usize::from(first);
+        for count in [left, left + 1, left + 2, 1 << 16, usize::MAX / 2, usize::MAX] {
+            check_page(&memory, first, count, 0);
+            check_page(&memory, first, count, 40);
+        }
+        // Counts whose sum with the address is small again where it wraps.
+        for sum in 0..4 {
+            let count = usize::MAX.wrapping_sub(usize::from(first)).wrapping_add(sum);
+            check_page(&memory, first, count, 40);
         }
     }
 }

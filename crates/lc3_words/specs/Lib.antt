@@ -1,9 +1,8 @@
--- What a host's calls answer, as definitions: Flat, Unflat, Range, Writing and Counted. What is proved of them is stated in Theorems. Clamping
+-- What a host's calls answer, as definitions: Flat, Unflat, Range and Writing. What is proved of them is stated in Theorems. Clamping
 -- serves only the contracts of private functions.
 pub mod Flat
 pub mod Unflat
 pub mod Range
 pub mod Writing
-pub mod Counted
 pub mod Theorems
 pub mod Clamping

@@ -1,11 +1,9 @@
 // Instruction words for hosts in C and Rust: reading and writing, with an instruction as one flat record ('Instruction words' and
-// 'Write an instruction' of document 01), and a word as a line of text (request 1). Every call accepts every argument. The kinds and
-// operands are those of include/lc3.h.
+// 'Write an instruction' of document 01). Every call accepts every argument. The kinds and operands are those of include/lc3.h.
 pub mod flat;
 pub mod unflat;
 
 use flat::flatten;
-use line::line::line;
 use unflat::to_signed;
 use unflat::to_unsigned;
 use unflat::unflatten;
@@ -13,10 +11,7 @@ use word::reading::read;
 use word::writing::write;
 ghost use mathlib.Core.Path.{_≡_};
 ghost use Rattle.word.specs.Reading.{readOf};
-ghost use Rattle.line.specs.Line.{lineOf};
-ghost use Rattle.line.specs.Answer.{textAnswer};
 ghost use Rattle.lc3_words.specs.Flat.{flatOf};
-ghost use Rattle.lc3_words.specs.Counted.{answeredWith};
 ghost use Rattle.lc3_words.specs.Writing.{writtenOf};
 
 // An instruction: its kind, 0 for BR to 18 for TRAP; a, b, c its registers (of a BR, a is the mask) in the order in which the book's
@@ -34,13 +29,6 @@ pub struct Lc3Instruction {
 #[repr(C)]
 pub struct Lc3Written {
     pub word: u16,
-    pub refusal: u32,
-}
-
-// A byte count and 0, or 0 and the reason of the refusal, 16.
-#[repr(C)]
-pub struct Lc3Counted {
-    pub count: u64,
     pub refusal: u32,
 }
 
@@ -80,17 +68,5 @@ pub extern "C" fn lc3_write(instruction: Lc3Instruction) -> Lc3Written
     Lc3Written {
         word: written.word,
         refusal: written.refusal as u32,
-    }
-}
-
-// The line of a word, at the start of the output.
-#[no_mangle]
-pub extern "C" fn lc3_line(word: u16, output: &mut [u8]) -> Lc3Counted
-    ensures { λ r. ⌜ answeredWith r (now (output .exit)) ≡ textAnswer (lineOf word) (now (output .entry)) ⌝ }
-{
-    let counted = line(word, output);
-    Lc3Counted {
-        count: counted.count as u64,
-        refusal: counted.refusal as u32,
     }
 }

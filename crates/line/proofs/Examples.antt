@@ -2,7 +2,7 @@
 use mathlib.Core.Path.{refl}
 use Rattle.word.specs.Reading.{readOf}
 use Rattle.word.specs.FixedBits.{fixedOf}
-use Rattle.line.specs.Operands.{digits, decimal}
+use Rattle.text.specs.Operands.{digits, decimal}
 use Rattle.line.specs.Line.{lineOf}
 use Rattle.line.specs.Examples.{LinesHold}
 

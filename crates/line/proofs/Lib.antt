@@ -1,10 +1,8 @@
 -- The proofs of the statements in specs/Theorems.antt, and the laws that the functions' proofs cite.
-mod Placing
 mod Answering
-mod Decimal
-mod Signs
-mod FixedBits
+mod ShapeLaws
 pub mod ReadingBack
 pub mod DistinctLines
 pub mod LongestLine
 pub mod Examples
+pub mod PageLaws

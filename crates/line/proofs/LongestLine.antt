@@ -15,11 +15,12 @@ use Rattle.word.specs.declared.Instruction.{Instruction}
 use Rattle.word.specs.declared.Instruction.the-variants.{Br, AddRegister, AddImmediate, Ld, St, Jsr, Jsrr, AndRegister, AndImmediate, Ldr, Str, Rti, Not, Ldi, Sti, Jmp, Reserved, Lea, Trap}
 use Rattle.word.proofs.SignedFields.{within-bound}
 use Rattle.word.proofs.Ranges.{read-in-range}
-use Rattle.line.specs.Characters.{lineFeed, space, E, J, M, P, R, T, lowerN, lowerZ, lowerP}
-use Rattle.line.specs.Operands.{digit, decimal, register, signedDigits, signedNumber}
-use Rattle.line.specs.Line.{statement, code, codes, fillLine, branchLine, instructionLine, lineOf}
+use Rattle.text.specs.Characters.{lineFeed, space, E, J, M, P, R, T, lowerN, lowerZ, lowerP}
+use Rattle.text.specs.Operands.{digit, decimal, register, signedDigits, signedNumber}
+use Rattle.text.specs.Statement.{statement, code, codes, fillLine, branchLine}
+use Rattle.line.specs.Line.{instructionLine, lineOf}
 use Rattle.line.specs.Theorems.{LongestLine}
-use Rattle.line.proofs.Decimal.{last-digit, digits-before}
+use Rattle.text.proofs.Decimal.{last-digit, digits-before}
 
 -- numbers below b have at most k digits
 abbrev Digits : ℕ → ℕ → Type 0

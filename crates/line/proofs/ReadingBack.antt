@@ -9,8 +9,8 @@ use lib.Dec.{eqb, ltb}
 use lib.IntN.{ℤ, pos, negsuc}
 use lib.ListN.{getD, drop}
 use borrow.Author.Tests.{ne-eqb, lt-ltb, le-ltb, ltb-true, ltb-false}
-use Rattle.line.specs.Characters.{lineFeed, minus, digit0, A}
-use Rattle.line.specs.Operands.{digit, digits, decimal, signedDigits, hexDigit}
+use Rattle.text.specs.Characters.{lineFeed, minus, digit0, A}
+use Rattle.text.specs.Operands.{digit, digits, decimal, signedDigits, hexDigit}
 use Rattle.line.specs.Theorems.{DecimalDetermines}
 
 abbrev pub digitOf : ℕ → ℕ

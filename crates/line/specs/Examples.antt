@@ -3,7 +3,7 @@ use Prim.Native.Nat.{ℕ}
 use Prim.Native.String.{String}
 use mathlib.Core.Path.{_≡_}
 use mathlib.Core.List.{List, [], _∷_, map}
-use Rattle.line.specs.Characters.{codesIn}
+use Rattle.text.specs.Characters.{codesIn}
 use Rattle.line.specs.Line.{lineOf}
 
 -- A word, and its line.

@@ -1,61 +1,40 @@
 -- The line of text of a memory word (request 1).
-use Prim.Native.Nat.{ℕ, _/_, _%_}
+use Prim.Native.Nat.{ℕ}
 use mathlib.Core.Bool.{cond}
-use mathlib.Core.List.{List, [], _∷_, _++_}
+use mathlib.Core.List.{List, [], _∷_}
 use lib.Dec.{eqb}
-use lib.IntN.{ℤ}
 use Rattle.word.specs.Reading.{readOf}
 use Rattle.word.specs.FixedBits.{fixedOf}
 use Rattle.word.specs.declared.Instruction.{Instruction}
 use Rattle.word.specs.declared.Instruction.the-variants.{Br, AddRegister, AddImmediate, Ld, St, Jsr, Jsrr, AndRegister, AndImmediate, Ldr, Str, Rti, Not, Ldi, Sti, Jmp, Reserved, Lea, Trap}
-use Rattle.line.specs.Characters.{lineFeed, space, comma, dot, A, B, D, E, F, I, J, L, M, N, O, P, R, S, T, lowerN, lowerZ, lowerP}
-use Rattle.line.specs.Operands.{register, signedNumber, hex2, hex4}
+use Rattle.text.specs.Characters.{A, D, E, I, J, L, M, N, O, P, R, S, T}
+use Rattle.text.specs.Operands.{register, signedNumber}
+use Rattle.text.specs.Statement.{statement, fillLine, trapLine, branchLine}
 
--- a mnemonic, a space, and the operands parted by a comma and a space; neither space nor operands where there are none. A line ends
--- in a line feed
-abbrev pub others : List (List ℕ) → List ℕ
-others [] = lineFeed ∷ []
-others (operand ∷ more) = comma ∷ space ∷ operand ++ others more
-
-abbrev pub statement : List ℕ → List (List ℕ) → List ℕ
-statement mnemonic [] = mnemonic ++ lineFeed ∷ []
-statement mnemonic (operand ∷ more) = mnemonic ++ (space ∷ operand ++ others more)
-
--- those of n, z, p that a BR tests, in that order
-abbrev pub code : ℕ → ℕ → List ℕ
-code bit letter = cond (eqb bit 1) (letter ∷ []) []
-
-abbrev pub codes : ℕ → List ℕ
-codes mask = code (mask / 4 % 2) lowerN ++ code (mask / 2 % 2) lowerZ ++ code (mask % 2) lowerP
-
--- the word as data, in four digits
-abbrev pub fillLine : ℕ → List ℕ
-fillLine w = statement (dot ∷ F ∷ I ∷ L ∷ L ∷ []) (hex4 w ∷ [])
-
-abbrev pub trapLine : ℕ → List ℕ
-trapLine v = statement (T ∷ R ∷ A ∷ P ∷ []) (hex2 v ∷ [])
-
-abbrev pub branchLine : ℕ → ℤ → List ℕ
-branchLine mask n = statement (B ∷ R ∷ codes mask) (signedNumber n ∷ [])
-
--- the line of the instruction that the word w reads as. RET is JMP R7. A BR that tests nothing and a reserved word are data
+-- the line of the instruction that the word w reads as. RET is JMP R7. A BR that tests nothing and a reserved word are
+-- data
 abbrev pub instructionLine : ℕ → Instruction → List ℕ
 instructionLine w (Br mask pcoffset9) = cond (eqb mask 0) (fillLine w) (branchLine mask pcoffset9)
 instructionLine w (AddRegister dr sr1 sr2) = statement (A ∷ D ∷ D ∷ []) (register dr ∷ register sr1 ∷ register sr2 ∷ [])
-instructionLine w (AddImmediate dr sr1 imm5) = statement (A ∷ D ∷ D ∷ []) (register dr ∷ register sr1 ∷ signedNumber imm5 ∷ [])
+instructionLine w (AddImmediate dr sr1 imm5) =
+    statement (A ∷ D ∷ D ∷ []) (register dr ∷ register sr1 ∷ signedNumber imm5 ∷ [])
 instructionLine w (Ld dr pcoffset9) = statement (L ∷ D ∷ []) (register dr ∷ signedNumber pcoffset9 ∷ [])
 instructionLine w (St sr pcoffset9) = statement (S ∷ T ∷ []) (register sr ∷ signedNumber pcoffset9 ∷ [])
 instructionLine w (Jsr pcoffset11) = statement (J ∷ S ∷ R ∷ []) (signedNumber pcoffset11 ∷ [])
 instructionLine w (Jsrr base) = statement (J ∷ S ∷ R ∷ R ∷ []) (register base ∷ [])
 instructionLine w (AndRegister dr sr1 sr2) = statement (A ∷ N ∷ D ∷ []) (register dr ∷ register sr1 ∷ register sr2 ∷ [])
-instructionLine w (AndImmediate dr sr1 imm5) = statement (A ∷ N ∷ D ∷ []) (register dr ∷ register sr1 ∷ signedNumber imm5 ∷ [])
-instructionLine w (Ldr dr base offset6) = statement (L ∷ D ∷ R ∷ []) (register dr ∷ register base ∷ signedNumber offset6 ∷ [])
-instructionLine w (Str sr base offset6) = statement (S ∷ T ∷ R ∷ []) (register sr ∷ register base ∷ signedNumber offset6 ∷ [])
+instructionLine w (AndImmediate dr sr1 imm5) =
+    statement (A ∷ N ∷ D ∷ []) (register dr ∷ register sr1 ∷ signedNumber imm5 ∷ [])
+instructionLine w (Ldr dr base offset6) =
+    statement (L ∷ D ∷ R ∷ []) (register dr ∷ register base ∷ signedNumber offset6 ∷ [])
+instructionLine w (Str sr base offset6) =
+    statement (S ∷ T ∷ R ∷ []) (register sr ∷ register base ∷ signedNumber offset6 ∷ [])
 instructionLine w Rti = statement (R ∷ T ∷ I ∷ []) []
 instructionLine w (Not dr sr) = statement (N ∷ O ∷ T ∷ []) (register dr ∷ register sr ∷ [])
 instructionLine w (Ldi dr pcoffset9) = statement (L ∷ D ∷ I ∷ []) (register dr ∷ signedNumber pcoffset9 ∷ [])
 instructionLine w (Sti sr pcoffset9) = statement (S ∷ T ∷ I ∷ []) (register sr ∷ signedNumber pcoffset9 ∷ [])
-instructionLine w (Jmp base) = cond (eqb base 7) (statement (R ∷ E ∷ T ∷ []) []) (statement (J ∷ M ∷ P ∷ []) (register base ∷ []))
+instructionLine w (Jmp base) =
+    cond (eqb base 7) (statement (R ∷ E ∷ T ∷ []) []) (statement (J ∷ M ∷ P ∷ []) (register base ∷ []))
 instructionLine w (Reserved low12) = fillLine w
 instructionLine w (Lea dr pcoffset9) = statement (L ∷ E ∷ A ∷ []) (register dr ∷ signedNumber pcoffset9 ∷ [])
 instructionLine w (Trap trapvect8) = trapLine trapvect8

@@ -1,11 +1,11 @@
-// A memory word as a line of text (request 1).
+// A memory word as a line of text (request 1), and a whole page of lines (request 5).
 
+mod lengths;
 pub mod line;
-mod operands;
-mod statement;
-mod text;
+pub mod page;
+mod putting;
 
-// What `line` answers: the byte count and 0, or 0 and 16 where the line does not fit.
+// What a call answers that writes text: the byte count and 0, or 0 and the number of the refusal.
 pub struct Counted {
     pub count: usize,
     pub refusal: u8,

@@ -5,5 +5,6 @@ pub mod Opcodes
 pub mod Ranges
 pub mod ReadAfterWrite
 pub mod WriteAfterRead
+pub mod MaskLaws
 pub mod Examples
-mod Casts
+pub mod Casts

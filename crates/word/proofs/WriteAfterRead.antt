@@ -27,7 +27,7 @@ with-pcoffset9 : (w k : ℕ) → opcode w ≡ k → k * 4096 + bits11to9 w * 512
 with-pcoffset9 w k e = rw (fields .pcoffset9 .pattern-back (w % 512) (omega arith)) (omega arith)
 
 -- bits 15 to 6
-top : (w k : ℕ) → opcode w ≡ k → k * 4096 + bits11to9 w * 512 + bits8to6 w * 64 ≡ w / 64 * 64
+pub top : (w k : ℕ) → opcode w ≡ k → k * 4096 + bits11to9 w * 512 + bits8to6 w * 64 ≡ w / 64 * 64
 top w k e = omega arith
 
 with-offset6 : (w k : ℕ) → opcode w ≡ k → k * 4096 + bits11to9 w * 512 + bits8to6 w * 64 + bits 32 (field 6 w) ≡ w

@@ -1,9 +1,10 @@
--- Document 01 on instruction words, as definitions: Field, Reading, Writing, Range and FixedBits. What is proved of them is stated
--- in Theorems. Encoding serves only the contracts of private functions.
+-- Document 01 on instruction words, as definitions: Field, Reading, Writing, Range, FixedBits and Mask. What is proved
+-- of them is stated in Theorems. Encoding serves only the contracts of private functions.
 pub mod Field
 pub mod Reading
 pub mod Writing
 pub mod Range
 pub mod FixedBits
+pub mod Mask
 pub mod Theorems
 pub mod Encoding

@@ -10,6 +10,7 @@ use Rattle.word.specs.Reading.{readOf}
 use Rattle.word.specs.Writing.{wordOf, registersInRange, fieldInRange, maskInRange, written, writeOf}
 use Rattle.word.specs.Range.{Within, InRange}
 use Rattle.word.specs.FixedBits.{fixedOf}
+use Rattle.word.specs.Mask.{maskOf}
 use Rattle.word.specs.declared.Instruction.{Instruction}
 use Rattle.word.specs.declared.Instruction.the-variants.{AddImmediate, Jmp}
 
@@ -53,6 +54,10 @@ WriteAfterRead = (w : ℕ) → w < 65536 → writeOf (readOf w) ≡ written (fix
 -- So it gives the word back exactly when its fixed bits were right.
 abbrev pub WriteAfterReadExactly : Type 0
 WriteAfterReadExactly = (w : ℕ) → w < 65536 → (writeOf (readOf w) ≡ written w) ↔ (fixedOf w ≡ w)
+
+-- The mask is 0 exactly where they were.
+abbrev pub MaskIsZeroExactly : Type 0
+MaskIsZeroExactly = (w : ℕ) → w < 65536 → (maskOf w ≡ 0) ↔ (fixedOf w ≡ w)
 
 -- Reading ignores bits that the figure fixes: words that differ in these alone are read as the same instruction.
 abbrev pub ReadingIgnoresFixedBits : Type 0

@@ -26,7 +26,7 @@ pub fn bits2to0(word: u16) -> u8
 }
 
 // The signed number in the low bits of a word: sign extension.
-pub(crate) fn extend(word: u16, half: u16) -> i16
+pub fn extend(word: u16, half: u16) -> i16
     requires { ⌜ (0 < half) × (half ≤ 16384) ⌝ }
     ensures { λ r. ⌜ r ≡ signed half (word % (half + half)) ⌝ }
 {

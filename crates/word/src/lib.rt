@@ -1,6 +1,7 @@
 // LC-3 instruction words, after 'Instruction words' and 'Write an instruction' of document 01.
 // The forms are those of Figure A.2 (source document 000); names of fields are the figure's.
 pub mod fields;
+pub mod masks;
 pub mod reading;
 pub mod writing;
 

@@ -67,12 +67,14 @@ pub const LC3_REFUSED_STEPS: u32 = 13;
 pub const LC3_REFUSED_LISTS: u32 = 14;
 /// Refusal: a time is below the clock or below the one before it.
 pub const LC3_REFUSED_TIMES: u32 = 15;
-/// Refusal: the line, the file or the vector words do not fit the output.
+/// Refusal: the line, page, file or vector words do not fit the output.
 pub const LC3_REFUSED_OUTPUT: u32 = 16;
 /// Refusal: the file has an odd number of bytes, or fewer than two.
 pub const LC3_REFUSED_FILE: u32 = 17;
 /// Refusal: the range goes beyond the last word of memory.
 pub const LC3_REFUSED_RANGE: u32 = 18;
+/// Refusal: the page goes beyond the last word of memory.
+pub const LC3_REFUSED_PAGE: u32 = 20;
 
 /// Stop: all steps asked for were made.
 pub const LC3_DONE: u32 = 0;

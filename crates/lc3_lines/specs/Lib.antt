@@ -1,0 +1,2 @@
+-- What a host's calls answer, in the terms of the crate `line`.
+pub mod Counted

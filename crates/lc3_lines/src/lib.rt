@@ -1,0 +1,46 @@
+// Lines of text for hosts in C and Rust: the line of a word (request 1) and the lines of a range of memory (request 5).
+// Every call accepts every argument; the refusals are those of include/lc3.h.
+use line::line::line;
+use line::page::page;
+ghost use mathlib.Core.Path.{_≡_};
+ghost use Rattle.line.specs.Line.{lineOf};
+ghost use Rattle.line.specs.Answer.{textAnswer};
+ghost use Rattle.line.specs.Page.{pageOf};
+ghost use Rattle.lc3_lines.specs.Counted.{answeredWith};
+
+// A byte count and 0, or 0 and the number of the refusal.
+#[repr(C)]
+pub struct Lc3Counted {
+    pub count: u64,
+    pub refusal: u32,
+}
+
+// The line of a word, at the start of the output.
+#[no_mangle]
+pub extern "C" fn lc3_line(word: u16, output: &mut [u8]) -> Lc3Counted
+    ensures { λ r. ⌜ answeredWith r (now (output .exit)) ≡ textAnswer (lineOf word) (now (output .entry)) ⌝ }
+{
+    let counted = line(word, output);
+    Lc3Counted {
+        count: counted.count as u64,
+        refusal: counted.refusal as u32,
+    }
+}
+
+// The lines of `count` words from `first` on, at the start of the output.
+#[no_mangle]
+pub extern "C" fn lc3_page(
+    memory: &[u16],
+    first: u16,
+    count: usize,
+    output: &mut [u8],
+) -> Lc3Counted
+    ensures { λ r.
+        ⌜ answeredWith r (now (output .exit)) ≡ pageOf (now (memory .entry)) first count (now (output .entry)) ⌝ }
+{
+    let written = page(memory, first, count, output);
+    Lc3Counted {
+        count: written.count as u64,
+        refusal: written.refusal as u32,
+    }
+}

@@ -1,0 +1,24 @@
+-- A whole page of lines (request 5): "what asking for the lines singly and joining them gives".
+use Prim.Native.Nat.{ℕ, _+_}
+use mathlib.Core.Bool.{cond, not}
+use mathlib.Core.List.{List, [], _∷_, _++_}
+use lib.Dec.{eqb, ltb}
+use lib.ListN.{length, take, drop}
+use Rattle.line.specs.Line.{lineOf}
+use Rattle.line.specs.Answer.{Answer, textAnswer, refused}
+
+-- the lines of words, one after the other
+unfoldable pub linesOf : List ℕ → List ℕ
+linesOf [] = []
+linesOf (w ∷ words) = lineOf w ++ linesOf words
+
+-- the lines of the given number of words from the first address on
+abbrev pub pageText : List ℕ → ℕ → ℕ → List ℕ
+pageText memory first count = linesOf (take count (drop first memory))
+
+-- "Turned away, after 11: 20, first address plus count above 65,536; then 16 if the whole page doesn't fit"
+unfoldable pub pageOf : List ℕ → ℕ → ℕ → List ℕ → Answer
+pageOf memory first count output =
+    cond (not (eqb (length memory) 65536)) (refused 11 output)
+    (cond (ltb 65536 (first + count)) (refused 20 output)
+    (textAnswer (pageText memory first count) output))

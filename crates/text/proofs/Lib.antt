@@ -1,0 +1,5 @@
+-- The laws that the functions' proofs cite, here and in the crates above.
+pub mod Placing
+pub mod Decimal
+pub mod Signs
+pub mod Codes
