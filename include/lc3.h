@@ -8,7 +8,7 @@
  *   lc3_step     runs one step and alters the host's own record
  *   lc3_read     reads a word as an instruction
  *   lc3_write    writes an instruction as a word
- *   lc3_line     writes a word as a line of text
+ *   lc3_line     writes a word as a line of text; lc3_line_length counts its bytes
  *   lc3_page     writes the words of a range of lent memory as lines of text
  *   lc3_load     reads an object file into lent memory
  *   lc3_save     writes an object file from a range of lent memory
@@ -303,6 +303,9 @@ lc3_written lc3_write(lc3_instruction instruction);
  * hexadecimal digits: xDEAD gives ".FILL xDEAD". Distinct words give distinct lines.
  */
 lc3_counted lc3_line(uint16_t word, uint8_t *output, size_t output_len);
+
+/* The bytes of a word's line, its line feed included: what lc3_line answers where the line fits. */
+size_t lc3_line_length(uint16_t word);
 
 /*
  * Lists a range of memory: the lines of count words from first on, one after the other, each as

@@ -835,6 +835,7 @@ static void test_line(void) {
     };
     for (size_t i = 0; i < sizeof lines / sizeof *lines; i++) {
         size_t length = strlen(lines[i].line);
+        CHECK(lc3_line_length(lines[i].word), length);
         for (size_t lent = 0; lent <= LC3_MAX_LINE; lent++) {
             uint8_t text[LC3_MAX_LINE + 1], wanted[LC3_MAX_LINE + 1];
             memset(text, UNSHOWN, sizeof text);

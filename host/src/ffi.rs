@@ -169,6 +169,9 @@ unsafe extern "C" {
     /// `output` must be valid for writing `output_len` bytes.
     pub fn lc3_line(word: u16, output: *mut u8, output_len: usize) -> Counted;
 
+    /// Counts the bytes of a word's line.
+    pub safe fn lc3_line_length(word: u16) -> usize;
+
     /// Writes the words of a range of memory as lines of text.
     ///
     /// # Safety

@@ -1,12 +1,13 @@
 //! The LC-3 with privilege, interrupts and a console.
 //!
-//! This crate is a safe wrapper of the static library `liblc3.a`. It has the library's thirteen calls:
+//! This crate is a safe wrapper of the static library `liblc3.a`. It has the library's fourteen calls:
 //!
 //! - [`version()`], the version of the interface;
 //! - [`Record::fresh`] for a machine that has not run yet, [`run`](run()) for a number of steps over
 //!   lent memory, and [`step`] for one step, which alters the record that it is lent;
 //! - [`read`] for a word as an instruction, [`write`](write()) for an instruction as a word;
-//! - [`line`](line()) for a word as a line of text, and [`page`] for a range of memory as lines;
+//! - [`line`](line()) for a word as a line of text, [`line_length`] for the bytes of that line, and
+//!   [`page`] for a range of memory as lines;
 //! - [`load`] and [`save`] for object files;
 //! - [`install_monitor`] for the ready-made monitor, [`Routines::of_monitor`] for the addresses of its
 //!   routines, and [`vectors`] for the vector words of any monitor.
@@ -55,7 +56,7 @@ mod run;
 
 pub use error::Error;
 pub use instruction::{read, write, Instruction, WriteRefusal};
-pub use line::{line, line_string, page, LineRefusal, PageRefusal, LINE_LIMIT};
+pub use line::{line, line_length, line_string, page, LineRefusal, PageRefusal, LINE_LIMIT};
 pub use monitor::{
     install_monitor, vectors, MonitorRefusal, Routines, MONITOR_WORDS, VECTOR_WORDS,
 };

@@ -59,6 +59,15 @@ pub fn line(word: u16, output: &mut [u8]) -> Result<usize, LineRefusal> {
     Ok(counted.count as usize)
 }
 
+/// The bytes of a word's line, its line feed included.
+///
+/// ```
+/// assert_eq!(lc3::line_length(0x14E7), "ADD R2, R3, #7\n".len());
+/// ```
+pub fn line_length(word: u16) -> usize {
+    ffi::lc3_line_length(word)
+}
+
 /// The line of a word, its line feed included.
 ///
 /// ```

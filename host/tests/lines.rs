@@ -119,6 +119,13 @@ fn every_line_is_the_formatters() {
 }
 
 #[test]
+fn every_length_is_the_formatters() {
+    for word in 0..=u16::MAX {
+        assert_eq!(lc3::line_length(word), formatted(word).len() + 1, "x{word:04X}");
+    }
+}
+
+#[test]
 fn all_lines_are_distinct_and_the_longest_has_17_bytes() {
     let lines: HashSet<String> = (0..=u16::MAX).map(lc3::line_string).collect();
     assert_eq!(lines.len(), 65_536);

@@ -1,8 +1,10 @@
-// Lines of text for hosts in C and Rust: the line of a word (request 1) and the lines of a range of memory (request 5).
-// Every call accepts every argument; the refusals are those of include/lc3.h.
+// Lines of text for hosts in C and Rust: the line of a word (request 1), its length (request 6) and the lines of a
+// range of memory (request 5). Every call accepts every argument; the refusals are those of include/lc3.h.
+use line::lengths::line_length;
 use line::line::line;
 use line::page::page;
 ghost use mathlib.Core.Path.{_≡_};
+ghost use lib.ListN.{length};
 ghost use Rattle.line.specs.Line.{lineOf};
 ghost use Rattle.line.specs.Answer.{textAnswer};
 ghost use Rattle.line.specs.Page.{pageOf};
@@ -25,6 +27,14 @@ pub extern "C" fn lc3_line(word: u16, output: &mut [u8]) -> Lc3Counted
         count: counted.count as u64,
         refusal: counted.refusal as u32,
     }
+}
+
+// The byte count of the line of a word, its line feed included.
+#[no_mangle]
+pub extern "C" fn lc3_line_length(word: u16) -> usize
+    ensures { λ r. ⌜ r ≡ length (lineOf word) ⌝ }
+{
+    line_length(word)
 }
 
 // The lines of `count` words from `first` on, at the start of the output.

@@ -1,6 +1,7 @@
-// A memory word as a line of text (request 1), and a whole page of lines (request 5).
+// A memory word as a line of text (request 1), how long it is (request 6), and a whole page of lines (request 5). No
+// buffer but the lent output holds a line or a part of one.
 
-mod lengths;
+pub mod lengths;
 pub mod line;
 pub mod page;
 mod putting;
