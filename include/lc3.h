@@ -50,9 +50,9 @@ extern "C" {
 /*
  * The version of this interface. It rises by 1 whenever the layout of a struct or the meaning of a
  * call changes. The name that the shared library is loaded by (its SONAME) ends in it, as in
- * liblc3.so.2, so that no host meets another version than it was built for.
+ * liblc3.so.3, so that no host meets another version than it was built for.
  */
-#define LC3_VERSION 2
+#define LC3_VERSION 3
 
 /* Sizes and limits. */
 #define LC3_MEMORY_WORDS 65536            /* words of memory: no other number is accepted */
@@ -88,7 +88,7 @@ extern "C" {
  * answered:
  *
  *   lc3_write           1, 2, 3
- *   lc3_run, lc3_step   11, 12, 13, 14, 15
+ *   lc3_run, lc3_step   11, 12, 13, 14, then 15 and 19 together, entry by entry
  *   lc3_line            16
  *   lc3_page            11, 20, 16
  *   lc3_load            11, 17, 18
@@ -105,10 +105,11 @@ enum {
     LC3_REFUSED_RECORD = 12,  /* an undefined bit in PSR, KBSR, KBDR or MCR, or a clock too high */
     LC3_REFUSED_STEPS = 13,   /* n is above LC3_MAX_STEPS, or clock + n above LC3_MAX_CLOCK */
     LC3_REFUSED_LISTS = 14,   /* times and bytes differ in length */
-    LC3_REFUSED_TIMES = 15,   /* a time is below the clock or below the time before it */
+    LC3_REFUSED_TIME = 15,    /* times[index] is below the clock */
     LC3_REFUSED_OUTPUT = 16,  /* the line, page, file or vector words do not fit the output */
     LC3_REFUSED_FILE = 17,    /* the file has an odd number of bytes, or fewer than two */
     LC3_REFUSED_RANGE = 18,   /* origin + words is above LC3_MEMORY_WORDS */
+    LC3_REFUSED_ORDER = 19,   /* times[index] is below the time before it, not below the clock */
     LC3_REFUSED_PAGE = 20     /* first + count is above LC3_MEMORY_WORDS */
 };
 
@@ -139,19 +140,20 @@ typedef struct {
     uint64_t clock;     /* steps made since the machine was fresh */
 } lc3_record;
 
-/* What lc3_run answers. A refused call answers the record that it was handed, and zeros. */
+/* What lc3_run answers. A refused call answers the record that it was handed, and zero counts. */
 typedef struct {
     lc3_record record; /* the machine after the run */
     uint64_t steps;    /* steps made */
     uint64_t keys;     /* keys that arrived: the first so many of the lists */
     uint64_t shown;    /* bytes shown: the first so many of the output */
-    uint32_t refusal;  /* LC3_ACCEPTED, or LC3_REFUSED_MEMORY to LC3_REFUSED_TIMES */
+    uint64_t index;    /* under 15 and 19 the first entry of times that is at fault; else 0 */
+    uint32_t refusal;  /* LC3_ACCEPTED, LC3_REFUSED_MEMORY to LC3_REFUSED_TIME, LC3_REFUSED_ORDER */
     uint32_t stop;     /* LC3_DONE, LC3_HALTED or LC3_OUTPUT_FULL; 0 where refused */
 } lc3_answer;
 
 /* What lc3_step answers beside the record that it alters: the same fields with n = 1. */
 typedef struct {
-    uint64_t steps, keys, shown; /* steps is 1, or 0 where stopped or refused */
+    uint64_t steps, keys, shown, index; /* steps is 1, or 0 where stopped or refused */
     uint32_t refusal, stop;
 } lc3_report;
 
@@ -374,20 +376,22 @@ LC3_LAYOUT(offsetof(lc3_record, kbdr) == 26);
 LC3_LAYOUT(offsetof(lc3_record, mcr) == 28);
 LC3_LAYOUT(offsetof(lc3_record, clock) == 32);
 
-LC3_LAYOUT(sizeof(lc3_answer) == 72);
+LC3_LAYOUT(sizeof(lc3_answer) == 80);
 LC3_LAYOUT(offsetof(lc3_answer, record) == 0);
 LC3_LAYOUT(offsetof(lc3_answer, steps) == 40);
 LC3_LAYOUT(offsetof(lc3_answer, keys) == 48);
 LC3_LAYOUT(offsetof(lc3_answer, shown) == 56);
-LC3_LAYOUT(offsetof(lc3_answer, refusal) == 64);
-LC3_LAYOUT(offsetof(lc3_answer, stop) == 68);
+LC3_LAYOUT(offsetof(lc3_answer, index) == 64);
+LC3_LAYOUT(offsetof(lc3_answer, refusal) == 72);
+LC3_LAYOUT(offsetof(lc3_answer, stop) == 76);
 
-LC3_LAYOUT(sizeof(lc3_report) == 32);
+LC3_LAYOUT(sizeof(lc3_report) == 40);
 LC3_LAYOUT(offsetof(lc3_report, steps) == 0);
 LC3_LAYOUT(offsetof(lc3_report, keys) == 8);
 LC3_LAYOUT(offsetof(lc3_report, shown) == 16);
-LC3_LAYOUT(offsetof(lc3_report, refusal) == 24);
-LC3_LAYOUT(offsetof(lc3_report, stop) == 28);
+LC3_LAYOUT(offsetof(lc3_report, index) == 24);
+LC3_LAYOUT(offsetof(lc3_report, refusal) == 32);
+LC3_LAYOUT(offsetof(lc3_report, stop) == 36);
 
 LC3_LAYOUT(sizeof(lc3_instruction) == 8);
 LC3_LAYOUT(offsetof(lc3_instruction, kind) == 0);

@@ -110,7 +110,8 @@ static bool same_record(const lc3_record *a, const lc3_record *b) {
 
 static bool same_answer(const lc3_answer *a, const lc3_answer *b) {
     return same_record(&a->record, &b->record) && a->steps == b->steps && a->keys == b->keys &&
-           a->shown == b->shown && a->refusal == b->refusal && a->stop == b->stop;
+           a->shown == b->shown && a->index == b->index && a->refusal == b->refusal &&
+           a->stop == b->stop;
 }
 
 /* Compares whole answers, memories and outputs of the library and one interpreter. */

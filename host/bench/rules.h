@@ -103,22 +103,27 @@ static bool sound(const lc3_record *m) {
            !(m->mcr & ~0x8000) && m->clock <= LC3_MAX_CLOCK;
 }
 
-static bool in_order(const uint64_t *times, size_t length, uint64_t last) {
+/* Which of the times is at fault goes to *index, and is 0 where none is. */
+static uint32_t times_refusal(const uint64_t *times, size_t length, uint64_t clock,
+                              uint64_t *index) {
+    uint64_t last = clock;
     for (size_t i = 0; i < length; i++) {
-        if (times[i] < last) return false;
+        if (times[i] < last) {
+            *index = i;
+            return times[i] < clock ? LC3_REFUSED_TIME : LC3_REFUSED_ORDER;
+        }
         last = times[i];
     }
-    return true;
+    return LC3_ACCEPTED;
 }
 
 static uint32_t refusal(const lc3_record *m, size_t memory_len, const uint64_t *times,
-                        size_t times_len, size_t bytes_len, uint64_t n) {
+                        size_t times_len, size_t bytes_len, uint64_t n, uint64_t *index) {
     if (memory_len != LC3_MEMORY_WORDS) return LC3_REFUSED_MEMORY;
     if (!sound(m)) return LC3_REFUSED_RECORD;
     if (n > LC3_MAX_STEPS || m->clock + n > LC3_MAX_CLOCK) return LC3_REFUSED_STEPS;
     if (times_len != bytes_len) return LC3_REFUSED_LISTS;
-    if (!in_order(times, times_len, m->clock)) return LC3_REFUSED_TIMES;
-    return LC3_ACCEPTED;
+    return times_refusal(times, times_len, m->clock, index);
 }
 
 #endif

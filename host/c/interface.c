@@ -108,6 +108,7 @@ static lc3_answer step(const arguments *c) {
     a.steps = r.steps;
     a.keys = r.keys;
     a.shown = r.shown;
+    a.index = r.index;
     a.refusal = r.refusal;
     a.stop = r.stop;
     return a;
@@ -118,6 +119,7 @@ static void check_answer(const lc3_answer *got, const lc3_answer *wanted) {
     CHECK(got->steps, wanted->steps);
     CHECK(got->keys, wanted->keys);
     CHECK(got->shown, wanted->shown);
+    CHECK(got->index, wanted->index);
     CHECK(got->refusal, wanted->refusal);
     CHECK(got->stop, wanted->stop);
 }
@@ -277,26 +279,36 @@ static void test_examples(void) {
 
 /* ---- Refusals ---- */
 
-/* Refused with this number, the record answered as handed in and the buffers as they were. */
-static void check_refused(const lc3_answer *got, const arguments *c, uint32_t number) {
+/*
+ * Refused with this number and index, the record answered as handed in and the buffers as they
+ * were.
+ */
+static void check_refused(const lc3_answer *got, const arguments *c, uint32_t number,
+                          uint64_t index) {
     CHECK(got->refusal, number);
+    CHECK(got->index, index);
     if (number == LC3_ACCEPTED) return;
-    check_answer(got, &(lc3_answer){.record = c->record, .refusal = number});
+    check_answer(got, &(lc3_answer){.record = c->record, .index = index, .refusal = number});
     check_buffers();
 }
 
 /* By lc3_run and, where n is 1, by lc3_step. A step that is made pushes two words. */
-static void check_refusal(const char *name, const arguments *c, uint32_t number) {
+static void check_refusal_at(const char *name, const arguments *c, uint32_t number,
+                             uint64_t index) {
     part = name;
     clear_buffers();
     fill_memory();
     memory[0x3000] = 0xF025; /* TRAP x25 */
     keep_buffers();
     lc3_answer got = run(c);
-    check_refused(&got, c, number);
+    check_refused(&got, c, number, index);
     if (c->n != 1) return;
     got = step(c);
-    check_refused(&got, c, number);
+    check_refused(&got, c, number, index);
+}
+
+static void check_refusal(const char *name, const arguments *c, uint32_t number) {
+    check_refusal_at(name, c, number, 0);
 }
 
 static void test_refused_memory(void) {
@@ -361,14 +373,26 @@ static void test_refused_keys(void) {
     check_refusal("a time without a byte", &c, LC3_REFUSED_LISTS);
     c.bytes_len = 2;
     check_refusal("a byte without a time", &c, LC3_REFUSED_LISTS);
+}
+
+/* Three times at clock 5. */
+static void check_times(const char *name, const uint64_t times[3], uint32_t number,
+                        uint64_t index) {
+    arguments c = usual();
     c.times_len = c.bytes_len = 3;
     c.record.clock = 5;
-    memcpy(c.times, (uint64_t[]){5, 5, 9}, sizeof c.times);
-    check_refusal("a time equal to the clock, equal times", &c, LC3_ACCEPTED);
-    memcpy(c.times, (uint64_t[]){4, 5, 9}, sizeof c.times);
-    check_refusal("a time below the clock", &c, LC3_REFUSED_TIMES);
-    memcpy(c.times, (uint64_t[]){6, 9, 8}, sizeof c.times);
-    check_refusal("a time below the one before", &c, LC3_REFUSED_TIMES);
+    memcpy(c.times, times, sizeof c.times);
+    check_refusal_at(name, &c, number, index);
+}
+
+static void test_refused_times(void) {
+    check_times("the clock, equal times", (uint64_t[]){5, 5, 9}, LC3_ACCEPTED, 0);
+    check_times("below the clock", (uint64_t[]){4, 5, 9}, LC3_REFUSED_TIME, 0);
+    check_times("two below the clock", (uint64_t[]){4, 3, 9}, LC3_REFUSED_TIME, 0);
+    check_times("below the one before", (uint64_t[]){6, 9, 8}, LC3_REFUSED_ORDER, 2);
+    check_times("two below the ones before", (uint64_t[]){9, 8, 7}, LC3_REFUSED_ORDER, 1);
+    check_times("below both", (uint64_t[]){6, 9, 4}, LC3_REFUSED_TIME, 2);
+    check_times("order, then the clock", (uint64_t[]){9, 8, 4}, LC3_REFUSED_ORDER, 1);
 }
 
 /* All five reasons at once, then one less each time: the first that applies is answered. */
@@ -387,7 +411,7 @@ static void test_refusal_order(void) {
     c.n = 1;
     check_refusal("lists and times", &c, LC3_REFUSED_LISTS);
     c.bytes_len = 1;
-    check_refusal("times", &c, LC3_REFUSED_TIMES);
+    check_refusal("times", &c, LC3_REFUSED_TIME);
     c.times[0] = 5;
     check_refusal("no reason", &c, LC3_ACCEPTED);
 }
@@ -397,6 +421,7 @@ static void test_refusals(void) {
     test_refused_record();
     test_refused_steps();
     test_refused_keys();
+    test_refused_times();
     test_refusal_order();
 }
 
@@ -478,7 +503,7 @@ static void test_output_full(void) {
     after.psr = LC3_PSR_P;
     after.clock = 9;
     lc3_answer got = run(&c);
-    check_answer(&got, &(lc3_answer){after, 9, 0, 3, LC3_ACCEPTED, LC3_OUTPUT_FULL});
+    check_answer(&got, &(lc3_answer){after, 9, 0, 3, 0, LC3_ACCEPTED, LC3_OUTPUT_FULL});
     check_buffers();
 
     part = "a step that finds no room";
@@ -508,7 +533,7 @@ static void test_room_again(void) {
     after.kbdr = 'k';
     after.clock = 10;
     lc3_answer got = run(&c);
-    check_answer(&got, &(lc3_answer){after, 1, 1, 1, LC3_ACCEPTED, LC3_DONE});
+    check_answer(&got, &(lc3_answer){after, 1, 1, 1, 0, LC3_ACCEPTED, LC3_DONE});
     check_buffers();
 }
 

@@ -22,7 +22,9 @@ pub struct Answer {
     pub keys: u64,
     /// The bytes shown.
     pub shown: u64,
-    /// 0, or the number of the refusal, 11 to 15.
+    /// The first key time at fault, counted from 0, if refused under 15 or 19; else 0.
+    pub index: u64,
+    /// 0, or the number of the refusal: 11 to 15, or 19.
     pub refusal: u32,
     /// 0 done, 1 halted, 2 output full; 0 if refused.
     pub stop: u32,
@@ -38,7 +40,9 @@ pub struct Report {
     pub keys: u64,
     /// The bytes shown, 0 or 1.
     pub shown: u64,
-    /// 0, or the number of the refusal, 11 to 15.
+    /// The first key time at fault, counted from 0, if refused under 15 or 19; else 0.
+    pub index: u64,
+    /// 0, or the number of the refusal: 11 to 15, or 19.
     pub refusal: u32,
     /// 0 done, 1 halted, 2 output full; 0 if refused.
     pub stop: u32,
@@ -123,14 +127,15 @@ const _: () = assert!(offset_of!(Record, psr) == 18 && offset_of!(Record, saved_
 const _: () = assert!(offset_of!(Record, saved_usp) == 22 && offset_of!(Record, kbsr) == 24);
 const _: () = assert!(offset_of!(Record, kbdr) == 26 && offset_of!(Record, mcr) == 28);
 const _: () = assert!(offset_of!(Record, clock) == 32);
-const _: () = assert!(size_of::<Answer>() == 72 && align_of::<Answer>() == 8);
+const _: () = assert!(size_of::<Answer>() == 80 && align_of::<Answer>() == 8);
 const _: () = assert!(offset_of!(Answer, record) == 0 && offset_of!(Answer, steps) == 40);
 const _: () = assert!(offset_of!(Answer, keys) == 48 && offset_of!(Answer, shown) == 56);
-const _: () = assert!(offset_of!(Answer, refusal) == 64 && offset_of!(Answer, stop) == 68);
-const _: () = assert!(size_of::<Report>() == 32 && align_of::<Report>() == 8);
+const _: () = assert!(offset_of!(Answer, index) == 64 && offset_of!(Answer, refusal) == 72);
+const _: () = assert!(offset_of!(Answer, stop) == 76);
+const _: () = assert!(size_of::<Report>() == 40 && align_of::<Report>() == 8);
 const _: () = assert!(offset_of!(Report, steps) == 0 && offset_of!(Report, keys) == 8);
-const _: () = assert!(offset_of!(Report, shown) == 16 && offset_of!(Report, refusal) == 24);
-const _: () = assert!(offset_of!(Report, stop) == 28);
+const _: () = assert!(offset_of!(Report, shown) == 16 && offset_of!(Report, index) == 24);
+const _: () = assert!(offset_of!(Report, refusal) == 32 && offset_of!(Report, stop) == 36);
 const _: () = assert!(size_of::<Fields>() == 8 && align_of::<Fields>() == 4);
 const _: () = assert!(offset_of!(Fields, kind) == 0 && offset_of!(Fields, a) == 1);
 const _: () = assert!(offset_of!(Fields, b) == 2 && offset_of!(Fields, c) == 3);

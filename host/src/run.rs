@@ -105,18 +105,24 @@ pub enum Refusal {
     Steps,
     /// The key lists differ in length.
     KeyLists,
-    /// A key's time is below the clock or below the one before it.
-    KeyTimes,
+    /// The time of the key with this index, from 0, is below the clock.
+    KeyTime(usize),
+    /// The time of the key with this index, from 0, is below the one before it, and not below the
+    /// clock.
+    KeyOrder(usize),
 }
 
 impl Refusal {
-    const ALL: [Refusal; 5] =
-        [Refusal::Memory, Refusal::Record, Refusal::Steps, Refusal::KeyLists, Refusal::KeyTimes];
+    /// Every refusal, those of a key with this index.
+    fn all(index: usize) -> [Refusal; 6] {
+        use Refusal::{KeyLists, KeyOrder, KeyTime, Memory, Record, Steps};
+        [Memory, Record, Steps, KeyLists, KeyTime(index), KeyOrder(index)]
+    }
 
-    /// The refusal's number, 11 to 15.
+    /// The refusal's number: 11 to 15, or 19.
     ///
     /// ```
-    /// assert_eq!(lc3::Refusal::KeyTimes.code(), 15);
+    /// assert_eq!(lc3::Refusal::KeyOrder(3).code(), 19);
     /// ```
     pub fn code(self) -> u32 {
         match self {
@@ -124,20 +130,26 @@ impl Refusal {
             Refusal::Record => ffi::LC3_REFUSED_RECORD,
             Refusal::Steps => ffi::LC3_REFUSED_STEPS,
             Refusal::KeyLists => ffi::LC3_REFUSED_LISTS,
-            Refusal::KeyTimes => ffi::LC3_REFUSED_TIMES,
+            Refusal::KeyTime(_) => ffi::LC3_REFUSED_TIME,
+            Refusal::KeyOrder(_) => ffi::LC3_REFUSED_ORDER,
         }
     }
 }
 
 impl fmt::Display for Refusal {
     fn fmt(&self, f: &mut fmt::Formatter<'_>) -> fmt::Result {
-        f.write_str(match self {
-            Refusal::Memory => "memory is not 65,536 words",
-            Refusal::Record => "the record has an undefined bit or a clock above 2^48",
-            Refusal::Steps => "more than 1,048,576 steps, or a clock that would pass 2^48",
-            Refusal::KeyLists => "the lists of key times and key bytes differ in length",
-            Refusal::KeyTimes => "a key's time is below the clock or below the one before it",
-        })
+        match self {
+            Refusal::Memory => f.write_str("memory is not 65,536 words"),
+            Refusal::Record => f.write_str("the record has an undefined bit or a clock above 2^48"),
+            Refusal::Steps => {
+                f.write_str("more than 1,048,576 steps, or a clock that would pass 2^48")
+            }
+            Refusal::KeyLists => {
+                f.write_str("the lists of key times and key bytes differ in length")
+            }
+            Refusal::KeyTime(i) => write!(f, "times[{i}] is below the clock"),
+            Refusal::KeyOrder(i) => write!(f, "times[{i}] is below the time before it"),
+        }
     }
 }
 
@@ -171,7 +183,7 @@ pub struct StepReport {
     pub stop: Stop,
 }
 
-/// A count of elements of a lent slice; it is at most the slice's length.
+/// A count of elements of a lent slice, or an index into one: at most the slice's length.
 fn count(number: u64) -> usize {
     usize::try_from(number).expect("a count within a slice")
 }
@@ -191,6 +203,11 @@ fn count(number: u64) -> usize {
 ///
 /// let refused = lc3::run(record, &mut memory[1..], Keys::NONE, &mut [], 1);
 /// assert_eq!(refused, Err(Refusal::Memory));
+///
+/// let keys = Keys { times: &[3, 9, 5], bytes: b"abc" };
+/// let refused = lc3::run(record, &mut memory, keys, &mut [], 1).unwrap_err();
+/// assert_eq!((refused, refused.code()), (Refusal::KeyOrder(2), 19));
+/// assert_eq!(refused.to_string(), "times[2] is below the time before it");
 /// # Ok::<(), Refusal>(())
 /// ```
 pub fn run(
@@ -216,7 +233,7 @@ pub fn run(
             n,
         )
     };
-    accepted(answer.refusal, &Refusal::ALL, Refusal::code)?;
+    accepted(answer.refusal, &Refusal::all(count(answer.index)), Refusal::code)?;
     Ok(Run {
         record: answer.record,
         steps: answer.steps,
@@ -264,7 +281,7 @@ pub fn step(
             output.len(),
         )
     };
-    accepted(report.refusal, &Refusal::ALL, Refusal::code)?;
+    accepted(report.refusal, &Refusal::all(count(report.index)), Refusal::code)?;
     Ok(StepReport {
         steps: report.steps,
         keys: count(report.keys),

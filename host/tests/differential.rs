@@ -29,9 +29,19 @@ struct Tally {
     full_with_a_key_due: u64,
     keys: u64,
     shown: u64,
-    refusals: [u64; 5],
+    refusals: [u64; REFUSALS.len()],
     /// By the refusal answered and a later one that applied too.
-    refusals_over: [[u64; 5]; 5],
+    refusals_over: [[u64; REFUSALS.len()]; REFUSALS.len()],
+    /// Refusals 15 at another entry than the first; 19 always is.
+    later_entries_below_clock: u64,
+}
+
+/// The refusals of a run in the order in which they are tested; the last two are tested together.
+const REFUSALS: [u32; 6] = [11, 12, 13, 14, 15, 19];
+
+/// The place of a refusal among them.
+fn place(refusal: u32) -> usize {
+    REFUSALS.iter().position(|&known| known == refusal).expect("a refusal of a run")
 }
 
 impl Tally {
@@ -56,13 +66,13 @@ impl Tally {
         }
     }
 
-    fn answer(&mut self, case: &Case, answer: &Answer, objections: [bool; 5]) {
-        if answer.refusal != 0 {
-            let first = answer.refusal as usize - 11;
-            self.refusals[first] += 1;
-            for (later, due) in objections.into_iter().enumerate().skip(first + 1) {
-                self.refusals_over[first][later] += u64::from(due);
+    fn answer(&mut self, case: &Case, answer: &Answer, objections: &[(u32, u64)]) {
+        if let [(first, index), later @ ..] = objections {
+            self.refusals[place(*first)] += 1;
+            for (refusal, _) in later {
+                self.refusals_over[place(*first)][place(*refusal)] += 1;
             }
+            self.later_entries_below_clock += u64::from(*first == 15 && *index > 0);
             return;
         }
         self.stops[answer.stop as usize] += 1;
@@ -112,13 +122,15 @@ impl Tally {
             ("keys".into(), self.keys),
             ("bytes shown".into(), self.shown),
         ];
-        for first in 0..5 {
-            lines.push((format!("refusals {}", 11 + first), self.refusals[first]));
-            for later in first + 1..5 {
-                let count = self.refusals_over[first][later];
-                lines.push((format!("refusals {} with {} due", 11 + first, 11 + later), count));
+        for (i, first) in REFUSALS.iter().enumerate() {
+            lines.push((format!("refusals {first}"), self.refusals[i]));
+            // One key list offends under one of 15 and 19.
+            for (j, later) in REFUSALS.iter().enumerate().skip(i + 1).filter(|_| i < 4) {
+                lines
+                    .push((format!("refusals {first} with {later} due"), self.refusals_over[i][j]));
             }
         }
+        lines.push(("refusals 15 at a later entry".into(), self.later_entries_below_clock));
         lines
     }
 
@@ -152,7 +164,7 @@ impl Bench {
         let call = self.theirs.call(case.record, case.n);
         let objections = call.objections();
         let expected = machine::run(call, |event| tally.event(event));
-        tally.answer(case, &expected, objections);
+        tally.answer(case, &expected, &objections);
         let answer = self.ours.run(case.record, 0, 0, case.n);
         assert!(answer == expected, "library: {answer:x?}\nreference: {expected:x?}");
         self.ours.check(case);
@@ -279,30 +291,32 @@ fn keys_must_come_in_order_and_not_before_the_clock() {
     keys(0, &[100], b"a");
     keys(0, &[100, 100, 101, 101, u64::MAX, u64::MAX], b"abcdef");
     keys(15, &[99], b"a");
-    keys(15, &[100, 102, 101], b"abc");
+    keys(19, &[100, 102, 101], b"abc");
     keys(15, &[100, u64::MAX, 0], b"abc");
     keys(14, &[100], b"");
     keys(14, &[], b"a");
     keys(14, &[100, 101], b"a");
     keys(14, &[99], b"ab");
+    keys(14, &[100, 102, 101], b"ab");
 }
 
-/// What brings about each refusal by itself, 11 first.
-const SPOILERS: [fn(&mut Case); 5] = [
+/// What brings about each of [`REFUSALS`] by itself.
+const SPOILERS: [fn(&mut Case); REFUSALS.len()] = [
     |case| case.memory_len = WORDS - 1,
     |case| case.record.kbsr |= 1,
     |case| case.n = STEP_LIMIT + 1,
     |case| case.bytes.push(0),
+    |case| (case.record.clock, case.times, case.bytes) = (1, vec![0], vec![0]),
     |case| (case.times, case.bytes) = (vec![5, 4], vec![0, 0]),
 ];
 
 #[test]
-fn of_several_refusals_the_lowest_number_is_answered() {
+fn of_several_refusals_the_first_is_answered() {
     let mut bench = bench();
     for set in 0..1u32 << SPOILERS.len() {
         let applies = |i: usize| set >> i & 1 == 1;
         let first = (0..SPOILERS.len()).find(|&i| applies(i));
-        expect(&mut bench, first.map_or(0, |i| 11 + i as u32), |case| {
+        expect(&mut bench, first.map_or(0, |i| REFUSALS[i]), |case| {
             // From the last: the lists are filled before they are made unequal.
             for (_, spoil) in SPOILERS.iter().enumerate().rev().filter(|(i, _)| applies(*i)) {
                 spoil(case);

@@ -68,7 +68,8 @@ impl Example {
         };
         let answer = machine::run(call, |_| ());
         let record = run.record;
-        let one_step = Answer { record, steps: 1, keys: 0, shown: 0, refusal: 0, stop: 0 };
+        let one_step =
+            Answer { record, steps: 1, keys: 0, shown: 0, index: 0, refusal: 0, stop: 0 };
         assert_eq!(answer, one_step);
         assert!(ours == theirs);
         (record, ours)

@@ -61,8 +61,8 @@ fn the_constants_are_those_of_the_header() {
         LC3_ADDRESS_KBSR LC3_ADDRESS_KBDR LC3_ADDRESS_DSR LC3_ADDRESS_DDR LC3_ADDRESS_PSR
         LC3_ADDRESS_MCR
         LC3_ACCEPTED LC3_REFUSED_REGISTER LC3_REFUSED_FIELD LC3_REFUSED_MASK LC3_REFUSED_MEMORY
-        LC3_REFUSED_RECORD LC3_REFUSED_STEPS LC3_REFUSED_LISTS LC3_REFUSED_TIMES
-        LC3_REFUSED_OUTPUT LC3_REFUSED_FILE LC3_REFUSED_RANGE LC3_REFUSED_PAGE
+        LC3_REFUSED_RECORD LC3_REFUSED_STEPS LC3_REFUSED_LISTS LC3_REFUSED_TIME
+        LC3_REFUSED_OUTPUT LC3_REFUSED_FILE LC3_REFUSED_RANGE LC3_REFUSED_ORDER LC3_REFUSED_PAGE
         LC3_DONE LC3_HALTED LC3_OUTPUT_FULL
         LC3_BR LC3_ADD_REGISTER LC3_ADD_IMMEDIATE LC3_LD LC3_ST LC3_JSR LC3_JSRR LC3_AND_REGISTER
         LC3_AND_IMMEDIATE LC3_LDR LC3_STR LC3_RTI LC3_NOT LC3_LDI LC3_STI LC3_JMP LC3_RESERVED
@@ -87,7 +87,7 @@ fn header_library_shared_library_and_wrapper_have_one_version() {
 
 #[test]
 fn every_refusal_converts_with_its_number_and_text() {
-    let errors: [Error; 17] = [
+    let errors: [Error; 18] = [
         WriteRefusal::Register.into(),
         WriteRefusal::Value.into(),
         WriteRefusal::Mask.into(),
@@ -95,7 +95,8 @@ fn every_refusal_converts_with_its_number_and_text() {
         Refusal::Record.into(),
         Refusal::Steps.into(),
         Refusal::KeyLists.into(),
-        Refusal::KeyTimes.into(),
+        Refusal::KeyTime(7).into(),
+        Refusal::KeyOrder(7).into(),
         LineRefusal::Output.into(),
         ObjectRefusal::Memory.into(),
         ObjectRefusal::Output.into(),
@@ -106,12 +107,15 @@ fn every_refusal_converts_with_its_number_and_text() {
         PageRefusal::Range.into(),
         PageRefusal::Output.into(),
     ];
-    let codes = [1, 2, 3, 11, 12, 13, 14, 15, 16, 11, 16, 17, 18, 11, 11, 20, 16];
+    let codes = [1, 2, 3, 11, 12, 13, 14, 15, 19, 16, 11, 16, 17, 18, 11, 11, 20, 16];
     assert_eq!(errors.map(Error::code), codes);
     assert_eq!(Error::from(Refusal::KeyLists).to_string(), Refusal::KeyLists.to_string());
     // Memory of another size has one text, whichever call it was handed to.
     let texts: HashSet<String> = errors.iter().map(ToString::to_string).collect();
     assert_eq!(texts.len(), errors.len() - 3);
+    for refusal in [Refusal::KeyTime(7), Refusal::KeyOrder(7)] {
+        assert!(refusal.to_string().starts_with("times[7] "), "{refusal}");
+    }
 }
 
 #[test]

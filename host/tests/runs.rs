@@ -72,7 +72,7 @@ fn single_steps_equal_a_run() {
             (steps, stop) = (steps + report.steps, report.stop);
             (keys, shown) = (keys + report.keys, shown + report.shown);
         }
-        assert_eq!(Answer { record, steps, keys, shown, refusal: 0, stop }, expected);
+        assert_eq!(Answer { record, steps, keys, shown, index: 0, refusal: 0, stop }, expected);
         stepped.check(case);
         assert_same_buffers(&stepped, &whole);
     });
@@ -83,16 +83,29 @@ fn a_single_step_equals_a_run_of_one_refusals_included() {
     let (mut run, mut stepped) = (Buffers::new(), Buffers::new());
     for_cases(40_000, |_, case, template| {
         run.set(case, template);
-        let Answer { record: expected, steps, keys, shown, refusal, stop } =
+        let Answer { record: expected, steps, keys, shown, index, refusal, stop } =
             run.run(case.record, 0, 0, 1);
         stepped.set(case, template);
         let mut record = case.record;
         let report = stepped.step(&mut record, 0, 0);
-        assert_eq!(report, Report { steps, keys, shown, refusal, stop });
+        assert_eq!(report, Report { steps, keys, shown, index, refusal, stop });
         assert_eq!(record, expected);
         stepped.check(case);
         assert_same_buffers(&stepped, &run);
     });
+}
+
+/// The wrapper's refusal of a number and an index.
+fn wrapped(refusal: u32, index: u64) -> Refusal {
+    match refusal {
+        11 => Refusal::Memory,
+        12 => Refusal::Record,
+        13 => Refusal::Steps,
+        14 => Refusal::KeyLists,
+        15 => Refusal::KeyTime(index as usize),
+        19 => Refusal::KeyOrder(index as usize),
+        _ => panic!("refusal {refusal}"),
+    }
 }
 
 #[test]
@@ -105,7 +118,7 @@ fn the_wrapper_answers_what_the_library_answers() {
         let keys = Keys { times: &case.times, bytes: &case.bytes };
         let (memory, output) = (safe.memory.get_mut(), safe.output.get_mut());
         match lc3::run(case.record, memory, keys, output, case.n) {
-            Err(refusal) => assert_eq!(refusal.code(), expected.refusal),
+            Err(refusal) => assert_eq!(refusal, wrapped(expected.refusal, expected.index)),
             Ok(run) => {
                 assert_eq!((run.record, run.steps), (expected.record, expected.steps));
                 assert_eq!((run.keys as u64, run.shown as u64), (expected.keys, expected.shown));
@@ -128,7 +141,7 @@ fn the_wrapper_steps_as_the_library_does() {
         let keys = Keys { times: &case.times, bytes: &case.bytes };
         let (memory, output) = (safe.memory.get_mut(), safe.output.get_mut());
         match lc3::step(&mut record, memory, keys, output) {
-            Err(refusal) => assert_eq!(refusal.code(), expected.refusal),
+            Err(refusal) => assert_eq!(refusal, wrapped(expected.refusal, expected.index)),
             Ok(report) => {
                 assert_eq!((report.steps, report.keys as u64), (expected.steps, expected.keys));
                 assert_eq!(report.shown as u64, expected.shown);
@@ -142,10 +155,10 @@ fn the_wrapper_steps_as_the_library_does() {
 
 #[test]
 fn the_refusals_bear_their_numbers() {
-    use Refusal::{KeyLists, KeyTimes, Memory, Record, Steps};
+    use Refusal::{KeyLists, KeyOrder, KeyTime, Memory, Record, Steps};
     assert_eq!(
-        [Memory, Record, Steps, KeyLists, KeyTimes].map(Refusal::code),
-        [11, 12, 13, 14, 15]
+        [Memory, Record, Steps, KeyLists, KeyTime(3), KeyOrder(3)].map(Refusal::code),
+        [11, 12, 13, 14, 15, 19]
     );
 }
 

@@ -62,19 +62,20 @@ fn column(text: &[u8]) {
     }
 }
 
-fn number(r: Refusal) -> u64 {
-    match r {
-        Refusal::MemorySize => 11,
-        Refusal::UndefinedRecord => 12,
-        Refusal::TooManySteps => 13,
-        Refusal::UnequalLists => 14,
-        Refusal::KeyOrder => 15,
-    }
-}
-
 fn print_count(text: &[u8], n: u64) {
     print(text);
     io::print_decimal(1, n);
+}
+
+fn print_refusal(r: Refusal) {
+    match r {
+        Refusal::MemorySize => print(b"refused 11"),
+        Refusal::UndefinedRecord => print(b"refused 12"),
+        Refusal::TooManySteps => print(b"refused 13"),
+        Refusal::UnequalLists => print(b"refused 14"),
+        Refusal::TimeBelowClock(i) => print_count(b"refused 15 at entry ", i as u64),
+        Refusal::TimesOutOfOrder(i) => print_count(b"refused 19 at entry ", i as u64),
+    }
 }
 
 fn print_ending(e: Ending) {
@@ -82,7 +83,7 @@ fn print_ending(e: Ending) {
         Ending::Done => print(b"done"),
         Ending::Halted => print(b"halted"),
         Ending::OutputFull => print(b"output full"),
-        Ending::Refused(refusal) => print_count(b"refused ", number(refusal)),
+        Ending::Refused(refusal) => print_refusal(refusal),
     }
 }
 

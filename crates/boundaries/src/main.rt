@@ -100,13 +100,33 @@ fn list_lengths(memory: &mut [u16]) {
     attempt(b"no time, 1 byte", m, memory, &[], b"a", 1);
 }
 
+// A call of two steps with three keys.
+fn keyed(text: &[u8], memory: &mut [u16], times: &[u64; 3]) {
+    attempt(text, record(), memory, times, b"abc", 2);
+}
+
+fn key_times(memory: &mut [u16]) {
+    heading(b"15: a time below the clock, here 1000; entries are counted from 0");
+    keyed(b"times 1000, 1001, 1001", memory, &[1000, 1001, 1001]);
+    keyed(b"times 999, 1001, 1001", memory, &[999, 1001, 1001]);
+    keyed(b"times 999, 998, 1001", memory, &[999, 998, 1001]);
+    keyed(
+        b"times 1000, 1001, 999: 19 would apply too",
+        memory,
+        &[1000, 1001, 999],
+    );
+}
+
 fn key_orders(memory: &mut [u16]) {
-    heading(b"15: a time below the clock, here 1000, or below the one before it");
-    let m = record();
-    attempt(b"time 1000", m, memory, &[1000], b"a", 2);
-    attempt(b"time 999", m, memory, &[999], b"a", 2);
-    attempt(b"times 1001, 1001", m, memory, &[1001, 1001], b"ab", 2);
-    attempt(b"times 1001, 1000", m, memory, &[1001, 1000], b"ab", 2);
+    heading(b"19: a time below the one before it, but not below the clock");
+    keyed(b"times 1001, 1001, 1001", memory, &[1001, 1001, 1001]);
+    keyed(b"times 1001, 1001, 1000", memory, &[1001, 1001, 1000]);
+    keyed(b"times 1002, 1001, 1000", memory, &[1002, 1001, 1000]);
+    keyed(
+        b"times 1002, 1001, 999: 15 at a later entry",
+        memory,
+        &[1002, 1001, 999],
+    );
 }
 
 // Calls that every refusal from one on applies to: the first in the paper's order is answered.
@@ -148,6 +168,7 @@ fn right_size(memory: &mut [u16]) {
     step_counts(memory);
     step_counts_late(memory);
     list_lengths(memory);
+    key_times(memory);
     key_orders(memory);
 }
 

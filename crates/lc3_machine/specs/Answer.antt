@@ -1,10 +1,11 @@
--- What a host is answered: the end of a call, with its refusal and its stop as document 01's numbers.
+-- What a host is answered: the end of a call, with its refusal, the index of the entry that offends, and its stop as
+-- numbers.
 use Prim.Native.Nat.{ℕ}
 use mathlib.Core.List.{List}
 use Rattle.machine.specs.declared.Machine.{Machine}
 use Rattle.run.specs.declared.Report.{Report}
 use Rattle.run.specs.Run.{End}
-use Rattle.run.specs.Refusals.{endingRefusal, endingStop}
+use Rattle.run.specs.Refusals.{endingRefusal, endingIndex, endingStop}
 use Rattle.lc3_machine.specs.declared.Lc3Answer.{Lc3Answer}
 use Rattle.lc3_machine.specs.declared.Lc3Report.{Lc3Report}
 
@@ -16,6 +17,7 @@ pub record Answered : Type 0 where
   pub steps : ℕ
   pub keys : ℕ
   pub shown : ℕ
+  pub index : ℕ
   pub refusal : ℕ
   pub stop : ℕ
 
@@ -28,6 +30,7 @@ answerOf e = record {
   steps = e .steps;
   keys = e .keys;
   shown = e .shown;
+  index = endingIndex (e .ending);
   refusal = endingRefusal (e .ending);
   stop = endingStop (e .ending);
 }
@@ -38,6 +41,7 @@ reportOf r = record {
   steps = r .steps;
   keys = r .keys;
   shown = r .shown;
+  index = endingIndex (r .ending);
   refusal = endingRefusal (r .ending);
   stop = endingStop (r .ending);
 }
@@ -51,6 +55,7 @@ reported m r memory output = record {
   steps = r .steps;
   keys = r .keys;
   shown = r .shown;
+  index = r .index;
   refusal = r .refusal;
   stop = r .stop;
 }
@@ -63,6 +68,7 @@ answered r memory output = record {
   steps = r .steps;
   keys = r .keys;
   shown = r .shown;
+  index = r .index;
   refusal = r .refusal;
   stop = r .stop;
 }

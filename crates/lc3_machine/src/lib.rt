@@ -7,31 +7,34 @@ use run::Report;
 ghost use mathlib.Core.Path.{_≡_};
 ghost use Rattle.run.specs.Fresh.{freshOf};
 ghost use Rattle.run.specs.Call.{startOf, callOf};
-ghost use Rattle.run.specs.Refusals.{refusalNumber, endingRefusal, endingStop};
+ghost use Rattle.run.specs.Refusals.{refusalNumber, refusalIndex, endingRefusal, endingIndex, endingStop};
 ghost use Rattle.lc3_machine.specs.Answer.{answerOf, reportOf, reported, answered};
 
-// What a run answers, 72 bytes: `refusal` is 0, or 11 to 15; `stop` is done 0, halted 1, output full 2, and 0 where refused.
+// What a run answers, 80 bytes: `refusal` is 0, or 11 to 15 or 19; `index` is the entry that offends under 15 and 19,
+// and else 0; `stop` is done 0, halted 1, output full 2, and 0 where refused.
 #[repr(C)]
 pub struct Lc3Answer {
     pub machine: Machine,
     pub steps: u64,
     pub keys: u64,
     pub shown: u64,
+    pub index: u64,
     pub refusal: u32,
     pub stop: u32,
 }
 
-// What a single step answers beside the record that it alters, 32 bytes.
+// What a single step answers beside the record that it alters, 40 bytes.
 #[repr(C)]
 pub struct Lc3Report {
     pub steps: u64,
     pub keys: u64,
     pub shown: u64,
+    pub index: u64,
     pub refusal: u32,
     pub stop: u32,
 }
 
-// The numbers under which document 01 turns a run down, and those of its stops.
+// The numbers under which a run is turned down with the indices that two of them have, and the numbers of its stops.
 fn refusal_number(refusal: Refusal) -> u32
     ensures { λ r. ⌜ r ≡ refusalNumber refusal ⌝ }
 {
@@ -40,7 +43,24 @@ fn refusal_number(refusal: Refusal) -> u32
         Refusal::UndefinedRecord => 12,
         Refusal::TooManySteps => 13,
         Refusal::UnequalLists => 14,
-        Refusal::KeyOrder => 15,
+        Refusal::TimeBelowClock(_) => 15,
+        Refusal::TimesOutOfOrder(_) => 19,
+    }
+}
+
+// The index of an answer that names no entry of a key list.
+const NO_INDEX: usize = 0;
+
+fn refusal_index(refusal: Refusal) -> usize
+    ensures { λ r. ⌜ r ≡ refusalIndex refusal ⌝ }
+{
+    match refusal {
+        Refusal::MemorySize => NO_INDEX,
+        Refusal::UndefinedRecord => NO_INDEX,
+        Refusal::TooManySteps => NO_INDEX,
+        Refusal::UnequalLists => NO_INDEX,
+        Refusal::TimeBelowClock(i) => i,
+        Refusal::TimesOutOfOrder(i) => i,
     }
 }
 
@@ -52,6 +72,17 @@ fn ending_refusal(ending: Ending) -> u32
         Ending::Halted => 0,
         Ending::OutputFull => 0,
         Ending::Refused(refusal) => refusal_number(refusal),
+    }
+}
+
+fn ending_index(ending: Ending) -> usize
+    ensures { λ r. ⌜ r ≡ endingIndex ending ⌝ }
+{
+    match ending {
+        Ending::Done => NO_INDEX,
+        Ending::Halted => NO_INDEX,
+        Ending::OutputFull => NO_INDEX,
+        Ending::Refused(refusal) => refusal_index(refusal),
     }
 }
 
@@ -71,10 +102,12 @@ fn report_of(report: Report) -> Lc3Report
     ensures { λ r. ⌜ r ≡ reportOf report ⌝ }
 {
     let ending = report.ending;
+    let index = ending_index(ending);
     Lc3Report {
         steps: report.steps,
         keys: report.keys as u64,
         shown: report.shown as u64,
+        index: index as u64,
         refusal: ending_refusal(ending),
         stop: ending_stop(ending),
     }
@@ -108,6 +141,7 @@ pub extern "C" fn lc3_run(
         steps: r.steps,
         keys: r.keys,
         shown: r.shown,
+        index: r.index,
         refusal: r.refusal,
         stop: r.stop,
     }

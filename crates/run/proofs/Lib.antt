@@ -4,6 +4,8 @@ pub mod RunLaws
 pub mod RunKeeps
 pub mod Acceptance
 pub mod RefusalLaws
+pub mod KeyTimes
+pub mod KeyLists
 pub mod LoopLaws
 pub mod QuietLaws
 pub mod Examples

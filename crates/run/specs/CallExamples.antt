@@ -6,13 +6,14 @@ use mathlib.Core.Bool.{true, false}
 use mathlib.Core.List.{List, [], _∷_, map}
 use lib.ListN.{length, replicate}
 use Rattle.machine.specs.declared.Machine.{Machine}
+use Rattle.run.specs.declared.Refusal.the-variants.{MemorySize}
 use Rattle.run.specs.declared.Admission.{Admission}
 use Rattle.run.specs.declared.Admission.the-variants.{Accepted, Rejected}
 use Rattle.run.specs.declared.Ending.{Ending}
 use Rattle.run.specs.declared.Ending.the-variants.{Done, Halted, OutputFull}
 use Rattle.run.specs.Fresh.{freshOf}
 use Rattle.run.specs.Run.{End, runOf}
-use Rattle.run.specs.Refusals.{admissionOf, refusalNumber}
+use Rattle.run.specs.Refusals.{admissionOf, refusalNumber, refusalIndex}
 use Rattle.run.specs.Call.{startOf}
 
 -- ---- refusals
@@ -29,20 +30,25 @@ recordWith psr kbsr kbdr mcr clock = record {
   clock = clock;
 }
 
--- The record, n, the key times, how many bytes there are, and the refusal: 0 where the call is accepted.
+-- The record, n, the key times, how many bytes there are, the refusal and its index: 0 where the call is accepted.
 pub data Asked : Type 0 where
-  asked : Machine → ℕ → List ℕ → ℕ → ℕ → Asked
+  asked : Machine → ℕ → List ℕ → ℕ → ℕ → ℕ → Asked
 
--- A record with this PSR, KBSR, KBDR, MCR and clock; the rest as above.
+-- A record with this PSR, KBSR, KBDR, MCR and clock, and index 0; the rest as above.
 abbrev pub withBits : ℕ → ℕ → ℕ → ℕ → ℕ → ℕ → List ℕ → ℕ → ℕ → Asked
 withBits psr kbsr kbdr mcr clock n times bytes refusal =
-    asked (recordWith psr kbsr kbdr mcr clock) n times bytes refusal
+    asked (recordWith psr kbsr kbdr mcr clock) n times bytes refusal 0
 
 -- A record without a fault, at this clock; the rest as above.
 abbrev pub atClock : ℕ → ℕ → List ℕ → ℕ → ℕ → Asked
 atClock clock n times bytes refusal = withBits 0x8002 0 0 0x8000 clock n times bytes refusal
 
--- withBits PSR KBSR KBDR MCR clock n times bytes refusal; atClock clock n times bytes refusal.
+-- These times at clock 1000, a byte for each, and the refusal with its index.
+abbrev pub withTimes : List ℕ → ℕ → ℕ → Asked
+withTimes times refusal index = asked (recordWith 0x8002 0 0 0x8000 1000) 5 times (length times) refusal index
+
+-- withBits PSR KBSR KBDR MCR clock n times bytes refusal; atClock clock n times bytes refusal;
+-- withTimes times refusal index.
 abbrev pub calls : List Asked
 calls =
     -- every defined bit set, and none
@@ -73,11 +79,17 @@ calls =
     ∷ atClock 1000 5 (1000 ∷ []) 0 14
     ∷ atClock 1000 5 (1000 ∷ []) 2 14
     ∷ atClock 1000 5 [] 1 14
-    -- "15 if a time is below the clock or below the one before it"
-    ∷ atClock 1000 5 (1000 ∷ 1000 ∷ 1001 ∷ []) 3 0
-    ∷ atClock 1000 5 (999 ∷ []) 1 15
-    ∷ atClock 1000 5 (1002 ∷ 1001 ∷ []) 2 15
-    ∷ atClock 1000 5 (1000 ∷ 1002 ∷ 1001 ∷ []) 3 15
+    -- "15 means a time below the clock", at the first offending entry; the last of these is below the one before it too
+    ∷ withTimes (1000 ∷ 1000 ∷ 1001 ∷ []) 0 0
+    ∷ withTimes (999 ∷ []) 15 0
+    ∷ withTimes (998 ∷ 999 ∷ []) 15 0
+    ∷ withTimes (1000 ∷ 1002 ∷ 999 ∷ []) 15 2
+    -- "19, a time below the one before it, where 15 doesn't apply to that entry", at the first offending entry
+    ∷ withTimes (1002 ∷ 1001 ∷ []) 19 1
+    ∷ withTimes (1000 ∷ 1002 ∷ 1001 ∷ 1000 ∷ []) 19 2
+    -- "15 and 19 are tested together, entry by entry"
+    ∷ withTimes (1002 ∷ 1001 ∷ 999 ∷ []) 19 1
+    ∷ withTimes (999 ∷ 1002 ∷ 1001 ∷ []) 15 0
     -- two faults: "the first of these that applies"
     ∷ withBits 0x800A 0 0 0x8000 1000 1048577 [] 0 12
     ∷ withBits 0x800A 0 0 0x8000 1000 5 (1000 ∷ []) 0 12
@@ -86,24 +98,18 @@ calls =
     ∷ atClock 1000 1048577 (1000 ∷ []) 0 13
     ∷ atClock 1000 1048577 (999 ∷ []) 1 13
     ∷ atClock 1000 5 (999 ∷ []) 0 14
+    ∷ atClock 1000 5 (1002 ∷ 1001 ∷ []) 1 14
     ∷ []
 
--- The number of the refusal, and 0 where there is none.
-abbrev pub numberOf : Admission → ℕ
-numberOf Accepted = 0
-numberOf (Rejected r) = refusalNumber r
+-- The row with this refusal and index.
+abbrev pub withAnswer : Admission → Asked → Asked
+withAnswer Accepted (asked m n times bytes refusal index) = asked m n times bytes 0 0
+withAnswer (Rejected r) (asked m n times bytes refusal index) = asked m n times bytes (refusalNumber r) (refusalIndex r)
 
--- What the call with this memory comes to, and what the row claims.
-abbrev pub answered : List ℕ → Asked → ℕ
-answered memory (asked m n times bytes refusal) =
-    numberOf (admissionOf (startOf m memory times (replicate bytes 0) []) n)
-
-abbrev pub claimed : Asked → ℕ
-claimed (asked m n times bytes refusal) = refusal
-
--- "11 if memory is not 65,536 words": whatever else is wrong.
-abbrev pub memorySize : Asked → ℕ
-memorySize c = 11
+-- The row with the answer that its call with this memory comes to.
+abbrev pub answered : List ℕ → Asked → Asked
+answered memory (asked m n times bytes refusal index) =
+    withAnswer (admissionOf (startOf m memory times (replicate bytes 0) []) n) (asked m n times bytes refusal index)
 
 -- ---- stops
 
@@ -162,9 +168,10 @@ pub record CallExamplesHold : Type 0 where
         clock = 0;
       }
   -- The refusals of the rows above, with any memory of 65,536 words; and with any other memory all of them are 11.
-  pub refusals : (memory : List ℕ) → length memory ≡ 65536 → map (answered memory) calls ≡ map claimed calls
+  pub refusals : (memory : List ℕ) → length memory ≡ 65536 → map (answered memory) calls ≡ calls
   pub memory-size-first :
-      (memory : List ℕ) → (length memory ≡ 65536 → ⊥) → map (answered memory) calls ≡ map memorySize calls
+      (memory : List ℕ) → (length memory ≡ 65536 → ⊥)
+      → map (answered memory) calls ≡ map (withAnswer (Rejected MemorySize)) calls
   -- The stops, "tested before each step in this order: done, halted, output full".
   pub done-with-no-step : stores 0 [] 0 ≡ answers 0 0 0 0x0400 0 [] Done
   pub halted-before-full : stores 0 [] 1 ≡ answers 0 0 0 0x0400 0 [] Halted

@@ -1,7 +1,7 @@
 //! The constants of `lc3.h`, under its names.
 
 /// The version of the interface.
-pub const LC3_VERSION: u32 = 2;
+pub const LC3_VERSION: u32 = 3;
 
 /// Words of memory: no other number is accepted.
 pub const LC3_MEMORY_WORDS: usize = 65_536;
@@ -65,14 +65,16 @@ pub const LC3_REFUSED_RECORD: u32 = 12;
 pub const LC3_REFUSED_STEPS: u32 = 13;
 /// Refusal: times and bytes differ in length.
 pub const LC3_REFUSED_LISTS: u32 = 14;
-/// Refusal: a time is below the clock or below the one before it.
-pub const LC3_REFUSED_TIMES: u32 = 15;
+/// Refusal: a time is below the clock.
+pub const LC3_REFUSED_TIME: u32 = 15;
 /// Refusal: the line, page, file or vector words do not fit the output.
 pub const LC3_REFUSED_OUTPUT: u32 = 16;
 /// Refusal: the file has an odd number of bytes, or fewer than two.
 pub const LC3_REFUSED_FILE: u32 = 17;
 /// Refusal: the range goes beyond the last word of memory.
 pub const LC3_REFUSED_RANGE: u32 = 18;
+/// Refusal: a time is below the one before it, and not below the clock.
+pub const LC3_REFUSED_ORDER: u32 = 19;
 /// Refusal: the page goes beyond the last word of memory.
 pub const LC3_REFUSED_PAGE: u32 = 20;
 

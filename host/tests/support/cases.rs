@@ -357,11 +357,13 @@ fn spoil_lists(rng: &mut Rng, case: &mut Case) {
 
 fn spoil_times(rng: &mut Rng, case: &mut Case) {
     let clock = case.record.clock;
-    let times = match rng.below(4) {
+    let (soon, late) = (clock.saturating_add(6), clock.saturating_add(7));
+    let times = match rng.below(5) {
         0 => vec![clock],
         1 => vec![clock.saturating_sub(1)],
-        2 => vec![clock, clock.saturating_add(7), clock.saturating_add(6)],
-        _ => vec![clock, clock, clock.saturating_add(1), 0],
+        2 => vec![clock, late, soon],
+        3 => vec![clock, late, soon, 0],
+        _ => vec![clock, clock, soon, 0],
     };
     case.times.extend(times);
     case.bytes.resize(case.times.len(), 0);
