@@ -6,7 +6,7 @@
  *   lc3_fresh    makes the record of a machine that has not run yet
  *   lc3_run      runs up to n steps over lent memory
  *   lc3_step     runs one step and alters the host's own record
- *   lc3_read     reads a word as an instruction
+ *   lc3_read     reads a word as an instruction, and tells which fixed bits are wrong
  *   lc3_write    writes an instruction as a word
  *   lc3_line     writes a word as a line of text; lc3_line_length counts its bytes
  *   lc3_page     writes the words of a range of lent memory as lines of text
@@ -52,7 +52,7 @@ extern "C" {
  * call changes. The name that the shared library is loaded by (its SONAME) ends in it, as in
  * liblc3.so.3, so that no host meets another version than it was built for.
  */
-#define LC3_VERSION 3
+#define LC3_VERSION 4
 
 /* Sizes and limits. */
 #define LC3_MEMORY_WORDS 65536            /* words of memory: no other number is accepted */
@@ -213,6 +213,12 @@ enum {
     LC3_TRAP
 };
 
+/* What lc3_read answers. */
+typedef struct {
+    lc3_instruction instruction;
+    uint16_t mask; /* the fixed bits that are wrong; two bytes of padding follow */
+} lc3_reading;
+
 /* What lc3_write answers. */
 typedef struct {
     uint16_t word;    /* 0 where refused */
@@ -282,8 +288,13 @@ lc3_report lc3_step(lc3_record *record, uint16_t *memory, size_t memory_len, con
                     size_t times_len, const uint8_t *bytes, size_t bytes_len, uint8_t *output,
                     size_t output_len);
 
-/* Reads a word as an instruction. Every word is one; bits that its format fixes are ignored. */
-lc3_instruction lc3_read(uint16_t word);
+/*
+ * Reads a word as an instruction, with a mask of its wrong bits. Every word is an instruction; bits
+ * that its format fixes are ignored, and those of them that are wrong in the word are set in the
+ * mask, which is 0 for a proper word. What lc3_write makes of the instruction differs from the word
+ * in exactly the bits of the mask. A run ignores them too.
+ */
+lc3_reading lc3_read(uint16_t word);
 
 /*
  * Writes an instruction as a word. The bits that its format fixes are as the format has them. A
@@ -399,6 +410,10 @@ LC3_LAYOUT(offsetof(lc3_instruction, a) == 1);
 LC3_LAYOUT(offsetof(lc3_instruction, b) == 2);
 LC3_LAYOUT(offsetof(lc3_instruction, c) == 3);
 LC3_LAYOUT(offsetof(lc3_instruction, value) == 4);
+
+LC3_LAYOUT(sizeof(lc3_reading) == 12);
+LC3_LAYOUT(offsetof(lc3_reading, instruction) == 0);
+LC3_LAYOUT(offsetof(lc3_reading, mask) == 8);
 
 LC3_LAYOUT(sizeof(lc3_written) == 8);
 LC3_LAYOUT(offsetof(lc3_written, word) == 0);

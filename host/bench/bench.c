@@ -249,7 +249,7 @@ static double time_calls(void (*batch)(void), unsigned repeats, double ns) {
 }
 
 static void time_single(unsigned repeats, double ns) {
-    for (int i = 0; i < BATCH; i++) instructions[i] = lc3_read(nth_word(i));
+    for (int i = 0; i < BATCH; i++) instructions[i] = lc3_read(nth_word(i)).instruction;
     printf("lc3_run %.3f\n", time_calls(run_one, repeats, ns));
     printf("lc3_step %.3f\n", time_calls(step_one, repeats, ns));
     printf("refused-11 %.3f\n", time_calls(refuse_memory, repeats, ns));

@@ -265,7 +265,7 @@ static void test_example(const example *e, lc3_answer (*call)(const arguments *)
 
 static void test_examples(void) {
     part = "example 1, x14E7";
-    lc3_instruction i = lc3_read(0x14E7);
+    lc3_instruction i = lc3_read(0x14E7).instruction;
     CHECK(i.kind, LC3_ADD_IMMEDIATE);
     CHECK(i.a, 2);
     CHECK(i.b, 3);
@@ -730,16 +730,18 @@ static void check_instruction(lc3_instruction got, lc3_instruction wanted) {
     CHECK(got.value, wanted.value);
 }
 
-/* Every word; writing what was read gives the word with its fixed bits set right. */
+/* Every word; what is written after reading differs from the word in the bits of the mask. */
 static void test_read(void) {
     part = "read";
     for (int word = 0; word < 65536; word++) {
-        lc3_instruction i = lc3_read(word);
+        lc3_reading r = lc3_read(word);
+        lc3_instruction i = r.instruction;
         check_instruction(i, expected_read(word));
         lc3_written w = lc3_write(i);
         CHECK(w.refusal, LC3_ACCEPTED);
         CHECK(w.word, expected_write(i).word);
-        CHECK(w.word == word, fixed_bits_right(word));
+        CHECK(w.word ^ word, r.mask);
+        CHECK(r.mask == 0, fixed_bits_right(word));
     }
 }
 
@@ -752,7 +754,7 @@ static void check_write(lc3_instruction i) {
     const format *f = &formats[i.kind];
     lc3_instruction back = {i.kind, f->a == NONE ? 0 : i.a, f->b == NONE ? 0 : i.b,
                             f->c == NONE ? 0 : i.c, f->width ? i.value : 0};
-    check_instruction(lc3_read(got.word), back);
+    check_instruction(lc3_read(got.word).instruction, back);
 }
 
 /* The powers of two and their neighbours: the edges of every field, of 16 and of 32 bits. */

@@ -64,6 +64,16 @@ pub struct Fields {
     pub value: i32,
 }
 
+/// What reading a word answers: `lc3_reading`.
+#[repr(C)]
+#[derive(Clone, Copy, Debug, PartialEq, Eq)]
+pub struct Reading {
+    /// The instruction.
+    pub instruction: Fields,
+    /// The fixed bits that are wrong in the word.
+    pub mask: u16,
+}
+
 /// What writing an instruction answers: `lc3_written`.
 #[repr(C)]
 #[derive(Clone, Copy, Debug, PartialEq, Eq)]
@@ -140,6 +150,8 @@ const _: () = assert!(size_of::<Fields>() == 8 && align_of::<Fields>() == 4);
 const _: () = assert!(offset_of!(Fields, kind) == 0 && offset_of!(Fields, a) == 1);
 const _: () = assert!(offset_of!(Fields, b) == 2 && offset_of!(Fields, c) == 3);
 const _: () = assert!(offset_of!(Fields, value) == 4);
+const _: () = assert!(size_of::<Reading>() == 12 && align_of::<Reading>() == 4);
+const _: () = assert!(offset_of!(Reading, instruction) == 0 && offset_of!(Reading, mask) == 8);
 const _: () = assert!(size_of::<Written>() == 8 && align_of::<Written>() == 4);
 const _: () = assert!(offset_of!(Written, word) == 0 && offset_of!(Written, refusal) == 4);
 const _: () = assert!(size_of::<Loaded>() == 12 && align_of::<Loaded>() == 4);
@@ -162,7 +174,7 @@ unsafe extern "C" {
     pub safe fn lc3_fresh(pc: u16, user: bool, user_stack: u16) -> Record;
 
     /// Reads a word as an instruction.
-    pub safe fn lc3_read(word: u16) -> Fields;
+    pub safe fn lc3_read(word: u16) -> Reading;
 
     /// Writes an instruction as a word.
     pub safe fn lc3_write(instruction: Fields) -> Written;

@@ -256,16 +256,31 @@ impl Instruction {
     }
 }
 
-/// Reads a word as an instruction. Bits that the encoding fixes are ignored.
+/// What reading a word answers.
+#[derive(Clone, Copy, Debug, PartialEq, Eq, Hash)]
+pub struct Reading {
+    /// The instruction that the word is.
+    pub instruction: Instruction,
+    /// The bits that the encoding fixes and that are wrong in the word; 0 for a proper word.
+    pub mask: u16,
+}
+
+/// Reads a word as an instruction, and tells which of the bits that the encoding fixes are wrong.
+///
+/// The instruction is the same whether they are right or wrong; written again, it differs from the
+/// word in exactly the bits of the mask.
 ///
 /// ```
 /// use lc3::Instruction;
 ///
 /// let add = Instruction::AddImmediate { dr: 2, sr1: 3, imm5: 7 };
-/// assert_eq!(lc3::read(0x14E7), add);
+/// assert_eq!(lc3::read(0x14E7).instruction, add);
+/// assert_eq!(lc3::read(0x14E7).mask, 0);
+/// assert_eq!(lc3::read(0x8001).mask, 0x0001);
 /// ```
-pub fn read(word: u16) -> Instruction {
-    Instruction::from_read(ffi::lc3_read(word))
+pub fn read(word: u16) -> Reading {
+    let reading = ffi::lc3_read(word);
+    Reading { instruction: Instruction::from_read(reading.instruction), mask: reading.mask }
 }
 
 /// Writes an instruction as a word, with the fixed bits as the encoding has them.

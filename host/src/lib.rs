@@ -55,7 +55,7 @@ mod record;
 mod run;
 
 pub use error::Error;
-pub use instruction::{read, write, Instruction, WriteRefusal};
+pub use instruction::{read, write, Instruction, Reading, WriteRefusal};
 pub use line::{line, line_length, line_string, page, LineRefusal, PageRefusal, LINE_LIMIT};
 pub use monitor::{
     install_monitor, vectors, MonitorRefusal, Routines, MONITOR_WORDS, VECTOR_WORDS,

@@ -80,7 +80,7 @@ impl Example {
 fn example_1_reads_an_add() {
     let fields = Fields { kind: Kind::AddImmediate, a: 2, b: 3, c: 0, value: 7 };
     assert_eq!(figure::read(0x14E7), fields);
-    assert_eq!(lc3::read(0x14E7), Instruction::AddImmediate { dr: 2, sr1: 3, imm5: 7 });
+    assert_eq!(lc3::read(0x14E7).instruction, Instruction::AddImmediate { dr: 2, sr1: 3, imm5: 7 });
 }
 
 #[test]

@@ -38,7 +38,9 @@ fn every_word_reads_as_in_the_figure() {
     for word in 0..=u16::MAX {
         let expected = figure::read(word);
         let [a, b, c] = [expected.a, expected.b, expected.c];
-        assert_eq!(ffi::lc3_read(word), fields(expected.kind as u8, [a, b, c], expected.value));
+        let reading = ffi::lc3_read(word);
+        assert_eq!(reading.instruction, fields(expected.kind as u8, [a, b, c], expected.value));
+        assert_eq!(reading.mask, figure::mask(word), "the mask of x{word:04X}");
     }
 }
 
@@ -46,12 +48,14 @@ fn every_word_reads_as_in_the_figure() {
 fn every_word_is_written_back_with_its_fixed_bits_set() {
     let mut exact = 0;
     for word in 0..=u16::MAX {
-        let read = ffi::lc3_read(word);
-        check_write(read);
-        let Written { word: written, refusal } = ffi::lc3_write(read);
+        let ffi::Reading { instruction, mask } = ffi::lc3_read(word);
+        check_write(instruction);
+        let Written { word: written, refusal } = ffi::lc3_write(instruction);
         assert_eq!(refusal, 0);
-        assert_eq!(ffi::lc3_read(written), read, "reading x{written:04X} again");
-        exact += u32::from(written == word);
+        assert_eq!(written ^ word, mask, "x{word:04X} and x{written:04X}");
+        let again = ffi::Reading { instruction, mask: 0 };
+        assert_eq!(ffi::lc3_read(written), again, "reading x{written:04X} again");
+        exact += u32::from(mask == 0);
     }
     // Of each form, 2 to the number of bits in its fields.
     let field_bits = |row: &str| row.chars().filter(char::is_ascii_alphabetic).count();
@@ -140,7 +144,7 @@ fn the_wrapper_names_the_fields_of_each_form() {
         (0xF0FE, Trap { vector: 0xFE }),
     ];
     for (word, instruction) in table {
-        assert_eq!(lc3::read(word), instruction);
+        assert_eq!(lc3::read(word), lc3::Reading { instruction, mask: 0 });
         assert_eq!(lc3::write(&instruction), Ok(word));
     }
 }
@@ -148,8 +152,9 @@ fn the_wrapper_names_the_fields_of_each_form() {
 #[test]
 fn the_wrapper_gives_each_instruction_the_fields_of_its_word() {
     for word in 0..=u16::MAX {
-        let instruction = lc3::read(word);
-        assert_eq!(ffi::Fields::from(instruction), ffi::lc3_read(word));
-        assert_eq!(lc3::write(&instruction), Ok(ffi::lc3_write(ffi::lc3_read(word)).word));
+        let lc3::Reading { instruction, mask } = lc3::read(word);
+        let reading = ffi::lc3_read(word);
+        assert_eq!((ffi::Fields::from(instruction), mask), (reading.instruction, reading.mask));
+        assert_eq!(lc3::write(&instruction), Ok(ffi::lc3_write(reading.instruction).word));
     }
 }

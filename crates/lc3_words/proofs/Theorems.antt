@@ -6,6 +6,7 @@ use mathlib.Core.Bool.{Bool, true, false, cond, _&&_}
 use lib.Dec.{ltb, eqb}
 use lib.ListN.{getD}
 use lib.IntN.{ℤ, pos, negsuc}
+use lib.Bits.{bitXor}
 use borrow.Author.Tests.{le-ltb, le-leb, eqb-true}
 use Rattle.word.specs.Reading.{readOf}
 use Rattle.word.specs.Writing.{wordOf, registersInRange, fieldInRange, maskInRange, refusal, written, refused, answer, refusalOf, writeOf}
@@ -13,12 +14,13 @@ use Rattle.word.specs.declared.Instruction.{Instruction}
 use Rattle.word.specs.declared.Instruction.the-variants.{Br, AddRegister, AddImmediate, Ld, St, Jsr, Jsrr, AndRegister, AndImmediate, Ldr, Str, Rti, Not, Ldi, Sti, Jmp, Reserved, Lea, Trap}
 use Rattle.word.proofs.ReadAfterWrite.{read-after-write}
 use Rattle.word.proofs.WriteAfterRead.{write-after-read}
+use Rattle.word.proofs.MaskBits.{written-differs-in-masked-bits}
 use Rattle.word.proofs.Opcodes.{Below, each, _&_}
 use Rattle.lc3_words.specs.Flat.{flatOf}
 use Rattle.lc3_words.specs.Unflat.{kinds, formOf, unsigned, instructionOf}
 use Rattle.lc3_words.specs.Range.{below, valueRanges}
 use Rattle.lc3_words.specs.Writing.{hostAnswer, writtenOf}
-use Rattle.lc3_words.specs.Theorems.{FlatAndBack, FlatRoundTrip, FlatReadAfterWrite, FlatWriteAfterRead, KnownKind, UnknownKind, BeyondSixteenBits}
+use Rattle.lc3_words.specs.Theorems.{FlatAndBack, FlatRoundTrip, FlatReadAfterWrite, FlatWriteAfterRead, FlatWrittenDiffersInMaskedBits, KnownKind, UnknownKind, BeyondSixteenBits}
 use Rattle.lc3_words.specs.declared.Lc3Written.{Lc3Written}
 use Rattle.lc3_words.proofs.ByKind.{known-kind-written, unknown-kind-refused}
 
@@ -57,6 +59,10 @@ flat-read-after-write i r =
 
 pub flat-write-after-read : FlatWriteAfterRead
 flat-write-after-read w p = flat-round-trip (readOf w) ∙ ap hostAnswer (write-after-read w p)
+
+pub flat-written-differs-in-masked-bits : FlatWrittenDiffersInMaskedBits
+flat-written-differs-in-masked-bits w p =
+    ap (λ (x : Lc3Written). bitXor (x .word) w) (flat-round-trip (readOf w)) ∙ written-differs-in-masked-bits w p
 
 -- ---- refusals
 

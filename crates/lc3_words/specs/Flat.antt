@@ -4,7 +4,9 @@ use Prim.Native.Nat.{ℕ}
 use lib.IntN.{ℤ, pos}
 use Rattle.word.specs.declared.Instruction.{Instruction}
 use Rattle.word.specs.declared.Instruction.the-variants.{Br, AddRegister, AddImmediate, Ld, St, Jsr, Jsrr, AndRegister, AndImmediate, Ldr, Str, Rti, Not, Ldi, Sti, Jmp, Reserved, Lea, Trap}
+use Rattle.word.specs.declared.Read.{Read}
 use Rattle.lc3_words.specs.declared.Lc3Instruction.{Lc3Instruction}
+use Rattle.lc3_words.specs.declared.Lc3Reading.{Lc3Reading}
 
 abbrev pub flat : ℕ → ℕ → ℕ → ℕ → ℤ → Lc3Instruction
 flat kind a b c value = record { kind = kind; a = a; b = b; c = c; value = value }
@@ -30,3 +32,7 @@ flatOf (Jmp base) = flat 15 base 0 0 (pos 0)
 flatOf (Reserved low12) = flat 16 0 0 0 (pos low12)
 flatOf (Lea dr pcoffset9) = flat 17 dr 0 0 pcoffset9
 flatOf (Trap trapvect8) = flat 18 0 0 0 (pos trapvect8)
+
+-- what reading with the mask answers
+abbrev pub flatReadOf : Read → Lc3Reading
+flatReadOf r = record { instruction = flatOf (r .instruction); mask = r .mask }

@@ -2,12 +2,14 @@
 use Prim.Native.Nat.{ℕ, _<_, _≤_}
 use mathlib.Core.Path.{_≡_}
 use lib.IntN.{pos, negsuc}
+use lib.Bits.{bitXor}
 use Rattle.word.specs.Reading.{readOf}
 use Rattle.word.specs.Writing.{registersInRange, maskInRange, refusal, written, refused, writeOf}
 use Rattle.word.specs.Range.{InRange}
 use Rattle.word.specs.FixedBits.{fixedOf}
+use Rattle.word.specs.Mask.{readWithMaskOf}
 use Rattle.word.specs.declared.Instruction.{Instruction}
-use Rattle.lc3_words.specs.Flat.{flat, flatOf}
+use Rattle.lc3_words.specs.Flat.{flat, flatOf, flatReadOf}
 use Rattle.lc3_words.specs.Unflat.{kinds, instructionOf}
 use Rattle.lc3_words.specs.Range.{valueInRange}
 use Rattle.lc3_words.specs.Writing.{hostAnswer, writtenOf}
@@ -28,6 +30,12 @@ FlatReadAfterWrite = (i : Instruction) → InRange i → flatOf (readOf (written
 -- Write after read gives the word with its fixed bits as in the figure, and is never refused.
 abbrev pub FlatWriteAfterRead : Type 0
 FlatWriteAfterRead = (w : ℕ) → w < 65536 → writtenOf (flatOf (readOf w)) ≡ hostAnswer (written (fixedOf w))
+
+-- It differs from the word in exactly the bits of the mask that reading answers.
+abbrev pub FlatWrittenDiffersInMaskedBits : Type 0
+FlatWrittenDiffersInMaskedBits =
+    (w : ℕ) → w < 65536
+    → bitXor (writtenOf (flatReadOf (readWithMaskOf w) .instruction) .word) w ≡ flatReadOf (readWithMaskOf w) .mask
 
 -- The refusal of a known kind: 1 if a register that it uses is above 7, else 2 if a value that it uses is out of range, be it beyond 16
 -- bits or not, else 3 if the mask of a BR is above 7, else 0.

@@ -7,11 +7,11 @@ use flat::flatten;
 use unflat::to_signed;
 use unflat::to_unsigned;
 use unflat::unflatten;
-use word::reading::read;
+use word::masks::read_with_mask;
 use word::writing::write;
 ghost use mathlib.Core.Path.{_≡_};
-ghost use Rattle.word.specs.Reading.{readOf};
-ghost use Rattle.lc3_words.specs.Flat.{flatOf};
+ghost use Rattle.word.specs.Mask.{readWithMaskOf};
+ghost use Rattle.lc3_words.specs.Flat.{flatReadOf};
 ghost use Rattle.lc3_words.specs.Writing.{writtenOf};
 
 // An instruction: its kind, 0 for BR to 18 for TRAP; a, b, c its registers (of a BR, a is the mask) in the order in which the book's
@@ -25,6 +25,13 @@ pub struct Lc3Instruction {
     pub value: i32,
 }
 
+// An instruction, and a mask of the fixed bits of its word that are wrong, 0 for a proper word.
+#[repr(C)]
+pub struct Lc3Reading {
+    pub instruction: Lc3Instruction,
+    pub mask: u16,
+}
+
 // A word and 0, or word 0 and the reason of the refusal, 1 to 3.
 #[repr(C)]
 pub struct Lc3Written {
@@ -32,12 +39,18 @@ pub struct Lc3Written {
     pub refusal: u32,
 }
 
-// The instruction that a word is.
+// The instruction that a word is, and its mask.
 #[no_mangle]
-pub extern "C" fn lc3_read(word: u16) -> Lc3Instruction
-    ensures { λ r. ⌜ r ≡ flatOf (readOf word) ⌝ }
+pub extern "C" fn lc3_read(word: u16) -> Lc3Reading
+    ensures { λ r. ⌜ r ≡ flatReadOf (readWithMaskOf word) ⌝ }
 {
-    flatten(read(word))
+    let read = read_with_mask(word);
+    let i = read.instruction;
+    let instruction = flatten(i);
+    Lc3Reading {
+        instruction,
+        mask: read.mask,
+    }
 }
 
 // The word of an instruction, or its refusal. Operands that the kind does not use are ignored. A kind after TRAP, 18, is refused as a

@@ -6,5 +6,6 @@ pub mod Ranges
 pub mod ReadAfterWrite
 pub mod WriteAfterRead
 pub mod MaskLaws
+pub mod MaskBits
 pub mod Examples
 pub mod Casts

@@ -53,6 +53,13 @@ mask-nothing w h = each (Nothing w) 16 cases (opcode w) (omega arith)
         & tt
 
 -- ---- where it is 0
+-- bits 10 and 9 are bits 11 to 9 where bit 11 is 0
+pub two : (w : ℕ) → w / 2048 % 2 ≡ 0 → w / 512 % 4 ≡ w / 512 % 8
+two w z = omega arith
+
+pub high : (w : ℕ) → w / 256 ≡ w / 4096 * 16 + w / 256 % 16
+high w = omega arith
+
 -- what is 0 where a test fails, and what it is then compared with
 by-test : (t : Bool) (m f w : ℕ) → (m ≡ 0) ↔ (f ≡ w) → (cond t m 0 ≡ 0) ↔ (cond t f w ≡ w)
 by-test true m f w e = e
@@ -72,10 +79,6 @@ base-alone k a b l p q = (λ e. omega arith, λ e. omega arith)
 jsr : (w : ℕ) → opcode w ≡ 4 → (jsrMask w ≡ 0) ↔ (fixedJsr w ≡ w)
 jsr w k = go (eqb (bit11 w) 0) refl
   where
-    -- bits 10 and 9 are bits 11 to 9 where bit 11 is 0
-    two : (w : ℕ) → w / 2048 % 2 ≡ 0 → w / 512 % 4 ≡ w / 512 % 8
-    two w z = omega arith
-
     go : (t : Bool) → eqb (bit11 w) 0 ≡ t
         → (cond t (w / 512 % 4 * 512 + w % 64) 0 ≡ 0) ↔ (cond t (0x4000 + w / 64 % 8 * 64) w ≡ w)
     go true z = rw (two w (eqb-true (bit11 w) 0 z)) (base-alone 4 (bits11to9 w) (bits8to6 w) (w % 64) (top w 4 k) refl)
@@ -86,9 +89,6 @@ jmp w k = base-alone 12 (bits11to9 w) (bits8to6 w) (w % 64) (top w 12 k) refl
 
 trap : (w : ℕ) → opcode w ≡ 15 → (w / 256 % 16 * 256 ≡ 0) ↔ (0xF000 + w % 256 ≡ w)
 trap w k = (λ e. omega (arith, high w), λ e. omega (arith, high w))
-  where
-    high : (w : ℕ) → w / 256 ≡ w / 4096 * 16 + w / 256 % 16
-    high w = omega arith
 
 abbrev Exactly : ℕ → ℕ → Type 0
 Exactly w k = opcode w ≡ k → (getD (masks w) k 0 ≡ 0) ↔ (getD (fixedForms w) k 0 ≡ w)

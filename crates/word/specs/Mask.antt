@@ -1,10 +1,11 @@
--- The fixed bits of a word that are wrong: a number with 1 in their places and 0 in all others.
+-- The fixed bits of a word that are wrong (request 12): a number with 1 in their places and 0 in all others.
 use Prim.Native.Nat.{ℕ, _+_, _-_, _*_, _/_, _%_}
 use mathlib.Core.Bool.{cond}
 use mathlib.Core.List.{List, [], _∷_}
 use lib.Dec.{eqb}
 use lib.ListN.{getD}
-use Rattle.word.specs.Reading.{opcode, bit5, bit11}
+use Rattle.word.specs.Reading.{opcode, bit5, bit11, readOf}
+use Rattle.word.specs.declared.Read.{Read}
 
 -- ADD and AND with SR2 (bit 5 is 0): those of bits 4 and 3 that are 1. With imm5 nothing is fixed
 abbrev pub operandMask : ℕ → ℕ
@@ -38,3 +39,38 @@ masks w =
 
 unfoldable pub maskOf : ℕ → ℕ
 maskOf w = getD (masks w) (opcode w) 0
+
+-- the places of the fixed bits, right or wrong: bits 4 and 3 of ADD and AND with SR2; bits 10, 9 and 5 to 0 of JSRR;
+-- and those of RTI, NOT, JMP and TRAP
+abbrev pub operandPlaces : ℕ → ℕ
+operandPlaces w = cond (eqb (bit5 w) 0) 0x0018 0
+
+abbrev pub jsrPlaces : ℕ → ℕ
+jsrPlaces w = cond (eqb (bit11 w) 0) 0x063F 0
+
+abbrev pub places : ℕ → List ℕ
+places w =
+    0
+    ∷ operandPlaces w
+    ∷ 0
+    ∷ 0
+    ∷ jsrPlaces w
+    ∷ operandPlaces w
+    ∷ 0
+    ∷ 0
+    ∷ 0x0FFF
+    ∷ 0x003F
+    ∷ 0
+    ∷ 0
+    ∷ 0x0E3F
+    ∷ 0
+    ∷ 0
+    ∷ 0x0F00
+    ∷ []
+
+unfoldable pub placesOf : ℕ → ℕ
+placesOf w = getD (places w) (opcode w) 0
+
+-- what reading with the mask answers
+abbrev pub readWithMaskOf : ℕ → Read
+readWithMaskOf w = record { instruction = readOf w; mask = maskOf w }

@@ -4,13 +4,14 @@ use mathlib.Core.Path.{_≡_}
 use mathlib.Core.Logic.{_↔_}
 use mathlib.Core.Bool.{true, false, cond}
 use lib.Dec.{ltb}
+use lib.Bits.{bitAnd, bitXor}
 use lib.IntN.{ℤ, pos}
 use Rattle.word.specs.Field.{half, signed, field, bits}
 use Rattle.word.specs.Reading.{readOf}
 use Rattle.word.specs.Writing.{wordOf, registersInRange, fieldInRange, maskInRange, written, writeOf}
 use Rattle.word.specs.Range.{Within, InRange}
 use Rattle.word.specs.FixedBits.{fixedOf}
-use Rattle.word.specs.Mask.{maskOf}
+use Rattle.word.specs.Mask.{maskOf, placesOf}
 use Rattle.word.specs.declared.Instruction.{Instruction}
 use Rattle.word.specs.declared.Instruction.the-variants.{AddImmediate, Jmp}
 
@@ -55,9 +56,26 @@ WriteAfterRead = (w : ℕ) → w < 65536 → writeOf (readOf w) ≡ written (fix
 abbrev pub WriteAfterReadExactly : Type 0
 WriteAfterReadExactly = (w : ℕ) → w < 65536 → (writeOf (readOf w) ≡ written w) ↔ (fixedOf w ≡ w)
 
--- The mask is 0 exactly where they were.
+-- The word written after reading differs from the word in exactly the masked bits: the mask is their exclusive or.
+abbrev pub WrittenDiffersInMaskedBits : Type 0
+WrittenDiffersInMaskedBits = (w : ℕ) → w < 65536 → bitXor (writeOf (readOf w) .word) w ≡ maskOf w
+
+-- The mask is 0 exactly where the fixed bits were right, and so exactly where write after read gives the word back.
 abbrev pub MaskIsZeroExactly : Type 0
 MaskIsZeroExactly = (w : ℕ) → w < 65536 → (maskOf w ≡ 0) ↔ (fixedOf w ≡ w)
+
+abbrev pub WriteAfterReadByMask : Type 0
+WriteAfterReadByMask = (w : ℕ) → w < 65536 → (writeOf (readOf w) ≡ written w) ↔ (maskOf w ≡ 0)
+
+-- The mask has bits only where the figure fixes bits.
+abbrev pub MaskInPlaces : Type 0
+MaskInPlaces = (w : ℕ) → w < 65536 → bitAnd (maskOf w) (placesOf w) ≡ maskOf w
+
+-- Reading ignores masked bits: words that differ in these alone, so that they agree once these are turned, are read as
+-- the same instruction.
+abbrev pub ReadingIgnoresMaskedBits : Type 0
+ReadingIgnoresMaskedBits =
+    (v w : ℕ) → v < 65536 → w < 65536 → bitXor v (maskOf v) ≡ bitXor w (maskOf w) → readOf v ≡ readOf w
 
 -- Reading ignores bits that the figure fixes: words that differ in these alone are read as the same instruction.
 abbrev pub ReadingIgnoresFixedBits : Type 0

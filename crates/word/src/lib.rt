@@ -48,6 +48,12 @@ pub enum Instruction {
     Trap(u16),
 }
 
+// What reading with the mask answers: the instruction, and which fixed bits of the word are wrong, 0 for a proper word.
+pub struct Read {
+    pub instruction: Instruction,
+    pub mask: u16,
+}
+
 // What `write` answers: the word and 0, or word 0 and the reason of the refusal:
 // 1 a register above 7, 2 a field out of range, 3 a BR mask above 7.
 pub struct Written {

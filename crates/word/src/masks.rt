@@ -1,6 +1,17 @@
-// Which of the bits that Figure A.2 fixes are wrong in a word, as a number with 1 in their places.
+// Which of the bits that Figure A.2 fixes are wrong in a word, as a number with 1 in their places (request 12).
+use super::Read;
+use super::reading::read;
 ghost use mathlib.Core.Path.{_≡_};
-ghost use Rattle.word.specs.Mask.{maskOf, operandMask, jsrMask};
+ghost use Rattle.word.specs.Mask.{maskOf, operandMask, jsrMask, readWithMaskOf};
+
+// The instruction that a word is, and its mask.
+pub fn read_with_mask(word: u16) -> Read
+    ensures { λ r. ⌜ r ≡ readWithMaskOf word ⌝ }
+{
+    let instruction = read(word);
+    let mask = mask(word);
+    Read { instruction, mask }
+}
 
 // 0 for a word whose fixed bits are right.
 pub fn mask(word: u16) -> u16

@@ -121,6 +121,17 @@ pub fn read(word: u16) -> Fields {
     ALL[usize::from(word)]
 }
 
+/// The bits that the figure fixes and that are wrong in a word.
+pub fn mask(word: u16) -> u16 {
+    let (_, row) = FIGURE[read(word).kind as usize];
+    let wrong = row.chars().zip((0..16).rev()).filter(|&(letter, bit)| match letter {
+        '-' => word >> bit & 1 == 1,
+        '+' => word >> bit & 1 == 0,
+        _ => false,
+    });
+    wrong.map(|(_, bit)| 1 << bit).sum()
+}
+
 /// The bit that `row` puts at its place `bit` for the given numbers.
 fn spell(row: &str, bit: usize, letter: char, number: impl Fn(char) -> i32) -> u16 {
     match letter {
