@@ -1,5 +1,5 @@
-// The boundaries of a run, after "How calls are turned down" of document 01: each refusal where it begins, one line for each call.
-// The gate compares what is printed with the file stdout.
+// The boundaries of a run, after "How calls are turned down" of document 01: each refusal where it begins, one line for
+// each call. The gate compares what is printed with the file stdout.
 use lines::attempt;
 use lines::fill;
 use lines::heading;

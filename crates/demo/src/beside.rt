@@ -1,4 +1,5 @@
-// The sitting in single steps, beside one with other answers in privileged memory. After each step the two records are compared.
+// The sitting in single steps, beside one with other answers in privileged memory. After each step the two records are
+// compared.
 use crate::printing::print;
 use crate::printing::print_number;
 use crate::printing::print_word;

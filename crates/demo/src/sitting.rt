@@ -1,4 +1,5 @@
-// The sitting in calls: each goes on from the one before, with the keys that have not arrived and the next part of the display.
+// The sitting in calls: each goes on from the one before, with the keys that have not arrived and the next part of the
+// display.
 use crate::printing::print;
 use crate::printing::print_number;
 use crate::printing::print_shown;

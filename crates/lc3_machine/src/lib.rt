@@ -1,5 +1,6 @@
-// The machine for hosts in C and Rust: document 01's fresh record, run and single step. They are those of `run`, but for refusals and
-// stops, which are answered by their numbers, since an enum can't cross to C. Nothing is required of a caller.
+// The machine for hosts in C and Rust: document 01's fresh record, run and single step. They are those of `run`, but
+// for refusals and stops, which are answered by their numbers, since an enum can't cross to C. Nothing is required of a
+// caller.
 use machine::Machine;
 use run::Ending;
 use run::Refusal;
@@ -131,7 +132,9 @@ pub extern "C" fn lc3_run(
     output: &mut [u8],
     n: u64,
 ) -> Lc3Answer
-    ensures { λ r. ⌜ answered r (now (memory .exit)) (now (output .exit)) ≡ answerOf (callOf (startOf m (now (memory .entry)) (now (times .entry)) (now (bytes .entry)) (now (output .entry))) n) ⌝ }
+    ensures { λ r. ⌜ answered r (now (memory .exit)) (now (output .exit))
+        ≡ answerOf (callOf (startOf m (now (memory .entry)) (now (times .entry)) (now (bytes .entry))
+        (now (output .entry))) n) ⌝ }
 {
     let a = run::run(m, memory, times, bytes, output, n);
     let machine = a.machine;
@@ -147,8 +150,8 @@ pub extern "C" fn lc3_run(
     }
 }
 
-// The single step: the run with n = 1, on a record that the host keeps. It goes through `run` as `lc3_run` does, so that the archive
-// has one loop, with the one call of the step in it.
+// The single step: the run with n = 1, on a record that the host keeps. It goes through `run` as `lc3_run` does, so
+// that the archive has one loop, with the one call of the step in it.
 #[no_mangle]
 pub extern "C" fn lc3_step(
     m: &mut Machine,
@@ -157,7 +160,9 @@ pub extern "C" fn lc3_step(
     bytes: &[u8],
     output: &mut [u8],
 ) -> Lc3Report
-    ensures { λ r. ⌜ reported (now (m .exit)) r (now (memory .exit)) (now (output .exit)) ≡ answerOf (callOf (startOf (now (m .entry)) (now (memory .entry)) (now (times .entry)) (now (bytes .entry)) (now (output .entry))) 1) ⌝ }
+    ensures { λ r. ⌜ reported (now (m .exit)) r (now (memory .exit)) (now (output .exit))
+        ≡ answerOf (callOf (startOf (now (m .entry)) (now (memory .entry)) (now (times .entry)) (now (bytes .entry))
+        (now (output .entry))) 1) ⌝ }
 {
     let report = run::single_step(m, memory, times, bytes, output);
     report_of(report)

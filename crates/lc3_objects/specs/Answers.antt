@@ -1,4 +1,5 @@
--- What a call answers and what it leaves, as one value of the crate `object`: a host's record has the same numbers in other places.
+-- What a call answers and what it leaves, as one value of the crate `object`: a host's record has the same numbers in
+-- other places.
 use Prim.Native.Nat.{ℕ}
 use mathlib.Core.List.{List}
 use Rattle.object.specs.Calls.{Loading, Saving}

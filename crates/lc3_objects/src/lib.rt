@@ -1,5 +1,5 @@
-// Object files for hosts in C and Rust: reading a file into lent memory, and writing one from a range of it. Both calls accept every
-// argument; the refusals are those of include/lc3.h.
+// Object files for hosts in C and Rust: reading a file into lent memory, and writing one from a range of it. Both calls
+// accept every argument; the refusals are those of include/lc3.h.
 ghost use mathlib.Core.Path.{_≡_};
 ghost use Rattle.object.specs.Calls.{loadOf, saveOf};
 ghost use Rattle.lc3_objects.specs.Answers.{hostLoading, hostSaving};
@@ -38,7 +38,8 @@ pub extern "C" fn lc3_save(
     words: usize,
     output: &mut [u8],
 ) -> Lc3Counted
-    ensures { λ r. ⌜ hostSaving r (now (output .exit)) ≡ saveOf (now (memory .entry)) origin words (now (output .entry)) ⌝ }
+    ensures { λ r. ⌜ hostSaving r (now (output .exit))
+        ≡ saveOf (now (memory .entry)) origin words (now (output .entry)) ⌝ }
 {
     let saved = object::save(memory, origin, words, output);
     Lc3Counted {

@@ -1,5 +1,5 @@
--- An instruction with a clamped value is written as the one with the value itself: where they differ, both are out of range, and then
--- the word plays no part.
+-- An instruction with a clamped value is written as the one with the value itself: where they differ, both are out of
+-- range, and then the word plays no part.
 use Prim.Native.Nat.{ℕ, _≤_, _<_}
 use native.Mathlib.Omega.{arith}
 use mathlib.Core.Path.{_≡_, refl, sym, ap, _∙_}
@@ -11,7 +11,8 @@ use borrow.Author.Tests.{ltb-true, ltb-false, le-ltb}
 use Rattle.word.specs.Field.{within}
 use Rattle.word.specs.Writing.{wordOf, registersInRange, maskInRange, refusal, answer, writeOf}
 use Rattle.word.specs.declared.Instruction.{Instruction}
-use Rattle.word.specs.declared.Instruction.the-variants.{Br, AddImmediate, Ld, St, Jsr, AndImmediate, Ldr, Str, Ldi, Sti, Reserved, Lea, Trap}
+use Rattle.word.specs.declared.Instruction.the-variants.{Br, AddImmediate, Ld, St, Jsr, AndImmediate, Ldr, Str, Ldi}
+use Rattle.word.specs.declared.Instruction.the-variants.{Sti, Reserved, Lea, Trap}
 use Rattle.word.proofs.SignedFields.{size-not-within}
 use Rattle.word.proofs.Opcodes.{Below, each, _&_}
 use Rattle.lc3_words.specs.Unflat.{unsigned, kinds, formOf}
@@ -25,14 +26,17 @@ no-word false m v w = refl
 
 -- an instruction I n with a signed field of half h
 signed-alike : (I : ℤ → Instruction) (h : ℕ)
-    → ((n : ℤ) → writeOf (I n) ≡ answer (refusal (registersInRange (I (pos 0))) (within h n) (maskInRange (I (pos 0)))) (wordOf (I n)))
+    → ((n : ℤ) → writeOf (I n)
+    ≡ answer (refusal (registersInRange (I (pos 0))) (within h n) (maskInRange (I (pos 0)))) (wordOf (I n)))
     → h ≤ 32767 → (v : ℤ) → writeOf (I (clampSigned v)) ≡ writeOf (I v)
 signed-alike I h e p v = go (ltb (mag v) 32768) refl
   where
-    out : (n : ℤ) → h ≤ mag n → writeOf (I n) ≡ answer (refusal (registersInRange (I (pos 0))) false (maskInRange (I (pos 0)))) 0
+    out : (n : ℤ) → h ≤ mag n → writeOf (I n)
+        ≡ answer (refusal (registersInRange (I (pos 0))) false (maskInRange (I (pos 0)))) 0
     out n q =
         e n
-        ∙ (ap (λ (t : Bool). answer (refusal (registersInRange (I (pos 0))) t (maskInRange (I (pos 0)))) (wordOf (I n))) (size-not-within h n q)
+        ∙ (ap (λ (t : Bool). answer (refusal (registersInRange (I (pos 0))) t (maskInRange (I (pos 0)))) (wordOf (I n)))
+        (size-not-within h n q)
         ∙ no-word (registersInRange (I (pos 0))) (maskInRange (I (pos 0))) (wordOf (I n)) 0)
 
     go : (t : Bool) → ltb (mag v) 32768 ≡ t → writeOf (I (clampSigned v)) ≡ writeOf (I v)
@@ -60,7 +64,8 @@ pub written-alike : (k a b c : ℕ) (v : ℤ) → k < kinds
     → writeOf (formOf k a b c (clampSigned v) (clampUnsigned v)) ≡ writeOf (formOf k a b c v (unsigned v))
 unfolding writeOf Below
 written-alike k a b c v =
-    each (λ k. writeOf (formOf k a b c (clampSigned v) (clampUnsigned v)) ≡ writeOf (formOf k a b c v (unsigned v))) kinds
+    each (λ k. writeOf (formOf k a b c (clampSigned v) (clampUnsigned v)) ≡ writeOf (formOf k a b c v (unsigned v)))
+    kinds
     (signed-alike (Br a) 256 (λ n. refl) (omega arith) v
     & refl
     & signed-alike (AddImmediate a b) 16 (λ n. refl) (omega arith) v

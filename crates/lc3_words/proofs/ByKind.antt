@@ -32,5 +32,7 @@ pub clamped-written : (f : Lc3Instruction) (n : ℤ) (u : ℕ) (i : Instruction)
     → i ≡ formOf (f .kind) (f .a) (f .b) (f .c) n u → w ≡ writeOf i → hostAnswer w ≡ writtenOf f
 clamped-written f n u i w p en eu ei ew =
     let k = f .kind in
-    let values = ap (λ (z : ℤ). formOf k (f .a) (f .b) (f .c) z u) en ∙ ap (formOf k (f .a) (f .b) (f .c) (clampSigned (f .value))) eu in
-    ap hostAnswer (ew ∙ (ap writeOf (ei ∙ values) ∙ written-alike k (f .a) (f .b) (f .c) (f .value) p)) ∙ sym (known-kind-written f p)
+    let values = ap (λ (z : ℤ). formOf k (f .a) (f .b) (f .c) z u) en
+    ∙ ap (formOf k (f .a) (f .b) (f .c) (clampSigned (f .value))) eu in
+    ap hostAnswer (ew ∙ (ap writeOf (ei ∙ values) ∙ written-alike k (f .a) (f .b) (f .c) (f .value) p))
+    ∙ sym (known-kind-written f p)

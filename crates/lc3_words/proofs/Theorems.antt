@@ -1,4 +1,5 @@
--- The statements of specs/Theorems.antt: by computation at each variant and each kind, and by the theorems of the crate `word`.
+-- The statements of specs/Theorems.antt: by computation at each variant and each kind, and by the theorems of the crate
+-- `word`.
 use Prim.Native.Nat.{ℕ, zero-le, _≤_, _<_}
 use native.Mathlib.Omega.{arith}
 use mathlib.Core.Path.{_≡_, refl, sym, ap, _∙_}
@@ -9,9 +10,12 @@ use lib.IntN.{ℤ, pos, negsuc}
 use lib.Bits.{bitXor}
 use borrow.Author.Tests.{le-ltb, le-leb, eqb-true}
 use Rattle.word.specs.Reading.{readOf}
-use Rattle.word.specs.Writing.{wordOf, registersInRange, fieldInRange, maskInRange, refusal, written, refused, answer, refusalOf, writeOf}
+use Rattle.word.specs.Writing.{wordOf, registersInRange, fieldInRange, maskInRange, refusal, written, refused, answer}
+use Rattle.word.specs.Writing.{refusalOf, writeOf}
 use Rattle.word.specs.declared.Instruction.{Instruction}
-use Rattle.word.specs.declared.Instruction.the-variants.{Br, AddRegister, AddImmediate, Ld, St, Jsr, Jsrr, AndRegister, AndImmediate, Ldr, Str, Rti, Not, Ldi, Sti, Jmp, Reserved, Lea, Trap}
+use Rattle.word.specs.declared.Instruction.the-variants.{Br, AddRegister, AddImmediate, Ld, St, Jsr, Jsrr, AndRegister}
+use Rattle.word.specs.declared.Instruction.the-variants.{AndImmediate, Ldr, Str, Rti, Not, Ldi, Sti, Jmp, Reserved, Lea}
+use Rattle.word.specs.declared.Instruction.the-variants.{Trap}
 use Rattle.word.proofs.ReadAfterWrite.{read-after-write}
 use Rattle.word.proofs.WriteAfterRead.{write-after-read}
 use Rattle.word.proofs.MaskBits.{written-differs-in-masked-bits}
@@ -20,7 +24,8 @@ use Rattle.lc3_words.specs.Flat.{flatOf}
 use Rattle.lc3_words.specs.Unflat.{kinds, formOf, unsigned, instructionOf}
 use Rattle.lc3_words.specs.Range.{below, valueRanges}
 use Rattle.lc3_words.specs.Writing.{hostAnswer, writtenOf}
-use Rattle.lc3_words.specs.Theorems.{FlatAndBack, FlatRoundTrip, FlatReadAfterWrite, FlatWriteAfterRead, FlatWrittenDiffersInMaskedBits, KnownKind, UnknownKind, BeyondSixteenBits}
+use Rattle.lc3_words.specs.Theorems.{FlatAndBack, FlatRoundTrip, FlatReadAfterWrite, FlatWriteAfterRead}
+use Rattle.lc3_words.specs.Theorems.{FlatWrittenDiffersInMaskedBits, KnownKind, UnknownKind, BeyondSixteenBits}
 use Rattle.lc3_words.specs.declared.Lc3Written.{Lc3Written}
 use Rattle.lc3_words.proofs.ByKind.{known-kind-written, unknown-kind-refused}
 
@@ -51,7 +56,8 @@ pub flat-and-back : FlatAndBack
 flat-and-back i = rows i .1
 
 pub flat-round-trip : FlatRoundTrip
-flat-round-trip i = known-kind-written (flatOf i) (rows i .0) ∙ ap (λ (x : Instruction). hostAnswer (writeOf x)) (rows i .1)
+flat-round-trip i = known-kind-written (flatOf i) (rows i .0)
+    ∙ ap (λ (x : Instruction). hostAnswer (writeOf x)) (rows i .1)
 
 pub flat-read-after-write : FlatReadAfterWrite
 flat-read-after-write i r =
@@ -79,7 +85,8 @@ unsigned-range : (limit : ℕ) (v : ℤ) → limit ≤ 65535 → ltb (unsigned v
 unsigned-range limit (pos n) p = sym (ap (λ (t : Bool). t && ltb n limit) (le-leb 0 n zero-le))
 unsigned-range limit (negsuc n) p = le-ltb 65535 limit p
 
-field-range : (k a b c : ℕ) (v : ℤ) → k < kinds → fieldInRange (formOf k a b c v (unsigned v)) ≡ getD (valueRanges v) k true
+field-range : (k a b c : ℕ) (v : ℤ) → k < kinds → fieldInRange (formOf k a b c v (unsigned v))
+    ≡ getD (valueRanges v) k true
 unfolding Below
 field-range k a b c v =
     each (λ k. fieldInRange (formOf k a b c v (unsigned v)) ≡ getD (valueRanges v) k true) kinds
@@ -96,7 +103,8 @@ known-kind f p =
     let i = instructionOf f in
     ap (λ (x : Lc3Written). x .refusal) (known-kind-written f p)
     ∙ (carried (refusalOf i) (wordOf i)
-    ∙ ap (λ (t : Bool). refusal (registersInRange i) t (maskInRange i)) (field-range (f .kind) (f .a) (f .b) (f .c) (f .value) p))
+    ∙ ap (λ (t : Bool). refusal (registersInRange i) t (maskInRange i))
+    (field-range (f .kind) (f .a) (f .b) (f .c) (f .value) p))
 
 pub unknown-kind : UnknownKind
 unknown-kind = unknown-kind-refused

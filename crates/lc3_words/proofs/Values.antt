@@ -1,4 +1,5 @@
--- Values of 32 bits in fields of 16: what the tests say of a value, by cases on its sign, and what the clamped value then is.
+-- Values of 32 bits in fields of 16: what the tests say of a value, by cases on its sign, and what the clamped value
+-- then is.
 use Prim.Native.Nat.{_<_, _≤_}
 use native.Mathlib.Omega.{arith}
 use mathlib.Core.Path.{_≡_, refl, sym, ap, _∙_}
@@ -33,7 +34,8 @@ clamped-above (pos n) t = simp (le-ltb n 65536 (omega (arith, ltb-true 65535 n t
 clamped-above (negsuc n) t = refl
 
 pub kept-unsigned : (v : ℤ)
-    → ltZ v (pos 0) ≡ false → ltZ (pos 65535) v ≡ false → (v ≡ pos (mag v)) × (mag v < 65536) × (mag v ≡ clampUnsigned v)
+    → ltZ v (pos 0) ≡ false → ltZ (pos 65535) v ≡ false
+    → (v ≡ pos (mag v)) × (mag v < 65536) × (mag v ≡ clampUnsigned v)
 kept-unsigned (pos n) s t =
     let p : n < 65536 = omega (arith, ltb-false 65535 n t) in
     (refl, p, simp (lt-ltb n 65536 p))

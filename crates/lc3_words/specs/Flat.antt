@@ -1,9 +1,11 @@
--- The flat form of an instruction: a number for its kind, its operands in the order in which the book's assembler writes them, and
--- its value; 0 where it has none. The kinds are numbered from 0 in the order of the opcodes.
+-- The flat form of an instruction: a number for its kind, its operands in the order in which the book's assembler
+-- writes them, and its value; 0 where it has none. The kinds are numbered from 0 in the order of the opcodes.
 use Prim.Native.Nat.{ℕ}
 use lib.IntN.{ℤ, pos}
 use Rattle.word.specs.declared.Instruction.{Instruction}
-use Rattle.word.specs.declared.Instruction.the-variants.{Br, AddRegister, AddImmediate, Ld, St, Jsr, Jsrr, AndRegister, AndImmediate, Ldr, Str, Rti, Not, Ldi, Sti, Jmp, Reserved, Lea, Trap}
+use Rattle.word.specs.declared.Instruction.the-variants.{Br, AddRegister, AddImmediate, Ld, St, Jsr, Jsrr, AndRegister}
+use Rattle.word.specs.declared.Instruction.the-variants.{AndImmediate, Ldr, Str, Rti, Not, Ldi, Sti, Jmp, Reserved, Lea}
+use Rattle.word.specs.declared.Instruction.the-variants.{Trap}
 use Rattle.word.specs.declared.Read.{Read}
 use Rattle.lc3_words.specs.declared.Lc3Instruction.{Lc3Instruction}
 use Rattle.lc3_words.specs.declared.Lc3Reading.{Lc3Reading}

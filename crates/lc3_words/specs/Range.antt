@@ -12,8 +12,8 @@ use Rattle.lc3_words.specs.declared.Lc3Instruction.{Lc3Instruction}
 abbrev pub below : ℕ → ℤ → Bool
 below limit v = leZ (pos 0) v && ltZ v (pos limit)
 
--- for each kind from 0 to 18: PCoffset9 from -256 to 255, imm5 from -16 to 15, PCoffset11 from -1024 to 1023, offset6 from -32 to 31,
--- reserved field from 0 to 4095, trap vector from 0 to 255; any value where the kind has no use for one
+-- for each kind from 0 to 18: PCoffset9 from -256 to 255, imm5 from -16 to 15, PCoffset11 from -1024 to 1023, offset6
+-- from -32 to 31, reserved field from 0 to 4095, trap vector from 0 to 255; any value where the kind has no use for one
 abbrev pub valueRanges : ℤ → List Bool
 valueRanges v =
     within 256 v

@@ -1,4 +1,5 @@
--- What is proved of flat instructions. Each statement is a type; its proof, of the same name in small letters, is in proofs/.
+-- What is proved of flat instructions. Each statement is a type; its proof, of the same name in small letters, is in
+-- proofs/.
 use Prim.Native.Nat.{ℕ, _<_, _≤_}
 use mathlib.Core.Path.{_≡_}
 use lib.IntN.{pos, negsuc}
@@ -37,12 +38,13 @@ FlatWrittenDiffersInMaskedBits =
     (w : ℕ) → w < 65536
     → bitXor (writtenOf (flatReadOf (readWithMaskOf w) .instruction) .word) w ≡ flatReadOf (readWithMaskOf w) .mask
 
--- The refusal of a known kind: 1 if a register that it uses is above 7, else 2 if a value that it uses is out of range, be it beyond 16
--- bits or not, else 3 if the mask of a BR is above 7, else 0.
+-- The refusal of a known kind: 1 if a register that it uses is above 7, else 2 if a value that it uses is out of range,
+-- be it beyond 16 bits or not, else 3 if the mask of a BR is above 7, else 0.
 abbrev pub KnownKind : Type 0
 KnownKind =
     (f : Lc3Instruction) → f .kind < kinds
-    → writtenOf f .refusal ≡ refusal (registersInRange (instructionOf f)) (valueInRange f) (maskInRange (instructionOf f))
+    → writtenOf f .refusal
+    ≡ refusal (registersInRange (instructionOf f)) (valueInRange f) (maskInRange (instructionOf f))
 
 -- An unknown kind is refused with 2, whatever its operands.
 abbrev pub UnknownKind : Type 0

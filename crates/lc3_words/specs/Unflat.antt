@@ -4,15 +4,17 @@ use mathlib.Core.List.{List, [], _∷_}
 use lib.ListN.{getD}
 use lib.IntN.{ℤ, pos, negsuc}
 use Rattle.word.specs.declared.Instruction.{Instruction}
-use Rattle.word.specs.declared.Instruction.the-variants.{Br, AddRegister, AddImmediate, Ld, St, Jsr, Jsrr, AndRegister, AndImmediate, Ldr, Str, Rti, Not, Ldi, Sti, Jmp, Reserved, Lea, Trap}
+use Rattle.word.specs.declared.Instruction.the-variants.{Br, AddRegister, AddImmediate, Ld, St, Jsr, Jsrr, AndRegister}
+use Rattle.word.specs.declared.Instruction.the-variants.{AndImmediate, Ldr, Str, Rti, Not, Ldi, Sti, Jmp, Reserved, Lea}
+use Rattle.word.specs.declared.Instruction.the-variants.{Trap}
 use Rattle.lc3_words.specs.declared.Lc3Instruction.{Lc3Instruction}
 
 -- how many kinds there are
 abbrev pub kinds : ℕ
 kinds = 19
 
--- the instruction of each kind, from 0 to 18, made of the operands that it uses: a, b, c, the signed field n, and u, the trap vector or
--- reserved field. The others are ignored
+-- the instruction of each kind, from 0 to 18, made of the operands that it uses: a, b, c, the signed field n, and u,
+-- the trap vector or reserved field. The others are ignored
 abbrev pub forms : ℕ → ℕ → ℕ → ℤ → ℕ → List Instruction
 forms a b c n u =
     Br a n

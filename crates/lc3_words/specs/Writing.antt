@@ -11,7 +11,7 @@ use Rattle.lc3_words.specs.declared.Lc3Written.{Lc3Written}
 abbrev pub hostAnswer : Written → Lc3Written
 hostAnswer w = record { word = w .word; refusal = w .refusal }
 
--- what `lc3_write` answers. A known kind is written as the instruction that it is; an unknown kind is refused with 2, as a field out of
--- range, whatever its operands
+-- what `lc3_write` answers. A known kind is written as the instruction that it is; an unknown kind is refused with 2,
+-- as a field out of range, whatever its operands
 unfoldable pub writtenOf : Lc3Instruction → Lc3Written
 writtenOf f = hostAnswer (cond (ltb (f .kind) kinds) (writeOf (instructionOf f)) (refused 2))

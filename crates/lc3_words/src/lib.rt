@@ -1,5 +1,6 @@
-// Instruction words for hosts in C and Rust: reading and writing, with an instruction as one flat record ('Instruction words' and
-// 'Write an instruction' of document 01). Every call accepts every argument. The kinds and operands are those of include/lc3.h.
+// Instruction words for hosts in C and Rust: reading and writing, with an instruction as one flat record ('Instruction
+// words' and 'Write an instruction' of document 01). Every call accepts every argument. The kinds and operands are
+// those of include/lc3.h.
 pub mod flat;
 pub mod unflat;
 
@@ -14,8 +15,9 @@ ghost use Rattle.word.specs.Mask.{readWithMaskOf};
 ghost use Rattle.lc3_words.specs.Flat.{flatReadOf};
 ghost use Rattle.lc3_words.specs.Writing.{writtenOf};
 
-// An instruction: its kind, 0 for BR to 18 for TRAP; a, b, c its registers (of a BR, a is the mask) in the order in which the book's
-// assembler writes them; and its signed field, trap vector or reserved field. 0 stands where a kind has none.
+// An instruction: its kind, 0 for BR to 18 for TRAP; a, b, c its registers (of a BR, a is the mask) in the order in
+// which the book's assembler writes them; and its signed field, trap vector or reserved field. 0 stands where a kind
+// has none.
 #[repr(C)]
 pub struct Lc3Instruction {
     pub kind: u8,
@@ -53,8 +55,8 @@ pub extern "C" fn lc3_read(word: u16) -> Lc3Reading
     }
 }
 
-// The word of an instruction, or its refusal. Operands that the kind does not use are ignored. A kind after TRAP, 18, is refused as a
-// field out of range.
+// The word of an instruction, or its refusal. Operands that the kind does not use are ignored. A kind after TRAP, 18,
+// is refused as a field out of range.
 #[no_mangle]
 pub extern "C" fn lc3_write(instruction: Lc3Instruction) -> Lc3Written
     ensures { λ r. ⌜ r ≡ writtenOf instruction ⌝ }

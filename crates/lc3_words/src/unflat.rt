@@ -1,5 +1,5 @@
-// From the flat form back to an instruction. Its fields have 16 bits, so a value beyond those is passed on as one that is out of
-// every field's range too.
+// From the flat form back to an instruction. Its fields have 16 bits, so a value beyond those is passed on as one that
+// is out of every field's range too.
 use word::Instruction;
 ghost use mathlib.Core.Path.{_≡_};
 ghost use Prim.Native.Nat.{_<_};

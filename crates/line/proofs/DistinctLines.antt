@@ -1,5 +1,5 @@
--- Distinct words give distinct lines: an assembler of lines gives every word back from its line. It knows an instruction by its
--- mnemonic and reads its operands from their places.
+-- Distinct words give distinct lines: an assembler of lines gives every word back from its line. It knows an
+-- instruction by its mnemonic and reads its operands from their places.
 use Prim.Native.Nat.{ℕ, _+_, _*_, _/_, _%_, _<_}
 use native.Mathlib.Omega.{arith}
 use mathlib.Core.Path.{_≡_, refl, sym, ap, _∙_}
@@ -14,7 +14,9 @@ use Rattle.word.specs.Writing.{wordOf}
 use Rattle.word.specs.Range.{InRange}
 use Rattle.word.specs.FixedBits.{fixedOf}
 use Rattle.word.specs.declared.Instruction.{Instruction}
-use Rattle.word.specs.declared.Instruction.the-variants.{Br, AddRegister, AddImmediate, Ld, St, Jsr, Jsrr, AndRegister, AndImmediate, Ldr, Str, Rti, Not, Ldi, Sti, Jmp, Reserved, Lea, Trap}
+use Rattle.word.specs.declared.Instruction.the-variants.{Br, AddRegister, AddImmediate, Ld, St, Jsr, Jsrr, AndRegister}
+use Rattle.word.specs.declared.Instruction.the-variants.{AndImmediate, Ldr, Str, Rti, Not, Ldi, Sti, Jmp, Reserved, Lea}
+use Rattle.word.specs.declared.Instruction.the-variants.{Trap}
 use Rattle.word.specs.declared.Written.{Written}
 use Rattle.word.proofs.Opcodes.{Below, _&_, each}
 use Rattle.word.proofs.Ranges.{read-in-range, written-in-range}
@@ -59,8 +61,12 @@ row name i = (mnemonicOf 0 name, i)
 -- each mnemonic, with the instruction that it makes of its operands
 abbrev rows : List ℕ → List Row
 rows t =
-    row (A ∷ D ∷ D ∷ []) (cond (thirdRegister t) (AddRegister (registerAt 0 t) (registerAt 1 t) (registerAt 2 t)) (AddImmediate (registerAt 0 t) (registerAt 1 t) (numberAt 2 t)))
-    ∷ row (A ∷ N ∷ D ∷ []) (cond (thirdRegister t) (AndRegister (registerAt 0 t) (registerAt 1 t) (registerAt 2 t)) (AndImmediate (registerAt 0 t) (registerAt 1 t) (numberAt 2 t)))
+    row (A ∷ D ∷ D ∷ [])
+    (cond (thirdRegister t) (AddRegister (registerAt 0 t) (registerAt 1 t) (registerAt 2 t))
+    (AddImmediate (registerAt 0 t) (registerAt 1 t) (numberAt 2 t)))
+    ∷ row (A ∷ N ∷ D ∷ [])
+    (cond (thirdRegister t) (AndRegister (registerAt 0 t) (registerAt 1 t) (registerAt 2 t))
+    (AndImmediate (registerAt 0 t) (registerAt 1 t) (numberAt 2 t)))
     ∷ row (B ∷ R ∷ lowerP ∷ []) (Br 1 (numberAt 0 t))
     ∷ row (B ∷ R ∷ lowerZ ∷ []) (Br 2 (numberAt 0 t))
     ∷ row (B ∷ R ∷ lowerZ ∷ lowerP ∷ []) (Br 3 (numberAt 0 t))
@@ -124,7 +130,8 @@ branch-back n mask p = each (BranchBack n) 8 cases mask p
         & (λ q. rw (signed-back n))
         & tt
 
-br-back : (w mask : ℕ) (n : ℤ) → w < 65536 → mask < 8 → wordOf (Br mask n) ≡ w → assembled (instructionLine w (Br mask n)) ≡ w
+br-back : (w mask : ℕ) (n : ℤ) → w < 65536 → mask < 8 → wordOf (Br mask n) ≡ w
+    → assembled (instructionLine w (Br mask n)) ≡ w
 br-back w mask n p q e = go (eqb mask 0) refl
   where
     go : (t : Bool) → eqb mask 0 ≡ t → assembled (cond t (fillLine w) (branchLine mask n)) ≡ w
@@ -134,11 +141,14 @@ br-back w mask n p q e = go (eqb mask 0) refl
 jmp-back : (base : ℕ) → assembled (instructionLine 0 (Jmp base)) ≡ wordOf (Jmp base)
 jmp-back base = go (eqb base 7) refl
   where
-    go : (t : Bool) → eqb base 7 ≡ t → assembled (cond t (statement (R ∷ E ∷ T ∷ []) []) (statement (J ∷ M ∷ P ∷ []) (register base ∷ []))) ≡ wordOf (Jmp base)
+    go : (t : Bool) → eqb base 7 ≡ t
+        → assembled (cond t (statement (R ∷ E ∷ T ∷ []) []) (statement (J ∷ M ∷ P ∷ []) (register base ∷ [])))
+        ≡ wordOf (Jmp base)
     go true z = ap (λ (b : ℕ). wordOf (Jmp b)) (sym (eqb-true base 7 z))
     go false z = simp digit-back
 
-instruction-back : (w : ℕ) (i : Instruction) → w < 65536 → InRange i → wordOf i ≡ w → assembled (instructionLine w i) ≡ w
+instruction-back : (w : ℕ) (i : Instruction) → w < 65536 → InRange i → wordOf i ≡ w → assembled (instructionLine w i)
+    ≡ w
 instruction-back w (AddRegister dr sr1 sr2) p r e = simp digit-back e
 instruction-back w (AddImmediate dr sr1 imm5) p r e = simp (digit-back, signed-back imm5) e
 instruction-back w (AndRegister dr sr1 sr2) p r e = simp digit-back e

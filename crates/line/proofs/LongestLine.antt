@@ -12,7 +12,9 @@ use Rattle.word.specs.Range.{Within, InRange}
 use Rattle.word.specs.Reading.{readOf}
 use Rattle.word.specs.FixedBits.{fixedOf}
 use Rattle.word.specs.declared.Instruction.{Instruction}
-use Rattle.word.specs.declared.Instruction.the-variants.{Br, AddRegister, AddImmediate, Ld, St, Jsr, Jsrr, AndRegister, AndImmediate, Ldr, Str, Rti, Not, Ldi, Sti, Jmp, Reserved, Lea, Trap}
+use Rattle.word.specs.declared.Instruction.the-variants.{Br, AddRegister, AddImmediate, Ld, St, Jsr, Jsrr, AndRegister}
+use Rattle.word.specs.declared.Instruction.the-variants.{AndImmediate, Ldr, Str, Rti, Not, Ldi, Sti, Jmp, Reserved, Lea}
+use Rattle.word.specs.declared.Instruction.the-variants.{Trap}
 use Rattle.word.proofs.SignedFields.{within-bound}
 use Rattle.word.proofs.Ranges.{read-in-range}
 use Rattle.text.specs.Characters.{lineFeed, space, E, J, M, P, R, T, lowerN, lowerZ, lowerP}
@@ -36,7 +38,12 @@ one-more b k q f n p = go (ltb n 10) refl
     go true e = omega (arith, ap length (last-digit n (ltb-true n 10 e)))
     go false e =
         let some : length (decimal (n / 10)) ≤ k = f (n / 10) (omega arith) in
-        omega (arith, ap length (digits-before n (ltb-false n 10 e)), length-append (decimal (n / 10)) (digit (n % 10) ∷ []))
+        omega (
+          arith,
+          ap length (digits-before n (ltb-false n 10 e)),
+          length-append (decimal (n / 10))
+              (digit (n % 10) ∷ []),
+        )
 
 two-digits : Digits 100 2
 two-digits = one-more 10 1 (omega arith) one-digit
@@ -52,7 +59,12 @@ field : (b k h : ℕ) → Digits b k → h < b → (n : ℤ) → Within h n → 
 field b k h f p (pos n) r =
     omega (arith, f n (omega (arith, within-bound h (pos n) r)), length-append (decimal n) (lineFeed ∷ []))
 field b k h f p (negsuc n) r =
-    omega (arith, f (n + 1) (omega (arith, within-bound h (negsuc n) r)), length-append (decimal (n + 1)) (lineFeed ∷ []))
+    omega (
+      arith,
+      f (n + 1) (omega (arith, within-bound h (negsuc n) r)),
+      length-append (decimal (n + 1))
+          (lineFeed ∷ []),
+    )
 
 imm5-field : (n : ℤ) → Within 16 n → length (signedDigits n ++ lineFeed ∷ []) ≤ 4
 imm5-field = field 100 2 16 two-digits (omega arith)
@@ -78,20 +90,34 @@ letters mask =
     let n = code (mask / 4 % 2) lowerN in
     let z = code (mask / 2 % 2) lowerZ in
     let p = code (mask % 2) lowerP in
-    omega
-    (arith, length-append n z, length-append (n ++ z) p, one-letter (mask / 4 % 2) lowerN, one-letter (mask / 2 % 2) lowerZ, one-letter (mask % 2) lowerP)
+    omega (
+      arith,
+      length-append n z,
+      length-append (n ++ z) p,
+      one-letter (mask / 4 % 2) lowerN,
+      one-letter (mask / 2 % 2)
+          lowerZ,
+      one-letter (mask % 2) lowerP,
+    )
 
 branch : (w mask : ℕ) (n : ℤ) → Within 256 n → length (instructionLine w (Br mask n)) ≤ 17
 branch w mask n r = go (eqb mask 0)
   where
     go : (t : Bool) → length (cond t (fillLine w) (branchLine mask n)) ≤ 17
     go true = omega arith
-    go false = omega (arith, letters mask, pcoffset9-field n r, length-append (codes mask) (space ∷ signedNumber n ++ lineFeed ∷ []))
+    go false = omega (
+      arith,
+      letters mask,
+      pcoffset9-field n r,
+      length-append (codes mask)
+          (space ∷ signedNumber n ++ lineFeed ∷ []),
+    )
 
 jump : (w base : ℕ) → length (instructionLine w (Jmp base)) ≤ 17
 jump w base = go (eqb base 7)
   where
-    go : (t : Bool) → length (cond t (statement (R ∷ E ∷ T ∷ []) []) (statement (J ∷ M ∷ P ∷ []) (register base ∷ []))) ≤ 17
+    go : (t : Bool) → length (cond t (statement (R ∷ E ∷ T ∷ []) []) (statement (J ∷ M ∷ P ∷ []) (register base ∷ [])))
+        ≤ 17
     go true = omega arith
     go false = omega arith
 

@@ -1,5 +1,5 @@
--- Operands read back from their text: digits, decimal numbers up to the line feed, signed and hexadecimal numbers. So the digits
--- determine the number.
+-- Operands read back from their text: digits, decimal numbers up to the line feed, signed and hexadecimal numbers. So
+-- the digits determine the number.
 use Prim.Native.Nat.{ℕ, zero, suc, _+_, _-_, _*_, _/_, _%_, _<_, _≤_}
 use native.Mathlib.Omega.{arith}
 use mathlib.Core.Path.{_≡_, refl, sym, ap, _∙_}
@@ -36,7 +36,8 @@ digits-read zero n text p = absurd (omega arith)
 digits-read (suc k) n text p = go (ltb n 10) refl (λ q. digits-read k (n / 10) (digit (n % 10) ∷ text) (omega arith))
   where
     go : (t : Bool) → ltb n 10 ≡ t
-        → (10 ≤ n → numberFrom 0 (digits k (n / 10) ++ digit (n % 10) ∷ text) ≡ numberFrom (n / 10) (digit (n % 10) ∷ text))
+        → (10 ≤ n → numberFrom 0 (digits k (n / 10) ++ digit (n % 10) ∷ text)
+        ≡ numberFrom (n / 10) (digit (n % 10) ∷ text))
         → numberFrom 0 (cond t (digit n ∷ []) (digits k (n / 10) ++ digit (n % 10) ∷ []) ++ text) ≡ numberFrom n text
     go true e before = next-digit 0 n text ∙ ap (λ (m : ℕ). numberFrom m text) (omega arith)
     go false e before =

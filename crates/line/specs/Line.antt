@@ -6,7 +6,9 @@ use lib.Dec.{eqb}
 use Rattle.word.specs.Reading.{readOf}
 use Rattle.word.specs.FixedBits.{fixedOf}
 use Rattle.word.specs.declared.Instruction.{Instruction}
-use Rattle.word.specs.declared.Instruction.the-variants.{Br, AddRegister, AddImmediate, Ld, St, Jsr, Jsrr, AndRegister, AndImmediate, Ldr, Str, Rti, Not, Ldi, Sti, Jmp, Reserved, Lea, Trap}
+use Rattle.word.specs.declared.Instruction.the-variants.{Br, AddRegister, AddImmediate, Ld, St, Jsr, Jsrr, AndRegister}
+use Rattle.word.specs.declared.Instruction.the-variants.{AndImmediate, Ldr, Str, Rti, Not, Ldi, Sti, Jmp, Reserved, Lea}
+use Rattle.word.specs.declared.Instruction.the-variants.{Trap}
 use Rattle.text.specs.Characters.{A, D, E, I, J, L, M, N, O, P, R, S, T}
 use Rattle.text.specs.Operands.{register, signedNumber}
 use Rattle.text.specs.Statement.{statement, fillLine, trapLine, branchLine}

@@ -1,5 +1,6 @@
--- A step takes an interrupt exactly when rule 2 applies to it: "ready and enable are both set and the priority is below 4". "Otherwise the
--- word at PC is fetched and obeyed." By the plans: what an instruction does is never the entry for an interrupt, in either mode.
+-- A step takes an interrupt exactly when rule 2 applies to it: "ready and enable are both set and the priority is below
+-- 4". "Otherwise the word at PC is fetched and obeyed." By the plans: what an instruction does is never the entry for
+-- an interrupt, in either mode.
 use Prim.Native.Nat.{ℕ}
 use mathlib.Core.Path.{_≡_, refl, ap, _∙_}
 use mathlib.Core.Bool.{Bool, true, false, cond, _&&_, not}
@@ -9,16 +10,19 @@ use lib.ListN.{getD}
 use Rattle.word.specs.Reading.{readOf}
 use Rattle.machine.specs.declared.Machine.{Machine}
 use Rattle.machine.specs.declared.Plan.{Plan}
-use Rattle.machine.specs.declared.Plan.the-variants.{Move, Put, Jump, Load, LoadBy, Store, StoreBy, Call, Illegal, Return}
+use Rattle.machine.specs.declared.Plan.the-variants.{Move, Put, Jump, Load, LoadBy, Store, StoreBy, Call, Illegal}
+use Rattle.machine.specs.declared.Plan.the-variants.{Return}
 use Rattle.machine.specs.declared.Pending.the-variants.{Nothing, Interrupt}
 use Rattle.machine.specs.Words.{next}
 use Rattle.machine.specs.Psr.{inUserMode, priorityOf, kept}
-use Rattle.machine.specs.Outcome.{Reason, trap, privilege, illegal, access, Outcome, plainOutcome, withReads, afterInstruction}
+use Rattle.machine.specs.Outcome.{Reason, trap, privilege, illegal, access, Outcome, plainOutcome, withReads}
+use Rattle.machine.specs.Outcome.{afterInstruction}
 use Rattle.machine.specs.Keys.{afterKeys}
 use Rattle.machine.specs.Interrupts.{keyboardVector, keyboardPriority, pendingInterrupt}
 use Rattle.machine.specs.Protection.{denied}
 use Rattle.machine.specs.Entry.{entry, raised, interrupted}
-use Rattle.machine.specs.Devices.{KBSR, KBDR, DSR, DDR, PSR, isDevice, kbsrStore, psrStore, mcrStore, ddrStore, deviceStore, stored}
+use Rattle.machine.specs.Devices.{KBSR, KBDR, DSR, DDR, PSR, isDevice, kbsrStore, psrStore, mcrStore, ddrStore}
+use Rattle.machine.specs.Devices.{deviceStore, stored}
 use Rattle.machine.specs.Access.{checked, loadTo, storeAt, byPointer}
 use Rattle.machine.specs.Return.{popped, return}
 use Rattle.machine.specs.Plan.{planOf}
@@ -30,12 +34,14 @@ use Rattle.machine.proofs.TwoSteps.{no-interrupt-is-obeyed}
 abbrev NoInterruptTaken : Outcome → Type 0
 NoInterruptTaken o = takesInterrupt (o .cause) ≡ false
 
-trap-or-exception-is-no-interrupt : (reason : Reason) (pc : ℕ) (m : Machine) (mem : List ℕ) → isTrapOrException reason ≡ true
+trap-or-exception-is-no-interrupt : (reason : Reason) (pc : ℕ) (m : Machine) (mem : List ℕ) → isTrapOrException reason
+    ≡ true
     → NoInterruptTaken (raised reason pc m mem)
 unfolding raised entry
 trap-or-exception-is-no-interrupt reason pc m mem t = ap not t
 
-checked-is-no-interrupt : (a : ℕ) (m : Machine) (mem : List ℕ) (o : Outcome) → NoInterruptTaken o → NoInterruptTaken (checked a m mem o)
+checked-is-no-interrupt : (a : ℕ) (m : Machine) (mem : List ℕ) (o : Outcome) → NoInterruptTaken o
+    → NoInterruptTaken (checked a m mem o)
 checked-is-no-interrupt a m mem o h =
     either-branch NoInterruptTaken (denied (m .psr) a) (trap-or-exception-is-no-interrupt access (m .pc) m mem refl) h
 
@@ -58,7 +64,8 @@ device-store-is-no-interrupt v a m mem = go (eqb a KBSR) (eqb a KBDR) (eqb a DSR
 
 store-is-no-interrupt : (v a : ℕ) (m : Machine) (mem : List ℕ) → NoInterruptTaken (stored v a m mem)
 unfolding stored
-store-is-no-interrupt v a m mem = either-branch NoInterruptTaken (isDevice a) (device-store-is-no-interrupt v a m mem) refl
+store-is-no-interrupt v a m mem = either-branch NoInterruptTaken (isDevice a) (device-store-is-no-interrupt v a m mem)
+    refl
 
 loadTo-is-no-interrupt : (r a : ℕ) (m : Machine) (mem : List ℕ) → NoInterruptTaken (loadTo r a m mem)
 unfolding loadTo
@@ -70,14 +77,16 @@ storeAt-is-no-interrupt v a m mem =
     checked-is-no-interrupt a m mem _ (store-is-no-interrupt v a (afterInstruction (m .regs) (next (m .pc)) kept m) mem)
 
 byPointer-is-no-interrupt : (a : ℕ) (data-access : ℕ → Machine → List ℕ → Outcome) (m : Machine) (mem : List ℕ)
-    → ((b : ℕ) (n : Machine) → NoInterruptTaken (data-access b n mem)) → NoInterruptTaken (byPointer a data-access m mem)
+    → ((b : ℕ) (n : Machine) → NoInterruptTaken (data-access b n mem))
+    → NoInterruptTaken (byPointer a data-access m mem)
 unfolding byPointer withReads
 byPointer-is-no-interrupt a data-access m mem h = checked-is-no-interrupt a m mem _ (h _ _)
 
 return-is-no-interrupt : (m : Machine) (mem : List ℕ) → NoInterruptTaken (return m mem)
 unfolding return popped
 return-is-no-interrupt m mem =
-    either-branch NoInterruptTaken (inUserMode (m .psr)) (trap-or-exception-is-no-interrupt privilege (m .pc) m mem refl) refl
+    either-branch NoInterruptTaken (inUserMode (m .psr))
+    (trap-or-exception-is-no-interrupt privilege (m .pc) m mem refl) refl
 
 plan-is-no-interrupt : (p : Plan) (m : Machine) (mem : List ℕ) → NoInterruptTaken (perform p m mem)
 unfolding perform
@@ -85,9 +94,11 @@ plan-is-no-interrupt (Move r v pc) m mem = refl
 plan-is-no-interrupt (Put r v pc) m mem = refl
 plan-is-no-interrupt (Jump pc) m mem = refl
 plan-is-no-interrupt (Load r a) m mem = loadTo-is-no-interrupt r a m mem
-plan-is-no-interrupt (LoadBy r a) m mem = byPointer-is-no-interrupt a (loadTo r) m mem (λ b n. loadTo-is-no-interrupt r b n mem)
+plan-is-no-interrupt (LoadBy r a) m mem = byPointer-is-no-interrupt a (loadTo r) m mem
+    (λ b n. loadTo-is-no-interrupt r b n mem)
 plan-is-no-interrupt (Store v a) m mem = storeAt-is-no-interrupt v a m mem
-plan-is-no-interrupt (StoreBy v a) m mem = byPointer-is-no-interrupt a (storeAt v) m mem (λ b n. storeAt-is-no-interrupt v b n mem)
+plan-is-no-interrupt (StoreBy v a) m mem = byPointer-is-no-interrupt a (storeAt v) m mem
+    (λ b n. storeAt-is-no-interrupt v b n mem)
 plan-is-no-interrupt (Call vector) m mem = trap-or-exception-is-no-interrupt (trap vector) (next (m .pc)) m mem refl
 plan-is-no-interrupt Illegal m mem = trap-or-exception-is-no-interrupt illegal (m .pc) m mem refl
 plan-is-no-interrupt Return m mem = return-is-no-interrupt m mem
@@ -103,17 +114,21 @@ pending-is-taken : (vector priority : ℕ) (m : Machine) (mem : List ℕ)
 unfolding interruptedOrObeyed interrupted entry
 pending-is-taken vector priority m mem = refl
 
-none-pending-is-none-taken : (m : Machine) (mem : List ℕ) → takesInterrupt (interruptedOrObeyed Nothing m mem .cause) ≡ false
+none-pending-is-none-taken : (m : Machine) (mem : List ℕ) → takesInterrupt (interruptedOrObeyed Nothing m mem .cause)
+    ≡ false
 unfolding interruptedOrObeyed
 none-pending-is-none-taken m mem = instruction-is-no-interrupt m mem
 
 pub interrupt-is-taken-by-rule-2 : (keys : List ℕ) (m : Machine) (mem : List ℕ)
-    → takesInterrupt (stepOf keys m mem .cause) ≡ (leb 0xC000 (afterKeys keys m .devices .kbsr) && ltb (priorityOf (m .psr)) 4)
+    → takesInterrupt (stepOf keys m mem .cause)
+    ≡ (leb 0xC000 (afterKeys keys m .devices .kbsr) && ltb (priorityOf (m .psr)) 4)
 unfolding stepOf ended pendingInterrupt afterKeys
-interrupt-is-taken-by-rule-2 keys m mem = go (leb 0xC000 (afterKeys keys m .devices .kbsr) && ltb (priorityOf (m .psr)) 4)
+interrupt-is-taken-by-rule-2 keys m mem = go
+    (leb 0xC000 (afterKeys keys m .devices .kbsr) && ltb (priorityOf (m .psr)) 4)
   where
     go : (rule-2 : Bool)
-        → takesInterrupt (interruptedOrObeyed (cond rule-2 (Interrupt keyboardVector keyboardPriority) Nothing) (afterKeys keys m) mem .cause) ≡ rule-2
+        → takesInterrupt (interruptedOrObeyed (cond rule-2 (Interrupt keyboardVector keyboardPriority) Nothing)
+        (afterKeys keys m) mem .cause) ≡ rule-2
     go true = pending-is-taken keyboardVector keyboardPriority (afterKeys keys m) mem
     go false = none-pending-is-none-taken (afterKeys keys m) mem
 

@@ -1,5 +1,5 @@
--- The three parts of memory make up all of it, and a word of User mode's is read from the middle part and stored to it alone: by
--- the laws of take, drop and set.
+-- The three parts of memory make up all of it, and a word of User mode's is read from the middle part and stored to it
+-- alone: by the laws of take, drop and set.
 use Prim.Native.Nat.{ℕ, _+_, _-_, _≤_, _<_}
 use mathlib.Core.Path.{_≡_}
 use mathlib.Core.List.{List, _++_}
@@ -18,7 +18,8 @@ pub record UserAddress (a : ℕ) : Type 0 where
   pub low : 0x3000 ≤ a
   pub high : a < 0xFE00
 
-pub user-word-is-in-user-words : (mem : List ℕ) (a : ℕ) → UserAddress a → getD mem a 0 ≡ getD (userWords mem) (a - 0x3000) 0
+pub user-word-is-in-user-words : (mem : List ℕ) (a : ℕ) → UserAddress a → getD mem a 0
+    ≡ getD (userWords mem) (a - 0x3000) 0
 unfolding userWords
 user-word-is-in-user-words mem a u =
     let h : 0x3000 + (a - 0x3000) ≡ a = omega arith in

@@ -6,13 +6,19 @@ use Rattle.machine.specs.Outcome.{withReads, afterInstruction}
 use Rattle.machine.specs.Keys.{keysDue, readyAfter, lastKey, afterKeys}
 use Rattle.machine.specs.Interrupts.{pendingInterrupt}
 use Rattle.machine.specs.Protection.{privileged, denied}
-use Rattle.machine.specs.Entry.{stackPointerOnEntry, userStackOnEntry, pushed, afterEntry, entry, raised, interrupted}
-use Rattle.machine.specs.Devices.{isDevice, lentWord, deviceValue, loadedValue, kbsrAfterLoad, afterLoad, kbsrStore, psrStore, mcrStore, ddrStore, deviceStore, stored}
+use Rattle.machine.specs.Entry.{stackPointerOnEntry, userStackOnEntry, pushed, afterEntry, entry, raised}
+use Rattle.machine.specs.Entry.{interrupted}
+use Rattle.machine.specs.Devices.{isDevice, lentWord, deviceValue, loadedValue, kbsrAfterLoad, afterLoad}
+use Rattle.machine.specs.Devices.{kbsrStore, psrStore, mcrStore, ddrStore, deviceStore, stored}
 use Rattle.machine.specs.Access.{loadTo, storeAt, byPointer}
 use Rattle.machine.specs.Return.{afterReturn, popped, return}
 use Rattle.machine.specs.Plan.{planOf}
 use Rattle.machine.specs.Step.{perform, obeyed, interruptedOrObeyed, afterTick, ended, stepOf}
 
 unfoldable pub opened : Unit {0}
-unfolding readOf andBits inUserMode definedPsr codesOf recoded isTaken withReads afterInstruction keysDue readyAfter lastKey afterKeys pendingInterrupt privileged denied stackPointerOnEntry userStackOnEntry pushed afterEntry entry raised interrupted isDevice lentWord deviceValue loadedValue kbsrAfterLoad afterLoad kbsrStore psrStore mcrStore ddrStore deviceStore stored loadTo storeAt byPointer afterReturn popped return planOf perform obeyed interruptedOrObeyed afterTick ended stepOf
+unfolding readOf andBits inUserMode definedPsr codesOf recoded isTaken withReads afterInstruction keysDue readyAfter
+    lastKey afterKeys pendingInterrupt privileged denied stackPointerOnEntry userStackOnEntry pushed afterEntry entry
+    raised interrupted isDevice lentWord deviceValue loadedValue kbsrAfterLoad afterLoad kbsrStore psrStore mcrStore
+    ddrStore deviceStore stored loadTo storeAt byPointer afterReturn popped return planOf perform obeyed
+    interruptedOrObeyed afterTick ended stepOf
 opened = tt

@@ -1,5 +1,5 @@
--- What User mode sees, and what is out of its reach. Memory has three parts: the words below x3000, the words x3000 to xFDFF, and
--- the words from xFE00 on.
+-- What User mode sees, and what is out of its reach. Memory has three parts: the words below x3000, the words x3000 to
+-- xFDFF, and the words from xFE00 on.
 use Prim.Native.Nat.{ℕ}
 use mathlib.Core.Path.{_≡_}
 use mathlib.Core.List.{List}

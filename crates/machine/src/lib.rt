@@ -5,7 +5,8 @@ ghost use mathlib.Core.List.{List};
 ghost use Prim.Native.Nat.{ℕ};
 ghost use Rattle.machine.specs.Record.{whole, withDevices, setKeyboard, setMcr, freshDevices};
 
-// What the devices keep. Code that touches no device hands it on whole. Defined bits: KBSR xC000, KBDR x00FF, MCR x8000.
+// What the devices keep. Code that touches no device hands it on whole. Defined bits: KBSR xC000, KBDR x00FF, MCR
+// x8000.
 #[repr(C)]
 pub struct Devices {
     pub kbsr: u16,

@@ -1,4 +1,5 @@
--- Which calls are accepted: what holds of a call that no test refuses, and the other way round; and what an accepted call is.
+-- Which calls are accepted: what holds of a call that no test refuses, and the other way round; and what an accepted
+-- call is.
 use Prim.Native.Nat.{ℕ, zero, suc, _+_, _-_, _*_, _/_, _%_, _≤_}
 use native.Mathlib.Omega.{arith}
 use mathlib.Core.Path.{_≡_, refl, _∙_}
@@ -8,7 +9,8 @@ use lib.Dec.{ltb, eqb}
 use lib.ListN.{length, drop, length-drop, length-take}
 use borrow.Author.Tests.{ltb-false, eqb-true, not-false, le-ltb, eq-eqb}
 use Rattle.object.specs.File.{fileOf, originIn, wordsIn, range}
-use Rattle.object.specs.Calls.{wrongSize, wrongLength, beyondMemory, tooShort, loadRefusal, loadAccepted, loadBy, loadOf, saveRefusal, saveAccepted, saveBy, saveOf}
+use Rattle.object.specs.Calls.{wrongSize, wrongLength, beyondMemory, tooShort, loadRefusal, loadAccepted, loadBy}
+use Rattle.object.specs.Calls.{loadOf, saveRefusal, saveAccepted, saveBy, saveOf}
 use Rattle.object.specs.Accepted.{Readable, Writable}
 use Rattle.object.proofs.WordLaws.{length-of-words, length-of-bytes}
 
@@ -23,7 +25,8 @@ neither false b h = (refl, h)
 pub words-in : (file : List ℕ) → length (wordsIn file) ≡ length file / 2 - 1
 words-in file = length-of-words (drop 2 file) ∙ rw (length-drop 2 file) (omega arith)
 
-pub file-length : (origin count : ℕ) (memory : List ℕ) → origin + count ≤ length memory → length (fileOf origin (range origin count memory)) ≡ 2 + 2 * count
+pub file-length : (origin count : ℕ) (memory : List ℕ) → origin + count ≤ length memory
+    → length (fileOf origin (range origin count memory)) ≡ 2 + 2 * count
 file-length origin count memory h = simp (length-of-bytes, length-take, length-drop) (omega arith)
 
 pub accepted-is-readable : (file memory : List ℕ) → loadRefusal file memory ≡ 0 → Readable file memory
@@ -65,7 +68,12 @@ pub writable-is-accepted : (memory : List ℕ) (origin count : ℕ) (output : Li
     → Writable memory origin count output → saveRefusal memory origin count output ≡ 0
 unfolding saveRefusal wrongSize beyondMemory tooShort
 writable-is-accepted memory origin count output a =
-    rw (eq-eqb (length memory) 65536 (a .size), le-ltb 65536 (origin + count) (a .fits), file-length origin count memory (omega (arith, a .size, a .fits)))
+    rw (
+      eq-eqb (length memory) 65536 (a .size),
+      le-ltb 65536 (origin + count) (a .fits),
+      file-length origin count memory
+          (omega (arith, a .size, a .fits)),
+    )
     (rw (le-ltb (length output) (2 + 2 * count) (a .room)))
 
 -- The answered refusal is 0 exactly where no test refuses.
@@ -74,14 +82,16 @@ unfolding loadBy
 load-refusal-answered zero file memory h = refl
 load-refusal-answered (suc n) file memory h = h
 
-save-refusal-answered : (n : ℕ) (memory : List ℕ) (origin count : ℕ) (output : List ℕ) → saveBy n memory origin count output .refusal ≡ 0 → n ≡ 0
+save-refusal-answered : (n : ℕ) (memory : List ℕ) (origin count : ℕ) (output : List ℕ)
+    → saveBy n memory origin count output .refusal ≡ 0 → n ≡ 0
 unfolding saveBy
 save-refusal-answered zero memory origin count output h = refl
 save-refusal-answered (suc n) memory origin count output h = h
 
 pub loaded-is-readable : (file memory : List ℕ) → loadOf file memory .refusal ≡ 0 → Readable file memory
 unfolding loadOf
-loaded-is-readable file memory h = accepted-is-readable file memory (load-refusal-answered (loadRefusal file memory) file memory h)
+loaded-is-readable file memory h = accepted-is-readable file memory
+    (load-refusal-answered (loadRefusal file memory) file memory h)
 
 pub readable-is-loaded : (file memory : List ℕ) → Readable file memory → loadOf file memory ≡ loadAccepted file memory
 unfolding loadOf loadBy
@@ -91,7 +101,8 @@ pub saved-is-writable : (memory : List ℕ) (origin count : ℕ) (output : List 
     → saveOf memory origin count output .refusal ≡ 0 → Writable memory origin count output
 unfolding saveOf
 saved-is-writable memory origin count output h =
-    accepted-is-writable memory origin count output (save-refusal-answered (saveRefusal memory origin count output) memory origin count output h)
+    accepted-is-writable memory origin count output
+    (save-refusal-answered (saveRefusal memory origin count output) memory origin count output h)
 
 pub writable-is-saved : (memory : List ℕ) (origin count : ℕ) (output : List ℕ)
     → Writable memory origin count output → saveOf memory origin count output ≡ saveAccepted memory origin count output

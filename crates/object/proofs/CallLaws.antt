@@ -1,5 +1,5 @@
--- The calls over plain lists. Accepted: the part of memory or output that is lent to a loop comes back in its place. Turned away: all
--- stays as it is.
+-- The calls over plain lists. Accepted: the part of memory or output that is lent to a loop comes back in its place.
+-- Turned away: all stays as it is.
 use Prim.Native.Nat.{ℕ, zero, suc, _+_, _-_, _*_, _/_, _%_, _≤_}
 use native.Mathlib.Omega.{arith}
 use mathlib.Core.Path.{_≡_, refl, ap, _∙_}
@@ -12,7 +12,8 @@ use Rattle.object.specs.Accepted.{Writable}
 use Rattle.object.proofs.Acceptance.{words-in, file-length}
 
 -- The words of a file, read into the part of memory that begins at its origin.
-module _ (file memory part : List ℕ) (origin : ℕ) (o : origin ≡ originIn file) (p : part ≡ wordsOf (take (length file - 2) (drop 2 file))) where
+module _ (file memory part : List ℕ) (origin : ℕ) (o : origin ≡ originIn file)
+    (p : part ≡ wordsOf (take (length file - 2) (drop 2 file))) where
   pub words-in-place :
       _≡_ {A = Loading}
       (record {
@@ -25,7 +26,8 @@ module _ (file memory part : List ℕ) (origin : ℕ) (o : origin ≡ originIn f
   unfolding loadAccepted
   words-in-place =
       let n : origin + (length file / 2 - 1) - origin ≡ length file / 2 - 1 = omega arith in
-      let w : part ≡ wordsIn file = (p ∙ ap wordsOf (take-all (length file - 2) (drop 2 file) (simp length-drop (omega arith)))) in
+      let w : part ≡ wordsIn file =
+      (p ∙ ap wordsOf (take-all (length file - 2) (drop 2 file) (simp length-drop (omega arith)))) in
       rw (n, drop-drop, ← words-in file, w, o)
 
 -- A file, whose origin is written first and whose words follow.
@@ -56,7 +58,12 @@ module _ (memory output part : List ℕ) (origin count : ℕ) (a : Writable memo
     file-in-place =
         let n : origin + count - origin ≡ count = omega arith in
         let w : part ≡ bytesOf (range origin count memory) = (rw n at p) in
-        rw (file-after-origin output (omega (arith, a .room)), w, ← file-length origin count memory (omega (arith, a .size, a .fits)))
+        rw (
+          file-after-origin output (omega (arith, a .room)),
+          w,
+          ← file-length origin count memory
+              (omega (arith, a .size, a .fits)),
+        )
 
     pub same-length-out :
         length
@@ -65,8 +72,10 @@ module _ (memory output part : List ℕ) (origin count : ℕ) (a : Writable memo
         ≡ length output
     unfolding saveAccepted
     same-length-out =
-        let l : length (fileOf origin (range origin count memory)) ≡ 2 + 2 * count = file-length origin count memory (omega (arith, a .size, a .fits)) in
-        ap (λ (s : Saving). length (s .output)) file-in-place ∙ simp (length-append, length-drop) (omega (arith, a .room))
+        let l : length (fileOf origin (range origin count memory))
+        ≡ 2 + 2 * count = file-length origin count memory (omega (arith, a .size, a .fits)) in
+        ap (λ (s : Saving). length (s .output)) file-in-place
+        ∙ simp (length-append, length-drop) (omega (arith, a .room))
 
 pub loading-turned-away : (n : ℕ) (file memory : List ℕ) → (n ≡ 0 → ⊥) →
     _≡_ {A = Loading} (record { origin = 0; words = 0; refusal = n; memory = memory }) (loadBy n file memory)

@@ -18,7 +18,8 @@ module _ (origin : ℕ) (words memory : List ℕ) (h : origin + length words ≤
   placed-before = take-at (take origin memory) (words ++ drop (origin + length words) memory) origin length-before
 
   pub placed-range : range origin (length words) (placed origin words memory) ≡ words
-  placed-range = ap (take (length words)) from-origin ∙ take-at words (drop (origin + length words) memory) (length words) refl
+  placed-range = ap (take (length words)) from-origin
+      ∙ take-at words (drop (origin + length words) memory) (length words) refl
 
   pub placed-after : drop (origin + length words) (placed origin words memory) ≡ drop (origin + length words) memory
   placed-after =

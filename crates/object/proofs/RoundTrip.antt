@@ -14,7 +14,8 @@ use Rattle.object.specs.File.{word, wordsOf, bytesOf, fileOf, originIn, 
 use Rattle.object.specs.Calls.{loadAccepted, loadOf, written, saveAccepted}
 use Rattle.object.specs.Accepted.{Readable, Writable}
 use Rattle.object.specs.RoundTrip.{Reproduced, SavedFileLoads, LoadedFileSaves}
-use Rattle.object.proofs.Acceptance.{words-in, file-length, loaded-is-readable, readable-is-loaded, saved-is-writable, writable-is-saved}
+use Rattle.object.proofs.Acceptance.{words-in, file-length, loaded-is-readable, readable-is-loaded}
+use Rattle.object.proofs.Acceptance.{saved-is-writable, writable-is-saved}
 use Rattle.object.proofs.PlacedLaws.{placed-before, placed-range, placed-after, placed-length}
 
 word-again : (w : ℕ) → word (w / 256) (w % 256) ≡ w
@@ -41,14 +42,16 @@ bytes-again (high ∷ low ∷ bytes) t h =
     let r : (high * 256 + low) % 256 ≡ low = omega arith in
     rw (q, r, bytes-again bytes (t₂ .1) (omega arith))
 
-file-again : (file : List ℕ) → areBytes file ≡ true → length file % 2 ≡ 0 → 2 ≤ length file → fileOf (originIn file) (wordsIn file) ≡ file
+file-again : (file : List ℕ) → areBytes file ≡ true → length file % 2 ≡ 0 → 2 ≤ length file
+    → fileOf (originIn file) (wordsIn file) ≡ file
 unfolding wordsOf bytesOf
 file-again [] t e h = absurd (omega arith)
 file-again (byte ∷ []) t e h = absurd (omega arith)
 file-again (high ∷ low ∷ bytes) t e h = bytes-again (high ∷ low ∷ bytes) t e
 
 -- The file of a range is accepted, and its words are placed at its origin.
-module _ (memory : List ℕ) (origin count : ℕ) (other : List ℕ) (s : length memory ≡ 65536) (f : origin + count ≤ 65536) (o : length other ≡ 65536) where
+module _ (memory : List ℕ) (origin count : ℕ) (other : List ℕ) (s : length memory ≡ 65536) (f : origin + count ≤ 65536)
+    (o : length other ≡ 65536) where
   range-length : length (range origin count memory) ≡ count
   range-length = simp (length-take, length-drop) (omega arith)
 
@@ -63,7 +66,8 @@ module _ (memory : List ℕ) (origin count : ℕ) (other : List ℕ) (s : length
   file-of-range-loads : Reproduced origin count memory other (loadOf (fileOf origin (range origin count memory)) other)
   unfolding loadAccepted
   file-of-range-loads =
-      let l : length (fileOf origin (range origin count memory)) ≡ 2 + 2 * count = file-length origin count memory (omega arith) in
+      let l : length (fileOf origin (range origin count memory))
+      ≡ 2 + 2 * count = file-length origin count memory (omega arith) in
       let r : Readable (fileOf origin (range origin count memory)) other = (record {
         size = o;
         even = rw l (omega arith);
@@ -85,7 +89,8 @@ pub saved-file-loads : SavedFileLoads
 unfolding saveAccepted
 saved-file-loads memory origin count output other h o =
     let w = saved-is-writable memory origin count output h in
-    rw (writable-is-saved memory origin count output w, take-append-seam) (file-of-range-loads memory origin count other (w .size) (w .fits) o)
+    rw (writable-is-saved memory origin count output w, take-append-seam)
+    (file-of-range-loads memory origin count other (w .size) (w .fits) o)
 
 pub loaded-file-saves : LoadedFileSaves
 unfolding loadAccepted saveAccepted
@@ -93,11 +98,17 @@ loaded-file-saves file memory output t h room =
     let r = loaded-is-readable file memory h in
     let n : length (wordsIn file) ≡ length file / 2 - 1 = words-in file in
     let fits : originIn file + length (wordsIn file) ≤ length memory = omega (arith, r .size, r .fits) in
-    let w : Writable (placed (originIn file) (wordsIn file) memory) (originIn file) (length (wordsIn file)) output = (record {
+    let w : Writable (placed (originIn file) (wordsIn file) memory) (originIn file) (length (wordsIn file)) output =
+    (record {
       size = placed-length (originIn file) (wordsIn file) memory fits ∙ r .size;
       fits = omega (arith, r .size);
       room = omega (arith, r .even, r .least);
     }) in
-    rw (readable-is-loaded file memory r, writable-is-saved (placed (originIn file) (wordsIn file) memory) (originIn file) (length (wordsIn file)) output w)
+    rw (
+      readable-is-loaded file memory r,
+      writable-is-saved (placed (originIn file) (wordsIn file) memory)
+          (originIn file) (length (wordsIn file)) output w,
+    )
     (ap (λ (f : List ℕ). written f output)
-    (ap (fileOf (originIn file)) (placed-range (originIn file) (wordsIn file) memory fits) ∙ file-again file t (r .even) (r .least)))
+    (ap (fileOf (originIn file)) (placed-range (originIn file) (wordsIn file) memory fits)
+    ∙ file-again file t (r .even) (r .least)))

@@ -1,5 +1,5 @@
--- Reading a file into memory and writing one from a range of memory, and how each is turned away: with zeros, and memory and output
--- as lent.
+-- Reading a file into memory and writing one from a range of memory, and how each is turned away: with zeros, and
+-- memory and output as lent.
 use Prim.Native.Nat.{ℕ, zero, suc, _+_, _%_}
 use mathlib.Core.Bool.{Bool, cond, _||_, not}
 use mathlib.Core.List.{List, _++_}

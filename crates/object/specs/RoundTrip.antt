@@ -33,4 +33,5 @@ abbrev pub LoadedFileSaves : Type 0
 LoadedFileSaves =
     (file memory output : List ℕ)
     → areBytes file ≡ true → loadOf file memory .refusal ≡ 0 → length file ≤ length output
-    → saveOf (loadOf file memory .memory) (loadOf file memory .origin) (loadOf file memory .words) output ≡ written file output
+    → saveOf (loadOf file memory .memory) (loadOf file memory .origin) (loadOf file memory .words) output
+    ≡ written file output

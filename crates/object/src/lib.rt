@@ -1,5 +1,5 @@
-// Object files: the origin, then the words from there on, high byte first in each. A file is read into lent memory, and written from
-// a range of it.
+// Object files: the origin, then the words from there on, high byte first in each. A file is read into lent memory, and
+// written from a range of it.
 ghost use mathlib.Core.Path.{_≡_};
 ghost use Rattle.object.specs.Calls.{loading, saving, loadAccepted, loadOf, saveAccepted, saveOf};
 ghost use Rattle.object.specs.Accepted.{Readable, Writable};
@@ -63,7 +63,8 @@ pub fn save(memory: &[u16], origin: u16, words: usize, output: &mut [u8]) -> Sav
 
 fn save_accepted(memory: &[u16], origin: u16, words: usize, output: &mut [u8]) -> Saved
     requires { ⌜ Writable (now memory) origin words (now output) ⌝ }
-    ensures { λ r. ⌜ saving r (now (output .exit)) ≡ saveAccepted (now (memory .entry)) origin words (now (output .entry)) ⌝ }
+    ensures { λ r. ⌜ saving r (now (output .exit))
+        ≡ saveAccepted (now (memory .entry)) origin words (now (output .entry)) ⌝ }
 {
     output[0] = words::high(origin);
     output[1] = words::low(origin);

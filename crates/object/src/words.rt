@@ -29,7 +29,8 @@ fn exchanged(x: u16) -> u16
     word(low(x), high(x))
 }
 
-// The two bytes from an index on, the second as the high byte: the order of the host's own words, so that one load reads both.
+// The two bytes from an index on, the second as the high byte: the order of the host's own words, so that one load
+// reads both.
 fn pair(bytes: &[u8], at: usize) -> u16
     requires { ⌜ at + 1 < length (now bytes) ⌝ }
     ensures { λ r. ⌜ (r % 256 ≡ getD (now (bytes .entry)) at 0) × (r / 256 ≡ getD (now (bytes .entry)) (at + 1) 0) ⌝ }

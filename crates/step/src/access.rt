@@ -22,10 +22,12 @@ ghost use Rattle.machine.specs.Devices.{kbsrAfterLoad, afterLoad};
 ghost use Rattle.machine.specs.Access.{loadTo, storeAt, byPointer};
 ghost use Rattle.step.specs.Delivery.{effect, quiet, after, delivered};
 
-// The record after an instruction. Every field is written out, here and wherever a `Control` is made anew: a copy that is then altered
-// lets the compiler pack neighbouring fields into one word, which costs a step a quarter more instructions.
+// The record after an instruction. Every field is written out, here and wherever a `Control` is made anew: a copy that
+// is then altered lets the compiler pack neighbouring fields into one word, which costs a step a quarter more
+// instructions.
 fn after_instruction(c: Control, pc: u16, psr: u16) -> Control
-    ensures { λ n. ⌜ ((regs : List ℕ) (clock : ℕ) (codes : Codes) → psr ≡ recoded codes (c .psr) → whole regs clock n ≡ afterInstruction regs pc codes (whole regs clock c)) ⌝ }
+    ensures { λ n. ⌜ ((regs : List ℕ) (clock : ℕ) (codes : Codes) → psr ≡ recoded codes (c .psr) → whole regs clock n
+        ≡ afterInstruction regs pc codes (whole regs clock c)) ⌝ }
 {
     let devices = c.devices;
     Control {
@@ -39,7 +41,8 @@ fn after_instruction(c: Control, pc: u16, psr: u16) -> Control
 
 // An instruction that puts a value in a register and sets the codes from it.
 pub fn move_to(c: Control, regs: &mut [u16; 8], r: u8, v: u16, pc: u16) -> Control
-    ensures { λ n. ⌜ ((clock : ℕ) → whole (now (regs .exit)) clock n ≡ afterInstruction (withRegister (now (regs .entry)) r v) pc (setFrom v) (whole (now (regs .entry)) clock c)) ⌝ }
+    ensures { λ n. ⌜ ((clock : ℕ) → whole (now (regs .exit)) clock n
+        ≡ afterInstruction (withRegister (now (regs .entry)) r v) pc (setFrom v) (whole (now (regs .entry)) clock c)) ⌝ }
 {
     set_register(regs, r, v);
     after_instruction(c, pc, with_codes(c.psr, v))
@@ -47,7 +50,8 @@ pub fn move_to(c: Control, regs: &mut [u16; 8], r: u8, v: u16, pc: u16) -> Contr
 
 // An instruction that puts a value in a register.
 pub fn put_in(c: Control, regs: &mut [u16; 8], r: u8, v: u16, pc: u16) -> Control
-    ensures { λ n. ⌜ ((clock : ℕ) → whole (now (regs .exit)) clock n ≡ afterInstruction (withRegister (now (regs .entry)) r v) pc kept (whole (now (regs .entry)) clock c)) ⌝ }
+    ensures { λ n. ⌜ ((clock : ℕ) → whole (now (regs .exit)) clock n
+        ≡ afterInstruction (withRegister (now (regs .entry)) r v) pc kept (whole (now (regs .entry)) clock c)) ⌝ }
 {
     set_register(regs, r, v);
     after_instruction(c, pc, c.psr)
@@ -55,21 +59,24 @@ pub fn put_in(c: Control, regs: &mut [u16; 8], r: u8, v: u16, pc: u16) -> Contro
 
 // An instruction that goes on at this PC.
 pub fn go_on_at(c: Control, pc: u16) -> Control
-    ensures { λ n. ⌜ ((regs : List ℕ) (clock : ℕ) → whole regs clock n ≡ afterInstruction regs pc kept (whole regs clock c)) ⌝ }
+    ensures { λ n. ⌜ ((regs : List ℕ) (clock : ℕ) → whole regs clock n
+        ≡ afterInstruction regs pc kept (whole regs clock c)) ⌝ }
 {
     after_instruction(c, pc, c.psr)
 }
 
 // The record after a load, by its KBSR.
 fn after_load(c: Control, kbsr: u16) -> Control
-    ensures { λ n. ⌜ ((a clock : ℕ) (regs : List ℕ) → kbsr ≡ kbsrAfterLoad a (c .devices .kbsr) → whole regs clock n ≡ afterLoad a (whole regs clock c)) ⌝ }
+    ensures { λ n. ⌜ ((a clock : ℕ) (regs : List ℕ) → kbsr ≡ kbsrAfterLoad a (c .devices .kbsr) → whole regs clock n
+        ≡ afterLoad a (whole regs clock c)) ⌝ }
 {
     with_kbsr(c, kbsr)
 }
 
 pub fn load_to(c: Control, regs: &mut [u16; 8], memory: &mut [u16], r: u8, a: u16) -> Control
     requires { ⌜ length (now memory) ≡ 65536 ⌝ }
-    ensures { λ n. ⌜ ((clock : ℕ) → quiet (whole (now (regs .exit)) clock n) (now (memory .exit)) ≡ effect (loadTo r a (whole (now (regs .entry)) clock c) (now (memory .entry)))) ⌝ }
+    ensures { λ n. ⌜ ((clock : ℕ) → quiet (whole (now (regs .exit)) clock n) (now (memory .exit))
+        ≡ effect (loadTo r a (whole (now (regs .entry)) clock c) (now (memory .entry)))) ⌝ }
 {
     if is_denied(c.psr, a) {
         return raise(c, regs, memory, 0x0102, c.pc);
@@ -88,7 +95,9 @@ pub fn store_at(
     a: u16,
 ) -> Obeyed
     requires { ⌜ length (now memory) ≡ 65536 ⌝ }
-    ensures { λ o. ⌜ ((clock : ℕ) → after o (now (regs .exit)) clock (now (memory .exit)) (now (output .exit)) ≡ delivered (now (regs .entry)) (now (memory .entry)) (now (output .entry)) (effect (storeAt v a (whole (now (regs .entry)) clock c) (now (memory .entry))))) ⌝ }
+    ensures { λ o. ⌜ ((clock : ℕ) → after o (now (regs .exit)) clock (now (memory .exit)) (now (output .exit))
+        ≡ delivered (now (regs .entry)) (now (memory .entry)) (now (output .entry))
+        (effect (storeAt v a (whole (now (regs .entry)) clock c) (now (memory .entry))))) ⌝ }
 {
     if is_denied(c.psr, a) {
         return unshown(raise(c, regs, memory, 0x0102, c.pc));
@@ -100,7 +109,8 @@ pub fn store_at(
 // LDI: the pointer is loaded, then the word that it points to.
 pub fn load_by(c: Control, regs: &mut [u16; 8], memory: &mut [u16], r: u8, a: u16) -> Control
     requires { ⌜ length (now memory) ≡ 65536 ⌝ }
-    ensures { λ n. ⌜ ((clock : ℕ) → quiet (whole (now (regs .exit)) clock n) (now (memory .exit)) ≡ effect (byPointer a (loadTo r) (whole (now (regs .entry)) clock c) (now (memory .entry)))) ⌝ }
+    ensures { λ n. ⌜ ((clock : ℕ) → quiet (whole (now (regs .exit)) clock n) (now (memory .exit))
+        ≡ effect (byPointer a (loadTo r) (whole (now (regs .entry)) clock c) (now (memory .entry)))) ⌝ }
 {
     if is_denied(c.psr, a) {
         return raise(c, regs, memory, 0x0102, c.pc);
@@ -120,7 +130,9 @@ pub fn store_by(
     a: u16,
 ) -> Obeyed
     requires { ⌜ length (now memory) ≡ 65536 ⌝ }
-    ensures { λ o. ⌜ ((clock : ℕ) → after o (now (regs .exit)) clock (now (memory .exit)) (now (output .exit)) ≡ delivered (now (regs .entry)) (now (memory .entry)) (now (output .entry)) (effect (byPointer a (storeAt v) (whole (now (regs .entry)) clock c) (now (memory .entry))))) ⌝ }
+    ensures { λ o. ⌜ ((clock : ℕ) → after o (now (regs .exit)) clock (now (memory .exit)) (now (output .exit))
+        ≡ delivered (now (regs .entry)) (now (memory .entry)) (now (output .entry))
+        (effect (byPointer a (storeAt v) (whole (now (regs .entry)) clock c) (now (memory .entry))))) ⌝ }
 {
     if is_denied(c.psr, a) {
         return unshown(raise(c, regs, memory, 0x0102, c.pc));

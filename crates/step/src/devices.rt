@@ -57,7 +57,8 @@ pub fn unshown(c: Control) -> Obeyed
 
 // DDR: the byte is shown at the start of the output, if it has room.
 fn show(c: Control, output: &mut [u8], v: u16) -> Obeyed
-    ensures { λ r. ⌜ ((regs memory : List ℕ) (clock : ℕ) → after r regs clock memory (now (output .exit)) ≡ delivered regs memory (now (output .entry)) (effect (ddrStore v (whole regs clock c) memory))) ⌝ }
+    ensures { λ r. ⌜ ((regs memory : List ℕ) (clock : ℕ) → after r regs clock memory (now (output .exit))
+        ≡ delivered regs memory (now (output .entry)) (effect (ddrStore v (whole regs clock c) memory))) ⌝ }
 {
     if output.len() == 0 {
         return Obeyed {
@@ -100,7 +101,9 @@ fn with_psr(c: Control, psr: u16) -> Control
 
 pub fn store(c: Control, memory: &mut [u16], output: &mut [u8], v: u16, a: u16) -> Obeyed
     requires { ⌜ length (now memory) ≡ 65536 ⌝ }
-    ensures { λ r. ⌜ ((regs : List ℕ) (clock : ℕ) → after r regs clock (now (memory .exit)) (now (output .exit)) ≡ delivered regs (now (memory .entry)) (now (output .entry)) (effect (stored v a (whole regs clock c) (now (memory .entry))))) ⌝ }
+    ensures { λ r. ⌜ ((regs : List ℕ) (clock : ℕ) → after r regs clock (now (memory .exit)) (now (output .exit))
+        ≡ delivered regs (now (memory .entry)) (now (output .entry))
+        (effect (stored v a (whole regs clock c) (now (memory .entry))))) ⌝ }
 {
     match a {
         0xFE00 => {

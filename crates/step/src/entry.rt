@@ -43,7 +43,9 @@ fn enter(
     psr: u16,
 ) -> Control
     requires { ⌜ length (now memory) ≡ 65536 ⌝ }
-    ensures { λ r. ⌜ ((clock : ℕ) (reason : Reason) → vectorOf reason ≡ vector → quiet (whole (now (regs .exit)) clock r) (now (memory .exit)) ≡ effect (entry reason pc psr (whole (now (regs .entry)) clock c) (now (memory .entry)))) ⌝ }
+    ensures { λ r. ⌜ ((clock : ℕ) (reason : Reason) → vectorOf reason ≡ vector
+        → quiet (whole (now (regs .exit)) clock r) (now (memory .exit))
+        ≡ effect (entry reason pc psr (whole (now (regs .entry)) clock c) (now (memory .entry)))) ⌝ }
 {
     let r6 = register(regs, 6);
     let sp = by_mode(c.psr, c.saved_ssp, r6);
@@ -64,7 +66,9 @@ fn enter(
 // A trap or an exception: the priority stays.
 pub fn raise(c: Control, regs: &mut [u16; 8], memory: &mut [u16], vector: u16, pc: u16) -> Control
     requires { ⌜ length (now memory) ≡ 65536 ⌝ }
-    ensures { λ r. ⌜ ((clock : ℕ) (reason : Reason) → vectorOf reason ≡ vector → quiet (whole (now (regs .exit)) clock r) (now (memory .exit)) ≡ effect (raised reason pc (whole (now (regs .entry)) clock c) (now (memory .entry)))) ⌝ }
+    ensures { λ r. ⌜ ((clock : ℕ) (reason : Reason) → vectorOf reason ≡ vector
+        → quiet (whole (now (regs .exit)) clock r) (now (memory .exit))
+        ≡ effect (raised reason pc (whole (now (regs .entry)) clock c) (now (memory .entry)))) ⌝ }
 {
     enter(c, regs, memory, vector, pc, c.psr % 0x8000)
 }
@@ -78,7 +82,8 @@ pub fn interrupt(
     priority: u16,
 ) -> Control
     requires { ⌜ length (now memory) ≡ 65536 ⌝ }
-    ensures { λ r. ⌜ ((clock : ℕ) → quiet (whole (now (regs .exit)) clock r) (now (memory .exit)) ≡ effect (interrupted vector priority (whole (now (regs .entry)) clock c) (now (memory .entry)))) ⌝ }
+    ensures { λ r. ⌜ ((clock : ℕ) → quiet (whole (now (regs .exit)) clock r) (now (memory .exit))
+        ≡ effect (interrupted vector priority (whole (now (regs .entry)) clock c) (now (memory .entry)))) ⌝ }
 {
     enter(
         c,

@@ -22,7 +22,8 @@ pub fn press(c: Control, byte: u8) -> Control
 
 pub fn arrive(c: Control, t: u64, times: &[u64], bytes: &[u8], from: usize) -> Arrived
     requires { ⌜ length (now times) ≡ length (now bytes) ⌝ }
-    ensures { λ r. ⌜ ((regs : List ℕ) (clock : ℕ) → arrival regs clock r ≡ arrivalOf t (drop from (now (times .entry))) (drop from (now (bytes .entry))) (whole regs clock c) from) ⌝ }
+    ensures { λ r. ⌜ ((regs : List ℕ) (clock : ℕ) → arrival regs clock r
+        ≡ arrivalOf t (drop from (now (times .entry))) (drop from (now (bytes .entry))) (whole regs clock c) from) ⌝ }
 {
     let mut n = c;
     let mut k = from;

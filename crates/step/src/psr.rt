@@ -2,8 +2,8 @@
 ghost use mathlib.Core.Path.{_≡_};
 ghost use Rattle.machine.specs.Psr.{definedPsr, setFrom, recoded, isTaken};
 
-// The PSR with its codes set from a result: N is 4, Z is 2, P is 1. The sign is tested first: the other order takes three to four
-// instructions more.
+// The PSR with its codes set from a result: N is 4, Z is 2, P is 1. The sign is tested first: the other order takes
+// three to four instructions more.
 pub fn with_codes(psr: u16, v: u16) -> u16
     ensures { λ r. ⌜ r ≡ recoded (setFrom v) psr ⌝ }
 {

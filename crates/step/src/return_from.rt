@@ -15,7 +15,8 @@ ghost use Rattle.step.specs.Delivery.{effect, quiet};
 
 // The record with this PC and PSR popped, and R6 above them at sp.
 fn after_return(c: Control, regs: &mut [u16; 8], pc: u16, psr: u16, sp: u16) -> Control
-    ensures { λ r. ⌜ ((clock : ℕ) → whole (now (regs .exit)) clock r ≡ afterReturn pc psr sp (whole (now (regs .entry)) clock c)) ⌝ }
+    ensures { λ r. ⌜ ((clock : ℕ) → whole (now (regs .exit)) clock r
+        ≡ afterReturn pc psr sp (whole (now (regs .entry)) clock c)) ⌝ }
 {
     let devices = c.devices;
     if psr < 0x8000 {
@@ -40,7 +41,8 @@ fn after_return(c: Control, regs: &mut [u16; 8], pc: u16, psr: u16, sp: u16) -> 
 
 pub fn return_from_interrupt(c: Control, regs: &mut [u16; 8], memory: &mut [u16]) -> Control
     requires { ⌜ length (now memory) ≡ 65536 ⌝ }
-    ensures { λ r. ⌜ ((clock : ℕ) → quiet (whole (now (regs .exit)) clock r) (now (memory .exit)) ≡ effect (return (whole (now (regs .entry)) clock c) (now (memory .entry)))) ⌝ }
+    ensures { λ r. ⌜ ((clock : ℕ) → quiet (whole (now (regs .exit)) clock r) (now (memory .exit))
+        ≡ effect (return (whole (now (regs .entry)) clock c) (now (memory .entry)))) ⌝ }
 {
     if c.psr < 0x8000 {
         let sp = register(regs, 6);

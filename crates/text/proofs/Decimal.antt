@@ -1,4 +1,5 @@
--- The digits of a number: the bound on the recursion is never met, and `decimal` divides by ten down to a number below ten.
+-- The digits of a number: the bound on the recursion is never met, and `decimal` divides by ten down to a number below
+-- ten.
 use Prim.Native.Nat.{ℕ, zero, suc, zero-le, _+_, _/_, _%_, _<_, _≤_}
 use native.Mathlib.Omega.{arith}
 use mathlib.Core.Path.{_≡_, refl, ap}
@@ -42,7 +43,8 @@ one-more n k p q =
     omega (arith, ap length (digits-before n p), length-append (decimal (n / 10)) (digit (n % 10) ∷ []))
 
 -- a number has no more digits than it has numbers up to it
-few : (t : Bool) (n k : ℕ) (l : List ℕ) → length l ≤ k → length (cond t (digit n ∷ []) (l ++ digit (n % 10) ∷ [])) ≤ suc k
+few : (t : Bool) (n k : ℕ) (l : List ℕ) → length l ≤ k
+    → length (cond t (digit n ∷ []) (l ++ digit (n % 10) ∷ [])) ≤ suc k
 few true n k l p = omega arith
 few false n k l p = omega (arith, length-append l (digit (n % 10) ∷ []))
 

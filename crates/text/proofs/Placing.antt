@@ -15,7 +15,8 @@ pub put-nothing : (at : ℕ) (out : List ℕ) → Put at [] out at out
 put-nothing at out = record { place = sym (add-zero at); bytes = paste-zero out at [] }
 
 -- two texts in a row
-pub then : {at n m : ℕ} {s t out mid end : List ℕ} → Put at s out n mid → Put n t mid m end → at ≤ length out → Put at (s ++ t) out m end
+pub then : {at n m : ℕ} {s t out mid end : List ℕ} → Put at s out n mid → Put n t mid m end → at ≤ length out
+    → Put at (s ++ t) out m end
 then {at} {n} {m} {s} {t} {out} {mid} {end} p q inside =
     record { place = omega (arith, p .place, q .place, length-append s t); bytes = bytes }
   where

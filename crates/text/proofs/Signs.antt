@@ -14,11 +14,13 @@ use borrow.Author.Tests.{ltb-true}
 use Rattle.text.specs.Characters.{lineFeed, hash, minus}
 use Rattle.text.specs.Operands.{decimal, signedNumber}
 
-pub below-zero : (n : ℤ) → SFits w16 n → ltZ (toZ w16 (ofZ w16 n)) (pos 0) ≡ true → signedNumber n ≡ hash ∷ minus ∷ decimal (mag n + 1)
+pub below-zero : (n : ℤ) → SFits w16 n → ltZ (toZ w16 (ofZ w16 n)) (pos 0) ≡ true → signedNumber n ≡ hash ∷ minus
+    ∷ decimal (mag n + 1)
 below-zero (pos n) f t = absurd (omega (arith, ltb-true n 0 (rw (toZ-ofZ f) at t)))
 below-zero (negsuc n) f t = refl
 
-pub not-below-zero : (n : ℤ) → SFits w16 n → ltZ (toZ w16 (ofZ w16 n)) (pos 0) ≡ false → signedNumber n ≡ hash ∷ decimal (mag n)
+pub not-below-zero : (n : ℤ) → SFits w16 n → ltZ (toZ w16 (ofZ w16 n)) (pos 0) ≡ false → signedNumber n ≡ hash
+    ∷ decimal (mag n)
 not-below-zero (pos n) f t = refl
 not-below-zero (negsuc n) f t =
     let u : true ≡ false = rw (toZ-ofZ f) at t in

@@ -12,7 +12,8 @@ use borrow.Author.Tests.{ltb-true}
 use Rattle.word.specs.Field.{bits}
 
 -- the complement of a negative number is its size
-pub complement : (n : ℤ) → SFits w16 n → ltZ (toZ w16 (ofZ w16 n)) (pos 0) ≡ true → toZ w16 (65535 - ofZ w16 n) ≡ pos (mag n)
+pub complement : (n : ℤ) → SFits w16 n → ltZ (toZ w16 (ofZ w16 n)) (pos 0) ≡ true → toZ w16 (65535 - ofZ w16 n)
+    ≡ pos (mag n)
 complement (pos n) f t = absurd (omega (arith, ltb-true n 0 (rw (toZ-ofZ f) at t)))
 complement (negsuc n) f t =
     let e : 65535 - (65536 - suc n) ≡ n = omega (arith, f .sfits) in
@@ -26,7 +27,8 @@ not-negative (negsuc n) f t =
     let w : _≡_ {A = ℕ} 0 1 = cc in absurd (omega arith)
 
 -- the pattern of a negative number
-pub negative-pattern : (h : ℕ) (n : ℤ) → SFits w16 n → ltZ (toZ w16 (ofZ w16 n)) (pos 0) ≡ true → bits h n ≡ h + h - suc (mag n)
+pub negative-pattern : (h : ℕ) (n : ℤ) → SFits w16 n → ltZ (toZ w16 (ofZ w16 n)) (pos 0) ≡ true → bits h n
+    ≡ h + h - suc (mag n)
 negative-pattern h (pos n) f t = absurd (omega (arith, ltb-true n 0 (rw (toZ-ofZ f) at t)))
 negative-pattern h (negsuc n) f t = refl
 

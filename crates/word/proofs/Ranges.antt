@@ -1,5 +1,5 @@
--- What is read is in range, by the opcode; and what is in range is written and nothing else, since the tests of `writeOf` are the
--- bounds of `InRange`.
+-- What is read is in range, by the opcode; and what is in range is written and nothing else, since the tests of
+-- `writeOf` are the bounds of `InRange`.
 use Prim.Native.Nat.{ℕ, _/_, _%_, _<_}
 use native.Mathlib.Omega.{arith}
 use mathlib.Core.Path.{_≡_, refl}
@@ -13,7 +13,9 @@ use Rattle.word.specs.Writing.{allUpTo7, registersInRange, fieldInRange,
 use Rattle.word.specs.Range.{InRange}
 use Rattle.word.specs.Theorems.{ReadInRange, WrittenInRange, NotRefusedExactly}
 use Rattle.word.specs.declared.Instruction.{Instruction}
-use Rattle.word.specs.declared.Instruction.the-variants.{Br, AddRegister, AddImmediate, Ld, St, Jsr, Jsrr, AndRegister, AndImmediate, Ldr, Str, Rti, Not, Ldi, Sti, Jmp, Reserved, Lea, Trap}
+use Rattle.word.specs.declared.Instruction.the-variants.{Br, AddRegister, AddImmediate, Ld, St, Jsr, Jsrr}
+use Rattle.word.specs.declared.Instruction.the-variants.{AndRegister, AndImmediate, Ldr, Str, Rti, Not, Ldi, Sti}
+use Rattle.word.specs.declared.Instruction.the-variants.{Jmp, Reserved, Lea, Trap}
 use Rattle.word.proofs.SignedFields.{signed-fields-of-the-figure as fields}
 use Rattle.word.proofs.Opcodes.{form, Below, _&_, each}
 use Rattle.word.proofs.Refusals.{refusals-in-order}
@@ -81,12 +83,18 @@ one-and : (a : ℕ) (t : Bool) → Pass (allUpTo7 (a ∷ [])) t true ↔ ((a < 8
 one-and a t = (λ p. (tested (a ∷ []) (p .0) .0, p .1), λ r. (test (a ∷ []) (r .0, tt), r .1, refl))
 
 two-and : (a b : ℕ) (t : Bool) → Pass (allUpTo7 (a ∷ b ∷ [])) t true ↔ ((a < 8) × (b < 8) × (t ≡ true))
-two-and a b t =
-    (λ p. let u = tested (a ∷ b ∷ []) (p .0) in (u .0, u .1 .0, p .1), λ r. (test (a ∷ b ∷ []) (r .0, (r .1, tt)), r .2, refl))
+two-and a b t = (
+  λ p. let u = tested (a ∷ b ∷ []) (p .0) in (u .0, u .1 .0, p .1),
+  λ r.
+      (test (a ∷ b ∷ []) (r .0, (r .1, tt)), r .2, refl),
+)
 
 three : (a b c : ℕ) → Pass (allUpTo7 (a ∷ b ∷ c ∷ [])) true true ↔ ((a < 8) × (b < 8) × (c < 8))
-three a b c =
-    (λ p. let u = tested (a ∷ b ∷ c ∷ []) (p .0) in (u .0, u .1 .0, u .1 .1 .0), λ r. (test (a ∷ b ∷ c ∷ []) (r .0, (r .1, (r .2, tt))), refl, refl))
+three a b c = (
+  λ p. let u = tested (a ∷ b ∷ c ∷ []) (p .0) in (u .0, u .1 .0, u .1 .1 .0),
+  λ r.
+      (test (a ∷ b ∷ c ∷ []) (r .0, (r .1, (r .2, tt))), refl, refl),
+)
 
 two : (a b : ℕ) → Pass (allUpTo7 (a ∷ b ∷ [])) true true ↔ ((a < 8) × (b < 8))
 two a b = (λ p. let r = two-and a b true .0 p in (r .0, r .1), λ r. two-and a b true .1 (r .0, r .1, refl))

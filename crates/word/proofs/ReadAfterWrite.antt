@@ -1,5 +1,5 @@
--- Read after write gives the instruction back: the parts of a word of Figure A.2 are those that it was put together from, by linear
--- arithmetic for each form.
+-- Read after write gives the instruction back: the parts of a word of Figure A.2 are those that it was put together
+-- from, by linear arithmetic for each form.
 use Prim.Native.Nat.{ℕ, _+_, _*_, _/_, _%_, _<_}
 use native.Mathlib.Omega.{arith}
 use mathlib.Core.Path.{_≡_, refl, ap, _∙_}
@@ -10,7 +10,9 @@ use Rattle.word.specs.Writing.{wordOf}
 use Rattle.word.specs.Range.{Within, InRange}
 use Rattle.word.specs.Theorems.{ReadAfterWrite}
 use Rattle.word.specs.declared.Instruction.{Instruction}
-use Rattle.word.specs.declared.Instruction.the-variants.{Br, AddRegister, AddImmediate, Ld, St, Jsr, Jsrr, AndRegister, AndImmediate, Ldr, Str, Rti, Not, Ldi, Sti, Jmp, Reserved, Lea, Trap}
+use Rattle.word.specs.declared.Instruction.the-variants.{Br, AddRegister, AddImmediate, Ld, St, Jsr, Jsrr}
+use Rattle.word.specs.declared.Instruction.the-variants.{AndRegister, AndImmediate, Ldr, Str, Rti, Not, Ldi, Sti}
+use Rattle.word.specs.declared.Instruction.the-variants.{Jmp, Reserved, Lea, Trap}
 use Rattle.word.specs.declared.Written.{Written}
 use Rattle.word.proofs.SignedFields.{signed-fields-of-the-figure as fields}
 use Rattle.word.proofs.Opcodes.{form, read-as}
@@ -48,7 +50,8 @@ module _ (k : ℕ) where
       let e : k * 4096 + 32 + d * 512 + s * 64 + x ≡ w = omega arith in
       let u : w % 32 ≡ x = low-5 w x l (t .low) in
       ap readOf e
-      ∙ (read-as w k (t .code) ∙ (f w (bit-5 w x l (t .low)) ∙ rw (t .first, t .second, u, fields .imm5 .number-back n r)))
+      ∙ (read-as w k (t .code) ∙ (f w (bit-5 w x l (t .low))
+      ∙ rw (t .first, t .second, u, fields .imm5 .number-back n r)))
     where
       low-5 : (w x : ℕ) → x < 32 → w % 64 ≡ 32 + x → w % 32 ≡ x
       low-5 w x l e = omega arith

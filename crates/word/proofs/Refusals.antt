@@ -5,7 +5,8 @@ use mathlib.Core.Path.{_≡_, refl, sym}
 use mathlib.Core.Logic.{_↔_}
 use mathlib.Core.Bool.{Bool, true, false, cond}
 use lib.Dec.{eqb}
-use Rattle.word.specs.Writing.{wordOf, registersInRange, fieldInRange, maskInRange, refusal, written, refused, answer, writeOf}
+use Rattle.word.specs.Writing.{wordOf, registersInRange, fieldInRange, maskInRange, refusal, written, refused}
+use Rattle.word.specs.Writing.{answer, writeOf}
 use Rattle.word.specs.Theorems.{RefusalsInOrder, RefusedWordIsZero}
 
 -- two claims that both hold, and two of which neither does

@@ -1,5 +1,5 @@
--- The laws of signed fields. Each is proved once, by cases on the sign and linear arithmetic, for every h, the half of a field's
--- patterns; a field of k bits is the case h = 2 ^ (k - 1).
+-- The laws of signed fields. Each is proved once, by cases on the sign and linear arithmetic, for every h, the half of
+-- a field's patterns; a field of k bits is the case h = 2 ^ (k - 1).
 use Prim.Native.Nat.{ℕ, zero, suc, zero-le, _+_, _-_, _%_, _<_, _≤_, _^_}
 use native.Mathlib.Omega.{arith}
 use native.Mathlib.Nat.{mod-lt, mod-eq-of-lt}
@@ -80,12 +80,14 @@ module _ (k : ℕ) (wide : 1 ≤ k) where
   pattern v p = omega (arith, double k wide)
 
   range : (w : ℕ) → Within (half k) (field k w)
-  range w = size-within (half k) (field k w) (number-size (half k) (w % 2 ^ k) (pattern (w % 2 ^ k) (mod-lt w (pow-pos k))))
+  range w = size-within (half k) (field k w)
+      (number-size (half k) (w % 2 ^ k) (pattern (w % 2 ^ k) (mod-lt w (pow-pos k))))
 
   fits : (n : ℤ) → Within (half k) n → bits (half k) n < 2 ^ k
   fits n p = omega (arith, double k wide, pattern-fits (half k) n (within-bound (half k) n p))
 
-  extension : (j v : ℕ) → k ≤ j → v < 2 ^ k → bits (half j) (signed (half k) v) ≡ v + cond (ltb v (half k)) 0 (2 ^ j - 2 ^ k)
+  extension : (j v : ℕ) → k ≤ j → v < 2 ^ k → bits (half j) (signed (half k) v)
+      ≡ v + cond (ltb v (half k)) 0 (2 ^ j - 2 ^ k)
   extension j v p q =
       rw (← double k wide, ← double j (omega arith))
       (extended (half k) (half j) v (pow-mono (omega arith)) (pattern v q))

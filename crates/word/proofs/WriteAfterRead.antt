@@ -1,5 +1,5 @@
--- Write after read gives the word with its fixed bits as in Figure A.2: what is read is in range, so it is written, and for each
--- opcode its word is that one, by linear arithmetic.
+-- Write after read gives the word with its fixed bits as in Figure A.2: what is read is in range, so it is written, and
+-- for each opcode its word is that one, by linear arithmetic.
 use Prim.Native.Nat.{ℕ, _+_, _-_, _*_, _/_, _%_, _<_}
 use native.Mathlib.Omega.{arith}
 use mathlib.Core.Path.{_≡_, refl, sym, ap, _∙_}
@@ -13,9 +13,12 @@ use Rattle.word.specs.Reading.{bits11to9, bits8to6, bits2to0, opcode, re
 use Rattle.word.specs.Writing.{wordOf, written, writeOf}
 use Rattle.word.specs.Range.{InRange}
 use Rattle.word.specs.FixedBits.{fixedOperand, fixedJsr, fixedForms, fixedOf}
-use Rattle.word.specs.Theorems.{WriteAfterRead, WriteAfterReadExactly, ReadingIgnoresFixedBits, WritingSetsFixedBits}
+use Rattle.word.specs.Theorems.{WriteAfterRead, WriteAfterReadExactly, ReadingIgnoresFixedBits}
+use Rattle.word.specs.Theorems.{WritingSetsFixedBits}
 use Rattle.word.specs.declared.Instruction.{Instruction}
-use Rattle.word.specs.declared.Instruction.the-variants.{Br, AddRegister, AddImmediate, Ld, St, Jsr, Jsrr, AndRegister, AndImmediate, Ldr, Str, Rti, Not, Ldi, Sti, Jmp, Reserved, Lea, Trap}
+use Rattle.word.specs.declared.Instruction.the-variants.{Br, AddRegister, AddImmediate, Ld, St, Jsr, Jsrr}
+use Rattle.word.specs.declared.Instruction.the-variants.{AndRegister, AndImmediate, Ldr, Str, Rti, Not, Ldi, Sti}
+use Rattle.word.specs.declared.Instruction.the-variants.{Jmp, Reserved, Lea, Trap}
 use Rattle.word.specs.declared.Written.{Written}
 use Rattle.word.proofs.SignedFields.{signed-fields-of-the-figure as fields}
 use Rattle.word.proofs.Opcodes.{form, Below, _&_, each}
@@ -59,11 +62,13 @@ with-operand : (w k : ℕ) (R : ℕ → ℕ → ℕ → Instruction) (I : ℕ �
     → ((d s t : ℕ) → wordOf (R d s t) ≡ k * 4096 + d * 512 + s * 64 + t)
     → ((d s : ℕ) (n : ℤ) → wordOf (I d s n) ≡ k * 4096 + 32 + d * 512 + s * 64 + bits 16 n)
     → opcode w ≡ k
-    → wordOf (cond (eqb (w / 32 % 2) 0) (R (bits11to9 w) (bits8to6 w) (bits2to0 w)) (I (bits11to9 w) (bits8to6 w) (field 5 w))) ≡ fixedOperand w
+    → wordOf (cond (eqb (w / 32 % 2) 0) (R (bits11to9 w) (bits8to6 w) (bits2to0 w))
+    (I (bits11to9 w) (bits8to6 w) (field 5 w))) ≡ fixedOperand w
 with-operand w k R I fr fi e = go (eqb (w / 32 % 2) 0) refl
   where
     go : (t : Bool) → eqb (w / 32 % 2) 0 ≡ t
-        → wordOf (cond t (R (bits11to9 w) (bits8to6 w) (bits2to0 w)) (I (bits11to9 w) (bits8to6 w) (field 5 w))) ≡ cond t (w - w / 8 % 4 * 8) w
+        → wordOf (cond t (R (bits11to9 w) (bits8to6 w) (bits2to0 w)) (I (bits11to9 w) (bits8to6 w) (field 5 w)))
+        ≡ cond t (w - w / 8 % 4 * 8) w
     go true z = fr _ _ _ ∙ with-register w k e (eqb-true (w / 32 % 2) 0 z)
     go false z = fi _ _ _ ∙ with-imm5 w k e (one (w / 32) (eqb-false (w / 32 % 2) 0 z))
 
@@ -118,7 +123,8 @@ write-after-read-exactly w h =
 -- ---- fixed bits
 read-fixed : (w : ℕ) → w < 65536 → readOf (fixedOf w) ≡ readOf w
 read-fixed w h =
-    ap (λ (r : Written). readOf (r .word)) (sym (write-after-read w h)) ∙ read-after-write (readOf w) (read-in-range w h)
+    ap (λ (r : Written). readOf (r .word)) (sym (write-after-read w h))
+    ∙ read-after-write (readOf w) (read-in-range w h)
 
 pub reading-ignores-fixed-bits : ReadingIgnoresFixedBits
 reading-ignores-fixed-bits v w p q e = sym (read-fixed v p) ∙ (ap readOf e ∙ read-fixed w q)

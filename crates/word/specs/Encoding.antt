@@ -1,5 +1,6 @@
--- The forms that the private functions of src/writing.rt encode; only their contracts cite this file. Each is what `writeOf` gives
--- the instructions of that form, over the opcode with the fixed bits and the numbers to be put in place.
+-- The forms that the private functions of src/writing.rt encode; only their contracts cite this file. Each is what
+-- `writeOf` gives the instructions of that form, over the opcode with the fixed bits and the numbers to be put in
+-- place.
 use Prim.Native.Nat.{ℕ, _+_, _*_}
 use mathlib.Core.Bool.{true}
 use mathlib.Core.List.{[], _∷_}
@@ -11,7 +12,8 @@ use Rattle.word.specs.declared.Written.{Written}
 
 -- registers at bits 9 and 6, and a signed field of h + h patterns at bit 0
 abbrev pub fieldForm : ℕ → ℕ → ℕ → ℕ → ℤ → Written
-fieldForm fixed a b h n = answer (refusal (allUpTo7 (a ∷ b ∷ [])) (within h n) true) (fixed + a * 512 + b * 64 + bits h n)
+fieldForm fixed a b h n = answer (refusal (allUpTo7 (a ∷ b ∷ [])) (within h n) true)
+    (fixed + a * 512 + b * 64 + bits h n)
 
 -- registers at bits 9, 6 and 0
 abbrev pub registersForm : ℕ → ℕ → ℕ → ℕ → Written

@@ -14,8 +14,8 @@ fixedOperand w = cond (eqb (bit5 w) 0) (w - w / 8 % 4 * 8) w
 abbrev pub fixedJsr : ℕ → ℕ
 fixedJsr w = cond (eqb (bit11 w) 0) (0x4000 + bits8to6 w * 64) w
 
--- for each opcode from 0 to 15. RTI: bits 11 to 0 are 0. NOT: bits 5 to 0 are 1. JMP: bits 11 to 9 and 5 to 0 are 0. TRAP: bits 11
--- to 8 are 0. No other opcode has fixed bits
+-- for each opcode from 0 to 15. RTI: bits 11 to 0 are 0. NOT: bits 5 to 0 are 1. JMP: bits 11 to 9 and 5 to 0 are 0.
+-- TRAP: bits 11 to 8 are 0. No other opcode has fixed bits
 abbrev pub fixedForms : ℕ → List ℕ
 fixedForms w =
     w

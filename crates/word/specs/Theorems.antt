@@ -1,4 +1,5 @@
--- What is proved of instruction words. Each statement is a type; its proof, of the same name in small letters, is in proofs/.
+-- What is proved of instruction words. Each statement is a type; its proof, of the same name in small letters, is in
+-- proofs/.
 use Prim.Native.Nat.{ℕ, _+_, _-_, _%_, _^_, _<_, _≤_}
 use mathlib.Core.Path.{_≡_}
 use mathlib.Core.Logic.{_↔_}
@@ -22,7 +23,8 @@ pub record FieldLaws (k : ℕ) : Type 0 where
   -- and the pattern of a number in range has k bits
   pub fits : (n : ℤ) → Within (half k) n → bits (half k) n < 2 ^ k
   -- sign extension to j bits: where the top bit is 1, the bits above it are filled with ones, else with zeros
-  pub extension : (j v : ℕ) → k ≤ j → v < 2 ^ k → bits (half j) (signed (half k) v) ≡ v + cond (ltb v (half k)) 0 (2 ^ j - 2 ^ k)
+  pub extension : (j v : ℕ) → k ≤ j → v < 2 ^ k → bits (half j) (signed (half k) v)
+      ≡ v + cond (ltb v (half k)) 0 (2 ^ j - 2 ^ k)
   -- truncation from j bits: the low k bits of a number in range are its field
   pub truncation : (j : ℕ) (n : ℤ) → k ≤ j → Within (half k) n → bits (half j) n % 2 ^ k ≡ bits (half k) n
   -- both round trips: from the pattern to the number and back, and from the number to the pattern and back
@@ -92,12 +94,13 @@ WrittenInRange = (i : Instruction) → InRange i → writeOf i ≡ written (word
 abbrev pub NotRefusedExactly : Type 0
 NotRefusedExactly = (i : Instruction) → (writeOf i .refusal ≡ 0) ↔ InRange i
 
--- The refusals, each exactly where document 01 has it: 1 if a register is above 7, else 2 if a signed field, trap vector or reserved
--- field is out of range, else 3 if the BR mask is above 7, and 0 in every other case.
+-- The refusals, each exactly where document 01 has it: 1 if a register is above 7, else 2 if a signed field, trap
+-- vector or reserved field is out of range, else 3 if the BR mask is above 7, and 0 in every other case.
 pub record RefusalsOf (i : Instruction) : Type 0 where
   pub register : (writeOf i .refusal ≡ 1) ↔ (registersInRange i ≡ false)
   pub field : (writeOf i .refusal ≡ 2) ↔ ((registersInRange i ≡ true) × (fieldInRange i ≡ false))
-  pub mask : (writeOf i .refusal ≡ 3) ↔ ((registersInRange i ≡ true) × (fieldInRange i ≡ true) × (maskInRange i ≡ false))
+  pub mask : (writeOf i .refusal ≡ 3) ↔
+      ((registersInRange i ≡ true) × (fieldInRange i ≡ true) × (maskInRange i ≡ false))
   pub none : (writeOf i .refusal ≡ 0) ↔ ((registersInRange i ≡ true) × (fieldInRange i ≡ true) × (maskInRange i ≡ true))
 
 abbrev pub RefusalsInOrder : Type 0

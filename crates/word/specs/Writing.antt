@@ -5,11 +5,13 @@ use mathlib.Core.List.{List, [], _∷_}
 use lib.Dec.{ltb, eqb}
 use Rattle.word.specs.Field.{half, bits, within}
 use Rattle.word.specs.declared.Instruction.{Instruction}
-use Rattle.word.specs.declared.Instruction.the-variants.{Br, AddRegister, AddImmediate, Ld, St, Jsr, Jsrr, AndRegister, AndImmediate, Ldr, Str, Rti, Not, Ldi, Sti, Jmp, Reserved, Lea, Trap}
+use Rattle.word.specs.declared.Instruction.the-variants.{Br, AddRegister, AddImmediate, Ld, St, Jsr, Jsrr}
+use Rattle.word.specs.declared.Instruction.the-variants.{AndRegister, AndImmediate, Ldr, Str, Rti, Not, Ldi, Sti}
+use Rattle.word.specs.declared.Instruction.the-variants.{Jmp, Reserved, Lea, Trap}
 use Rattle.word.specs.declared.Written.{Written}
 
--- Figure A.2, row by row: the opcode with the fixed bits, then a register or the BR mask at bit 9 (512), a register at bit 6 (64),
--- and a register or the field at bit 0. RET, the figure's row JMP with BaseR 111, is Jmp 7
+-- Figure A.2, row by row: the opcode with the fixed bits, then a register or the BR mask at bit 9 (512), a register at
+-- bit 6 (64), and a register or the field at bit 0. RET, the figure's row JMP with BaseR 111, is Jmp 7
 abbrev pub wordOf : Instruction → ℕ
 wordOf (AddRegister dr sr1 sr2) = 0x1000 + dr * 512 + sr1 * 64 + sr2
 wordOf (AddImmediate dr sr1 imm5) = 0x1020 + dr * 512 + sr1 * 64 + bits (half 5) imm5
@@ -62,8 +64,8 @@ allUpTo7 (r ∷ rs) = ltb r 8 && allUpTo7 rs
 abbrev pub registersInRange : Instruction → Bool
 registersInRange i = allUpTo7 (registers i)
 
--- the signed field, trap vector or reserved field is in range: imm5 from -16 to 15, offset6 from -32 to 31, PCoffset9 from -256 to
--- 255, PCoffset11 from -1024 to 1023, trap vector from 0 to 255, reserved field from 0 to 4095
+-- the signed field, trap vector or reserved field is in range: imm5 from -16 to 15, offset6 from -32 to 31, PCoffset9
+-- from -256 to 255, PCoffset11 from -1024 to 1023, trap vector from 0 to 255, reserved field from 0 to 4095
 abbrev pub fieldInRange : Instruction → Bool
 fieldInRange (AddRegister dr sr1 sr2) = true
 fieldInRange (AddImmediate dr sr1 imm5) = within 16 imm5

@@ -11,19 +11,24 @@ returns : tie.Need-returns
 unfolding loadOf
 returns c =
     let a = c .before .before .before .before .before .args in
-    rw (← c .before .load-refusal .ensures) (loading-turned-away (c .before .load-refusal .result) (a .file .now) (a .memory .now) (c .if1 .taken))
+    rw (← c .before .load-refusal .ensures)
+    (loading-turned-away (c .before .load-refusal .result) (a .file .now) (a .memory .now) (c .if1 .taken))
 
 load-accepted-requires : tie.Need-load-accepted-requires
 load-accepted-requires c κs =
     let a = c .before .before .before .before .before .before .args in
-    accepted-is-readable (a .file .now) (a .memory .now) (sym (c .before .before .load-refusal .ensures) ∙ c .before .if1 .left)
+    accepted-is-readable (a .file .now) (a .memory .now)
+    (sym (c .before .before .load-refusal .ensures) ∙ c .before .if1 .left)
 
 returns-2 : tie.Need-returns-2
 unfolding loadOf loadBy
 returns-2 c =
     let a = c .before .before .before .before .before .before .before .before .before .args in
-    let accepted : loadRefusal (a .file .now) (a .memory .now) ≡ 0 = (sym (c .before .before .before .before .before .load-refusal .ensures) ∙ c .before .before .before .before .if1 .left) in
+    let accepted : loadRefusal (a .file .now) (a .memory .now)
+    ≡ 0 = (sym (c .before .before .before .before .before .load-refusal .ensures)
+    ∙ c .before .before .before .before .if1 .left) in
     rw accepted (c .before .before .load-accepted .ensures)
 
 pub load-spec : {M : Type 1} → statement M
-load-spec = tie.close (tie.spec (λ c κs. search needs) (λ c. search needs) returns load-accepted-requires (λ c. search needs) returns-2)
+load-spec = tie.close (tie.spec (λ c κs. search needs) (λ c. search needs) returns load-accepted-requires
+    (λ c. search needs) returns-2)

@@ -1,4 +1,5 @@
--- `object::load_accepted` meets its contract: the words are read into their part of memory, which comes back in its place.
+-- `object::load_accepted` meets its contract: the words are read into their part of memory, which comes back in its
+-- place.
 use Rattle.object.proofs.CallLaws.{words-in-place}
 use borrow.Author.Needs.{needs}
 use Rattle.object.proofs.load_accepted.Statement.{statement}
@@ -7,7 +8,12 @@ use Rattle.object.proofs.load_accepted.Tie as tie
 returns : tie.Need-returns
 returns c =
     let a = c .before .before .before .before .before .before .before .before .before .before .args in
-    words-in-place (a .file .now) (a .memory .now) (c .before .before .read-words .last .1 .0) (c .before .before .before .before .before .word .result) (c .before .before .before .before .before .word .ensures) (c .before .before .read-words .ensures)
+    words-in-place (a .file .now) (a .memory .now) (c .before .before .read-words .last .1 .0)
+    (c .before .before .before .before .before .word .result) (c .before .before .before .before .before .word .ensures)
+    (c .before .before .read-words .ensures)
 
 pub load-accepted-spec : {M : Type 1} → statement M
-load-accepted-spec = tie.close (tie.spec (λ c. search needs) (λ c. search needs) (λ c κs. search needs) (λ c. search needs) (λ c. search needs) (λ c. search needs) (λ c. search needs) (λ c. search needs) (λ c. search needs) (λ c. search needs) (λ c. search needs) (λ c. search needs) (λ c. search needs) (λ c κs. search needs) (λ c. search needs) (λ c. search needs) returns)
+load-accepted-spec = tie.close (tie.spec (λ c. search needs) (λ c. search needs) (λ c κs. search needs)
+    (λ c. search needs) (λ c. search needs) (λ c. search needs) (λ c. search needs) (λ c. search needs)
+    (λ c. search needs) (λ c. search needs) (λ c. search needs) (λ c. search needs) (λ c. search needs)
+    (λ c κs. search needs) (λ c. search needs) (λ c. search needs) returns)

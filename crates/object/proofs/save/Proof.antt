@@ -12,19 +12,24 @@ unfolding saveOf
 returns c =
     let a = c .before .before .before .before .before .args in
     rw (← c .before .save-refusal .ensures)
-    (saving-turned-away (c .before .save-refusal .result) (a .memory .now) (a .origin) (a .words) (a .output .now) (c .if1 .taken))
+    (saving-turned-away (c .before .save-refusal .result) (a .memory .now) (a .origin) (a .words) (a .output .now)
+    (c .if1 .taken))
 
 save-accepted-requires : tie.Need-save-accepted-requires
 save-accepted-requires c κs =
     let a = c .before .before .before .before .before .before .args in
-    accepted-is-writable (a .memory .now) (a .origin) (a .words) (a .output .now) (sym (c .before .before .save-refusal .ensures) ∙ c .before .if1 .left)
+    accepted-is-writable (a .memory .now) (a .origin) (a .words) (a .output .now)
+    (sym (c .before .before .save-refusal .ensures) ∙ c .before .if1 .left)
 
 returns-2 : tie.Need-returns-2
 unfolding saveOf saveBy
 returns-2 c =
     let a = c .before .before .before .before .before .before .before .before .before .args in
-    let accepted : saveRefusal (a .memory .now) (a .origin) (a .words) (a .output .now) ≡ 0 = (sym (c .before .before .before .before .before .save-refusal .ensures) ∙ c .before .before .before .before .if1 .left) in
+    let accepted : saveRefusal (a .memory .now) (a .origin) (a .words) (a .output .now)
+    ≡ 0 = (sym (c .before .before .before .before .before .save-refusal .ensures)
+    ∙ c .before .before .before .before .if1 .left) in
     rw accepted (c .before .before .save-accepted .ensures)
 
 pub save-spec : {M : Type 1} → statement M
-save-spec = tie.close (tie.spec (λ c κs. search needs) (λ c. search needs) returns save-accepted-requires (λ c. search needs) returns-2)
+save-spec = tie.close (tie.spec (λ c κs. search needs) (λ c. search needs) returns save-accepted-requires
+    (λ c. search needs) returns-2)

@@ -1,4 +1,5 @@
--- `object::save_accepted` meets its contract: the bytes are written to their part of the output, which comes back in its place.
+-- `object::save_accepted` meets its contract: the bytes are written to their part of the output, which comes back in
+-- its place.
 use lib.ListN.{length-set}
 use Rattle.object.proofs.CallLaws.{file-in-place, same-length-out}
 use borrow.Author.Needs.{needs}
@@ -12,14 +13,27 @@ slice-write-output-2 c =
 same-length : tie.Need-same-length
 same-length c =
     let a = c .before .before .before .before .before .before .before .before .before .args in
-    rw (c .before .before .before .before .before .before .high .ensures, c .before .before .before .before .before .low .ensures)
-    (same-length-out (a .memory .now) (a .output .now) (c .before .before .write-words .last .1 .0) (a .origin) (a .words) (c .before .before .before .before .before .before .before .before .before .pre) (c .before .before .write-words .ensures))
+    rw (
+      c .before .before .before .before .before .before .high .ensures,
+      c .before .before .before .before .before .low .ensures,
+    )
+    (same-length-out (a .memory .now) (a .output .now) (c .before .before .write-words .last .1 .0) (a .origin)
+    (a .words) (c .before .before .before .before .before .before .before .before .before .pre)
+    (c .before .before .write-words .ensures))
 
 returns : tie.Need-returns
 returns c =
     let a = c .before .before .before .before .before .before .before .before .before .args in
-    rw (c .before .before .before .before .before .before .high .ensures, c .before .before .before .before .before .low .ensures)
-    (file-in-place (a .memory .now) (a .output .now) (c .before .before .write-words .last .1 .0) (a .origin) (a .words) (c .before .before .before .before .before .before .before .before .before .pre) (c .before .before .write-words .ensures))
+    rw (
+      c .before .before .before .before .before .before .high .ensures,
+      c .before .before .before .before .before .low .ensures,
+    )
+    (file-in-place (a .memory .now) (a .output .now) (c .before .before .write-words .last .1 .0) (a .origin) (a .words)
+    (c .before .before .before .before .before .before .before .before .before .pre)
+    (c .before .before .write-words .ensures))
 
 pub save-accepted-spec : {M : Type 1} → statement M
-save-accepted-spec = tie.close (tie.spec (λ c κs. search needs) (λ c. search needs) (λ c κs. search needs) slice-write-output-2 (λ c. search needs) (λ c. search needs) (λ c. search needs) (λ c. search needs) (λ c. search needs) (λ c. search needs) (λ c. search needs) (λ c. search needs) (λ c. search needs) (λ c. search needs) (λ c κs. search needs) same-length returns)
+save-accepted-spec = tie.close (tie.spec (λ c κs. search needs) (λ c. search needs) (λ c κs. search needs)
+    slice-write-output-2 (λ c. search needs) (λ c. search needs) (λ c. search needs) (λ c. search needs)
+    (λ c. search needs) (λ c. search needs) (λ c. search needs) (λ c. search needs) (λ c. search needs)
+    (λ c. search needs) (λ c κs. search needs) same-length returns)

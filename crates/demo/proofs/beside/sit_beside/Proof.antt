@@ -7,7 +7,8 @@ use Rattle.demo.proofs.beside.sit_beside.Statement.{statement}
 use Rattle.demo.proofs.beside.sit_beside.Tie as tie
 
 abbrev Inv-loop : tie.InvT-loop
-Inv-loop memory₀ other₀ times bytes m₀ o₀ at₀ same₀ steps₀ memory other m o at same steps = (at ≤ length times) × (same ≤ steps) × (steps ≤ 5000) × (length memory ≡ length memory₀) × (length other ≡ length other₀)
+Inv-loop memory₀ other₀ times bytes m₀ o₀ at₀ same₀ steps₀ memory other m o at same steps = (at ≤ length times) ×
+    (same ≤ steps) × (steps ≤ 5000) × (length memory ≡ length memory₀) × (length other ≡ length other₀)
 
 abbrev μ-loop : tie.MeasureT-loop
 μ-loop memory₀ other₀ times bytes m₀ o₀ at₀ same₀ steps₀ memory other m o at same steps = 5000 - steps

@@ -7,7 +7,8 @@ use Rattle.demo.proofs.sitting.sit.Statement.{statement}
 use Rattle.demo.proofs.sitting.sit.Tie as tie
 
 abbrev Inv-loop : tie.InvT-loop
-Inv-loop memory₀ times bytes display₀ m₀ at₀ shown₀ call₀ memory display m at shown call = (at ≤ length times) × (shown ≤ length display₀) × (call ≤ 21) × (length display ≡ length display₀) × (length memory ≡ length memory₀)
+Inv-loop memory₀ times bytes display₀ m₀ at₀ shown₀ call₀ memory display m at shown call = (at ≤ length times) ×
+    (shown ≤ length display₀) × (call ≤ 21) × (length display ≡ length display₀) × (length memory ≡ length memory₀)
 
 abbrev μ-loop : tie.MeasureT-loop
 μ-loop memory₀ times bytes display₀ m₀ at₀ shown₀ call₀ memory display m at shown call = 21 - call

@@ -29,7 +29,8 @@ kept : (c : tie.Else2)
 kept c =
     let v = c .before .before .args .value in
     let f = c .before .before .fits .value in
-    kept-unsigned v (tested-below v (pos 0) false f (c .before .if1 .left)) (tested-above v (pos 65535) false f (c .if2 .left))
+    kept-unsigned v (tested-below v (pos 0) false f (c .before .if1 .left))
+    (tested-above v (pos 65535) false f (c .if2 .left))
 
 cast-result : tie.Need-cast-result
 cast-result c = rw (toZ-ofZ (c .before .before .fits .value), kept c .0) (tt, omega (arith, kept c .1))

@@ -1,4 +1,5 @@
--- `lc3_words::unflat::unflatten` meets its contract: each arm of the match knows its kind, and so its place in the list.
+-- `lc3_words::unflat::unflatten` meets its contract: each arm of the match knows its kind, and so its place in the
+-- list.
 use Prim.Native.Nat.{ℕ, _≤_, _<_}
 use native.Mathlib.Omega.{arith}
 use mathlib.Core.Path.{_≡_, refl, sym, ap, _∙_}
@@ -7,7 +8,8 @@ use mir.Syntax.{w16}
 use mir.Val.{toZ, ofZ}
 use mir.Facts.{toZ-ofZ}
 use Rattle.word.specs.declared.Instruction.{Instruction}
-use Rattle.word.specs.declared.Instruction.the-variants.{Br, AddImmediate, Ld, St, Jsr, AndImmediate, Ldr, Str, Ldi, Sti, Lea}
+use Rattle.word.specs.declared.Instruction.the-variants.{Br, AddImmediate, Ld, St, Jsr, AndImmediate, Ldr, Str, Ldi}
+use Rattle.word.specs.declared.Instruction.the-variants.{Sti, Lea}
 use Rattle.word.proofs.Opcodes.{none-below}
 use Rattle.lc3_words.specs.Unflat.{formOf}
 use Rattle.lc3_words.proofs.unflat.unflatten.Statement.{statement}
@@ -109,4 +111,5 @@ returns-19 c =
 pub unflatten-spec : {M : Type 1} → statement M
 unflatten-spec =
     tie.close
-    (tie.spec returns returns-2 returns-3 returns-4 returns-5 returns-6 returns-7 returns-8 returns-9 returns-10 returns-11 returns-12 returns-13 returns-14 returns-15 returns-16 returns-17 returns-18 returns-19)
+    (tie.spec returns returns-2 returns-3 returns-4 returns-5 returns-6 returns-7 returns-8 returns-9 returns-10
+    returns-11 returns-12 returns-13 returns-14 returns-15 returns-16 returns-17 returns-18 returns-19)

@@ -1,4 +1,5 @@
--- `object::refusals::load_refusal` meets its contract: each test fails or holds as the definition's does, in the same order.
+-- `object::refusals::load_refusal` meets its contract: each test fails or holds as the definition's does, in the same
+-- order.
 use borrow.Author.Tests.{eq-eqb, ne-eqb, lt-ltb, le-ltb}
 use borrow.Author.Needs.{needs}
 use Rattle.object.specs.Calls.{wrongSize, wrongLength, beyondMemory, loadRefusal}
@@ -24,14 +25,29 @@ returns-3 c =
 returns-4 : tie.Need-returns-4
 unfolding loadRefusal wrongSize wrongLength beyondMemory
 returns-4 c =
-    rw (eq-eqb _ _ (c .before .before .before .before .before .before .if1 .left), eq-eqb _ _ (c .before .before .before .before .before .if2 .left), le-ltb _ _ (c .before .before .before .before .if3 .left), words-in, ← c .before .word .ensures)
+    rw (
+      eq-eqb _ _ (c .before .before .before .before .before .before .if1 .left),
+      eq-eqb _ _
+          (c .before .before .before .before .before .if2 .left),
+      le-ltb _ _ (c .before .before .before .before .if3 .left),
+      words-in,
+      ← c .before .word .ensures,
+    )
     (rw (lt-ltb 65536 _ (c .if4 .taken)))
 
 returns-5 : tie.Need-returns-5
 unfolding loadRefusal wrongSize wrongLength beyondMemory
 returns-5 c =
-    rw (eq-eqb _ _ (c .before .before .before .before .before .before .if1 .left), eq-eqb _ _ (c .before .before .before .before .before .if2 .left), le-ltb _ _ (c .before .before .before .before .if3 .left), words-in, ← c .before .word .ensures)
+    rw (
+      eq-eqb _ _ (c .before .before .before .before .before .before .if1 .left),
+      eq-eqb _ _
+          (c .before .before .before .before .before .if2 .left),
+      le-ltb _ _ (c .before .before .before .before .if3 .left),
+      words-in,
+      ← c .before .word .ensures,
+    )
     (rw (le-ltb 65536 _ (c .if4 .left)))
 
 pub load-refusal-spec : {M : Type 1} → statement M
-load-refusal-spec = tie.close (tie.spec returns returns-2 returns-3 (λ c. search needs) (λ c. search needs) (λ c κs. search needs) (λ c. search needs) (λ c. search needs) (λ c. search needs) returns-4 returns-5)
+load-refusal-spec = tie.close (tie.spec returns returns-2 returns-3 (λ c. search needs) (λ c. search needs)
+    (λ c κs. search needs) (λ c. search needs) (λ c. search needs) (λ c. search needs) returns-4 returns-5)

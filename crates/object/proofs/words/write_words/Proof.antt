@@ -1,5 +1,5 @@
--- `object::words::write_words` meets its contract: between two turns of the loop, the bytes written and the words still to come make
--- the whole.
+-- `object::words::write_words` meets its contract: between two turns of the loop, the bytes written and the words still
+-- to come make the whole.
 use Prim.Native.Nat.{_*_, _-_}
 use mathlib.Core.Path.{_≡_, refl, _∙_}
 use mathlib.Core.List.{_++_}
@@ -11,7 +11,8 @@ use Rattle.object.proofs.words.write_words.Statement.{statement}
 use Rattle.object.proofs.words.write_words.Tie as tie
 
 abbrev Inv-loop : tie.InvT-loop
-Inv-loop words bytes₀ k₀ bytes k = (take (2 * k) bytes ++ bytesOf (drop k words) ≡ bytesOf words) × (length bytes ≡ length bytes₀)
+Inv-loop words bytes₀ k₀ bytes k = (take (2 * k) bytes ++ bytesOf (drop k words) ≡ bytesOf words) ×
+    (length bytes ≡ length bytes₀)
 
 abbrev μ-loop : tie.MeasureT-loop
 μ-loop words bytes₀ k₀ bytes k = length words - k
@@ -24,14 +25,19 @@ loop-again c =
     let l = c .before .before .before .before .before .before .before .loop in
     let x = c .before .before .before .exchanged .ensures in
     let e = c .before .before .put-pair .ensures in (
-      rw (e, x .0, x .1) (one-word-written (l .bytes) (c .before .before .before .before .before .before .before .before .before .before .args .words .now) (l .k) (search needs) (search needs) ∙ l .inv .0),
+      rw (e, x .0, x .1)
+          (one-word-written (l .bytes) (c .before .before .before .before .before .before .before .before .before .before
+          .args .words .now) (l .k) (search needs) (search needs) ∙ l .inv .0),
       rw e (simp length-set (l .inv .1)),
     )
 
 returns : tie.Need-returns Inv-loop μ-loop
 returns c =
     let l = c .before .loop in
-    all-words-written (l .bytes) (c .before .before .before .before .args .words .now) (l .k) (search needs) (search needs) ∙ l .inv .0
+    all-words-written (l .bytes) (c .before .before .before .before .args .words .now) (l .k) (search needs)
+    (search needs) ∙ l .inv .0
 
 pub write-words-spec : {M : Type 1} → statement M
-write-words-spec = tie.close (tie.spec Inv-loop μ-loop loop-holds (λ c. search needs) (λ c. search needs) (λ c. search needs) (λ c κs. search needs) (λ c κs. search needs) (λ c. search needs) (λ c. search needs) loop-again (λ c. search needs) returns)
+write-words-spec = tie.close (tie.spec Inv-loop μ-loop loop-holds (λ c. search needs) (λ c. search needs)
+    (λ c. search needs) (λ c κs. search needs) (λ c κs. search needs) (λ c. search needs) (λ c. search needs) loop-again
+    (λ c. search needs) returns)

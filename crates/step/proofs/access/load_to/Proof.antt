@@ -1,4 +1,5 @@
--- `step::access::load_to` meets its contract: the address is denied as the definition denies it, or the value loaded goes to its register.
+-- `step::access::load_to` meets its contract: the address is denied as the definition denies it, or the value loaded
+-- goes to its register.
 use mathlib.Core.Path.{refl, ap, _∙_}
 use borrow.Author.Needs.{needs}
 use Rattle.machine.specs.declared.Machine.{Machine}
@@ -12,7 +13,10 @@ use Rattle.step.proofs.access.load_to.Tie as tie
 returns : tie.Need-returns
 unfolding loadTo
 returns c =
-    λ clock. rw (← c .before .before .before .before .before .before .is-denied .ensures, c .before .before .before .before .before .if1 .taken) (c .before .before .raise .ensures clock access refl)
+    λ clock. rw (
+      ← c .before .before .before .before .before .before .is-denied .ensures,
+      c .before .before .before .before .before .if1 .taken,
+    ) (c .before .before .raise .ensures clock access refl)
 
 returns-2 : tie.Need-returns-2
 unfolding loadTo
@@ -20,11 +24,20 @@ returns-2 c =
     λ clock.
     let a = c .before .before .before .before .before .before .before .before .before .args in
     let l = c .before .before .before .before .load .ensures (a .regs .now) clock in
-    rw (← c .before .before .before .before .before .before .before .is-denied .ensures, c .before .before .before .before .before .before .if1 .left)
+    rw (
+      ← c .before .before .before .before .before .before .before .is-denied .ensures,
+      c .before .before .before .before .before .before .if1 .left,
+    )
     (ap (λ (m : Machine). quiet m (a .memory .now)) (c .move-to .ensures clock)
-    ∙ rw (c .before .next .ensures, c .before .before .before .after-load .ensures (a .a) clock (a .regs .now) (ap (λ (x : Loaded). x .kbsr) l), ap (λ (x : Loaded). x .value) l))
+    ∙ rw (
+      c .before .next .ensures,
+      c .before .before .before .after-load .ensures (a .a) clock (a .regs .now)
+          (ap (λ (x : Loaded). x .kbsr) l),
+      ap (λ (x : Loaded). x .value) l,
+    ))
 
 pub load-to-spec : {M : Type 1} → statement M
 load-to-spec =
     tie.close
-    (tie.spec (λ c κs. search needs) (λ c κs. search needs) (λ c. search needs) returns (λ c κs. search needs) (λ c κs. search needs) (λ c κs. search needs) (λ c κs. search needs) (λ c. search needs) returns-2)
+    (tie.spec (λ c κs. search needs) (λ c κs. search needs) (λ c. search needs) returns (λ c κs. search needs)
+    (λ c κs. search needs) (λ c κs. search needs) (λ c κs. search needs) (λ c. search needs) returns-2)

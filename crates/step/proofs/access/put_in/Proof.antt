@@ -10,7 +10,8 @@ returns : tie.Need-returns
 unfolding afterInstruction recoded
 returns c =
     λ clock.
-    rw (← c .before .set-register .ensures) (c .after-instruction .ensures (c .before .set-register .last .0) clock kept refl)
+    rw (← c .before .set-register .ensures)
+    (c .after-instruction .ensures (c .before .set-register .last .0) clock kept refl)
 
 pub put-in-spec : {M : Type 1} → statement M
 put-in-spec = tie.close (tie.spec (λ c κs. search needs) (λ c κs. search needs) returns)

@@ -1,4 +1,5 @@
--- `step::access::store_at` meets its contract: the address is denied as the definition denies it, or the rest is `store`.
+-- `step::access::store_at` meets its contract: the address is denied as the definition denies it, or the rest is
+-- `store`.
 use mathlib.Core.Path.{refl, ap, _∙_}
 use borrow.Author.Needs.{needs}
 use Rattle.machine.specs.declared.Machine.{Machine}
@@ -14,20 +15,33 @@ unfolding storeAt
 returns c =
     λ clock.
     let a = c .before .before .before .before .before .before .before .before .before .before .args in
-    rw (← c .before .before .before .before .before .before .before .is-denied .ensures, c .before .before .before .before .before .before .if1 .taken, c .unshown .ensures)
-    (ap (delivered (a .regs .now) (a .memory .now) (a .output .now)) (c .before .before .before .raise .ensures clock access refl))
+    rw (
+      ← c .before .before .before .before .before .before .before .is-denied .ensures,
+      c .before .before .before .before .before .before .if1 .taken,
+      c .unshown .ensures,
+    )
+    (ap (delivered (a .regs .now) (a .memory .now) (a .output .now))
+    (c .before .before .before .raise .ensures clock access refl))
 
 returns-2 : tie.Need-returns-2
 unfolding storeAt
 returns-2 c =
     λ clock.
-    let a = c .before .before .before .before .before .before .before .before .before .before .before .before .before .args in
-    rw (← c .before .before .before .before .before .before .before .before .before .before .is-denied .ensures, c .before .before .before .before .before .before .before .before .before .if1 .left)
+    let a = c .before .before .before .before .before .before .before .before .before .before .before .before .before
+    .args in
+    rw (
+      ← c .before .before .before .before .before .before .before .before .before .before .is-denied .ensures,
+      c .before .before .before .before .before .before .before .before .before .if1 .left,
+    )
     (c .before .before .before .before .store .ensures (a .regs .now) clock
-    ∙ (ap (λ (m : Machine). delivered (a .regs .now) (a .memory .now) (a .output .now) (effect (stored (a .v) (a .a) m (a .memory .now)))) (c .before .before .before .before .before .before .before .go-on-at .ensures (a .regs .now) clock)
+    ∙ (ap (λ (m : Machine). delivered (a .regs .now) (a .memory .now) (a .output .now)
+    (effect (stored (a .v) (a .a) m (a .memory .now))))
+    (c .before .before .before .before .before .before .before .go-on-at .ensures (a .regs .now) clock)
     ∙ rw (c .before .before .before .before .before .before .before .before .next .ensures)))
 
 pub store-at-spec : {M : Type 1} → statement M
 store-at-spec =
     tie.close
-    (tie.spec (λ c κs. search needs) (λ c κs. search needs) (λ c κs. search needs) (λ c. search needs) returns (λ c κs. search needs) (λ c κs. search needs) (λ c κs. search needs) (λ c. search needs) (λ c. search needs) returns-2)
+    (tie.spec (λ c κs. search needs) (λ c κs. search needs) (λ c κs. search needs) (λ c. search needs) returns
+    (λ c κs. search needs) (λ c κs. search needs) (λ c κs. search needs) (λ c. search needs) (λ c. search needs)
+    returns-2)

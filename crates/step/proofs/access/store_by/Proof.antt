@@ -1,4 +1,5 @@
--- `step::access::store_by` meets its contract: the pointer is denied as the definition denies it, or loaded, and the rest is `store_at`.
+-- `step::access::store_by` meets its contract: the pointer is denied as the definition denies it, or loaded, and the
+-- rest is `store_at`.
 use mathlib.Core.Path.{refl, ap, _∙_}
 use borrow.Author.Needs.{needs}
 use Rattle.machine.specs.Outcome.{access, withReads}
@@ -13,20 +14,37 @@ unfolding byPointer
 returns c =
     λ clock.
     let a = c .before .before .before .before .before .before .before .before .before .before .args in
-    rw (← c .before .before .before .before .before .before .before .is-denied .ensures, c .before .before .before .before .before .before .if1 .taken, c .unshown .ensures)
-    (ap (delivered (a .regs .now) (a .memory .now) (a .output .now)) (c .before .before .before .raise .ensures clock access refl))
+    rw (
+      ← c .before .before .before .before .before .before .before .is-denied .ensures,
+      c .before .before .before .before .before .before .if1 .taken,
+      c .unshown .ensures,
+    )
+    (ap (delivered (a .regs .now) (a .memory .now) (a .output .now))
+    (c .before .before .before .raise .ensures clock access refl))
 
 returns-2 : tie.Need-returns-2
 unfolding byPointer withReads
 returns-2 c =
     λ clock.
-    let a = c .before .before .before .before .before .before .before .before .before .before .before .before .before .before .before .args in
-    let l = c .before .before .before .before .before .before .before .before .before .load .ensures (a .regs .now) clock in
-    rw (← c .before .before .before .before .before .before .before .before .before .before .before .before .is-denied .ensures, c .before .before .before .before .before .before .before .before .before .before .before .if1 .left)
+    let a = c .before .before .before .before .before .before .before .before .before .before .before .before .before
+    .before .before .args in
+    let l = c .before .before .before .before .before .before .before .before .before .load .ensures (a .regs .now)
+    clock in
+    rw (
+      ← c .before .before .before .before .before .before .before .before .before .before .before .before .is-denied
+          .ensures,
+      c .before .before .before .before .before .before .before .before .before .before .before .if1 .left,
+    )
     (c .before .before .before .before .store-at .ensures clock
-    ∙ rw (c .before .before .before .before .before .before .before .before .after-load .ensures (a .a) clock (a .regs .now) (ap (λ (x : Loaded). x .kbsr) l), ap (λ (x : Loaded). x .value) l))
+    ∙ rw (
+      c .before .before .before .before .before .before .before .before .after-load .ensures (a .a) clock
+          (a .regs .now) (ap (λ (x : Loaded). x .kbsr) l),
+      ap (λ (x : Loaded). x .value) l,
+    ))
 
 pub store-by-spec : {M : Type 1} → statement M
 store-by-spec =
     tie.close
-    (tie.spec (λ c κs. search needs) (λ c κs. search needs) (λ c κs. search needs) (λ c. search needs) returns (λ c κs. search needs) (λ c κs. search needs) (λ c κs. search needs) (λ c. search needs) (λ c. search needs) returns-2)
+    (tie.spec (λ c κs. search needs) (λ c κs. search needs) (λ c κs. search needs) (λ c. search needs) returns
+    (λ c κs. search needs) (λ c κs. search needs) (λ c κs. search needs) (λ c. search needs) (λ c. search needs)
+    returns-2)

@@ -1,4 +1,5 @@
--- `step::devices::load` meets its contract: each arm of the match knows its address; the last one knows that it is no device's.
+-- `step::devices::load` meets its contract: each arm of the match knows its address; the last one knows that it is no
+-- device's.
 use borrow.Author.Needs.{needs}
 use borrow.Author.Tests.{ne-eqb}
 use Rattle.machine.specs.Devices.{isDevice, deviceValue, loadedValue, kbsrAfterLoad}
@@ -42,7 +43,12 @@ returns-7 c =
     λ regs clock.
     let a = c .before .before .before .args .a in
     let r = c .before .match .rest in
-    rw (no-device a (r .0 .0 .0 .0 .0 .1) (r .0 .0 .0 .0 .1) (r .0 .0 .0 .1) (r .0 .0 .1) (r .0 .1) (r .1), ne-eqb a 0xFE02 (r .0 .0 .0 .0 .1), c .word-at .ensures)
+    rw (
+      no-device a (r .0 .0 .0 .0 .0 .1) (r .0 .0 .0 .0 .1) (r .0 .0 .0 .1) (r .0 .0 .1) (r .0 .1) (r .1),
+      ne-eqb a
+          0xFE02 (r .0 .0 .0 .0 .1),
+      c .word-at .ensures,
+    )
 
 pub load-spec : {M : Type 1} → statement M
 load-spec =

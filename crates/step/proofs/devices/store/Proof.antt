@@ -1,4 +1,5 @@
--- `step::devices::store` meets its contract: each arm of the match knows its address; the last one knows that it is no device's.
+-- `step::devices::store` meets its contract: each arm of the match knows its address; the last one knows that it is no
+-- device's.
 use mathlib.Core.Path.{ap}
 use mathlib.Core.Logic.{⊎-elim, inl, inr}
 use Rattle.machine.specs.declared.Machine.{Machine}
@@ -15,7 +16,8 @@ returns c =
     λ regs clock.
     let a = c .before .before .before .before .before .before .args in
     rw (c .before .before .before .match .keys1, c .unshown .ensures)
-    (ap (λ (m : Machine). delivered regs (a .memory .now) (a .output .now) (quiet m (a .memory .now))) (c .before .with-kbsr .ensures regs clock))
+    (ap (λ (m : Machine). delivered regs (a .memory .now) (a .output .now) (quiet m (a .memory .now)))
+    (c .before .with-kbsr .ensures regs clock))
 
 returns-2 : tie.Need-returns-2
 unfolding stored isDevice deviceStore
@@ -25,7 +27,9 @@ returns-2 c =
 returns-3 : tie.Need-returns-3
 unfolding stored isDevice deviceStore
 returns-3 c =
-    λ regs clock. rw (c .before .before .before .before .match .keys3) (c .before .before .show .ensures regs (c .before .before .before .before .before .before .before .args .memory .now) clock)
+    λ regs clock. rw (c .before .before .before .before .match .keys3)
+    (c .before .before .show .ensures regs
+    (c .before .before .before .before .before .before .before .args .memory .now) clock)
 
 returns-4 : tie.Need-returns-4
 unfolding stored isDevice deviceStore psrStore
@@ -33,7 +37,8 @@ returns-4 c =
     λ regs clock.
     let a = c .before .before .before .before .before .before .args in
     rw (c .before .before .before .match .keys4, c .unshown3 .ensures)
-    (ap (λ (m : Machine). delivered regs (a .memory .now) (a .output .now) (quiet m (a .memory .now))) (c .before .with-psr .ensures regs clock))
+    (ap (λ (m : Machine). delivered regs (a .memory .now) (a .output .now) (quiet m (a .memory .now)))
+    (c .before .with-psr .ensures regs clock))
 
 returns-5 : tie.Need-returns-5
 unfolding stored isDevice deviceStore mcrStore
@@ -41,14 +46,24 @@ returns-5 c =
     λ regs clock.
     let a = c .before .before .before .before .before .args in
     rw (c .before .before .match .keys5, c .unshown4 .ensures)
-    (ap (λ (m : Machine). delivered regs (a .memory .now) (a .output .now) (quiet m (a .memory .now))) (c .before .with-mcr .ensures regs clock))
+    (ap (λ (m : Machine). delivered regs (a .memory .now) (a .output .now) (quiet m (a .memory .now)))
+    (c .before .with-mcr .ensures regs clock))
 
 returns-6 : tie.Need-returns-6
 unfolding stored
 returns-6 c =
     λ regs clock.
     let r = c .before .before .before .before .before .match .rest in
-    rw (no-device (c .before .before .before .before .before .before .before .before .args .a) (r .0 .0 .0 .0 .1) (λ h. r .0 .0 .0 .1 (inl h)) (λ h. r .0 .0 .0 .1 (inr h)) (r .0 .0 .1) (r .0 .1) (r .1), c .unshown5 .ensures, c .before .before .before .set-word .ensures)
+    rw (
+      no-device (c .before .before .before .before .before .before .before .before .args .a) (r .0 .0 .0 .0 .1)
+          (λ h. r .0 .0 .0 .1 (inl h)) (λ h. r .0 .0 .0 .1 (inr h)) (r .0 .0 .1) (r .0 .1) (r .1),
+      c .unshown5 .ensures,
+      c .before .before .before .set-word .ensures,
+    )
 
 pub store-spec : {M : Type 1} → statement M
-store-spec = tie.close (tie.spec (λ c. search needs) (λ c. search needs) (λ c. search needs) (λ c κs. search needs) (λ c κs. search needs) (λ c κs. search needs) (λ c κs. search needs) (λ c. search needs) (λ c. search needs) (λ c. search needs) (λ c. search needs) (λ c κs. search needs) (λ c κs. search needs) (λ c. search needs) (λ c κs. search needs) (λ c κs. search needs) (λ c κs. search needs) (λ c κs. search needs) returns returns-2 (λ c. search needs) returns-3 returns-4 returns-5 (λ c. search needs) returns-6)
+store-spec = tie.close (tie.spec (λ c. search needs) (λ c. search needs) (λ c. search needs) (λ c κs. search needs)
+    (λ c κs. search needs) (λ c κs. search needs) (λ c κs. search needs) (λ c. search needs) (λ c. search needs)
+    (λ c. search needs) (λ c. search needs) (λ c κs. search needs) (λ c κs. search needs) (λ c. search needs)
+    (λ c κs. search needs) (λ c κs. search needs) (λ c κs. search needs) (λ c κs. search needs) returns returns-2
+    (λ c. search needs) returns-3 returns-4 returns-5 (λ c. search needs) returns-6)

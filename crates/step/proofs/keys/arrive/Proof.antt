@@ -1,4 +1,5 @@
--- `step::keys::arrive` meets its contract: between two turns of the loop, the keys still to come make the whole arrival.
+-- `step::keys::arrive` meets its contract: between two turns of the loop, the keys still to come make the whole
+-- arrival.
 use Prim.Native.Nat.{ℕ, _-_}
 use mathlib.Core.Path.{_≡_, refl, sym, _∙_}
 use mathlib.Core.List.{List}
@@ -13,7 +14,8 @@ use Rattle.step.proofs.keys.arrive.Tie as tie
 abbrev Inv-loop : tie.InvT-loop
 Inv-loop t times bytes first n₀ k₀ n k =
     (regs : List ℕ) (clock : ℕ)
-    → arrivalOf t (drop k times) (drop k bytes) (whole regs clock n) k ≡ arrivalOf t (drop k₀ times) (drop k₀ bytes) (whole regs clock n₀) k₀
+    → arrivalOf t (drop k times) (drop k bytes) (whole regs clock n) k
+    ≡ arrivalOf t (drop k₀ times) (drop k₀ bytes) (whole regs clock n₀) k₀
 
 abbrev μ-loop : tie.MeasureT-loop
 μ-loop t times bytes first n₀ k₀ n k = length times - k
@@ -28,7 +30,8 @@ loop-again c =
     let a = c .before .before .before .before .before .before .before .before .args in
     let l = c .before .before .before .before .before .loop in
     rw (c .press .ensures regs clock)
-    (sym (one-key-arrives (a .t) (a .times .now) (a .bytes .now) (whole regs clock (l .n)) (l .k) (search needs) (search needs) (c .before .before .if1 .left))
+    (sym (one-key-arrives (a .t) (a .times .now) (a .bytes .now) (whole regs clock (l .n)) (l .k) (search needs)
+    (search needs) (c .before .before .if1 .left))
     ∙ l .inv regs clock)
 
 returns : tie.Need-returns Inv-loop μ-loop
@@ -36,17 +39,20 @@ returns c =
     λ regs clock.
     let a = c .before .before .before .before .args in
     let l = c .before .loop in
-    keys-run-out (a .t) (a .times .now) (a .bytes .now) (whole regs clock (l .n)) (l .k) (search needs) ∙ l .inv regs clock
+    keys-run-out (a .t) (a .times .now) (a .bytes .now) (whole regs clock (l .n)) (l .k) (search needs)
+    ∙ l .inv regs clock
 
 returns-2 : tie.Need-returns-2 Inv-loop μ-loop
 returns-2 c =
     λ regs clock.
     let a = c .before .before .before .before .before .before .args in
     let l = c .before .before .before .loop in
-    no-key-arrives (a .t) (a .times .now) (a .bytes .now) (whole regs clock (l .n)) (l .k) (search needs) (search needs) (c .if1 .taken)
+    no-key-arrives (a .t) (a .times .now) (a .bytes .now) (whole regs clock (l .n)) (l .k) (search needs) (search needs)
+    (c .if1 .taken)
     ∙ l .inv regs clock
 
 pub arrive-spec : {M : Type 1} → statement M
 arrive-spec =
     tie.close
-    (tie.spec Inv-loop μ-loop loop-holds (λ c. search needs) (λ c. search needs) (λ c. search needs) (λ c κs. search needs) (λ c. search needs) (λ c. search needs) loop-again returns returns-2)
+    (tie.spec Inv-loop μ-loop loop-holds (λ c. search needs) (λ c. search needs) (λ c. search needs)
+    (λ c κs. search needs) (λ c. search needs) (λ c. search needs) loop-again returns returns-2)

@@ -14,7 +14,8 @@ returns c =
     λ clock.
     let a = c .before .before .before .before .before .before .before .before .args in
     rw (c .before .before .before .before .plan .given .1, c .unshown .ensures)
-    (ap (λ (m : Machine). delivered (a .regs .now) (a .memory .now) (a .output .now) (quiet m (a .memory .now))) (c .before .move-to .ensures clock))
+    (ap (λ (m : Machine). delivered (a .regs .now) (a .memory .now) (a .output .now) (quiet m (a .memory .now)))
+    (c .before .move-to .ensures clock))
 
 returns-2 : tie.Need-returns-2
 unfolding perform
@@ -22,7 +23,8 @@ returns-2 c =
     λ clock.
     let a = c .before .before .before .before .before .before .before .before .args in
     rw (c .before .before .before .before .plan2 .given .1, c .unshown2 .ensures)
-    (ap (λ (m : Machine). delivered (a .regs .now) (a .memory .now) (a .output .now) (quiet m (a .memory .now))) (c .before .put-in .ensures clock))
+    (ap (λ (m : Machine). delivered (a .regs .now) (a .memory .now) (a .output .now) (quiet m (a .memory .now)))
+    (c .before .put-in .ensures clock))
 
 returns-3 : tie.Need-returns-3
 unfolding perform
@@ -30,7 +32,8 @@ returns-3 c =
     λ clock.
     let a = c .before .before .before .before .before .before .before .args in
     rw (c .before .before .before .plan3 .given .1, c .unshown3 .ensures)
-    (ap (λ (m : Machine). delivered (a .regs .now) (a .memory .now) (a .output .now) (quiet m (a .memory .now))) (c .before .go-on-at .ensures (a .regs .now) clock))
+    (ap (λ (m : Machine). delivered (a .regs .now) (a .memory .now) (a .output .now) (quiet m (a .memory .now)))
+    (c .before .go-on-at .ensures (a .regs .now) clock))
 
 returns-4 : tie.Need-returns-4
 unfolding perform
@@ -38,7 +41,8 @@ returns-4 c =
     λ clock.
     let a = c .before .before .before .before .before .before .before .before .before .before .before .args in
     rw (c .before .before .before .before .before .before .before .plan4 .given .1, c .unshown4 .ensures)
-    (ap (delivered (a .regs .now) (a .memory .now) (a .output .now)) (c .before .before .before .load-to .ensures clock))
+    (ap (delivered (a .regs .now) (a .memory .now) (a .output .now))
+    (c .before .before .before .load-to .ensures clock))
 
 returns-5 : tie.Need-returns-5
 unfolding perform
@@ -46,25 +50,34 @@ returns-5 c =
     λ clock.
     let a = c .before .before .before .before .before .before .before .before .before .before .before .args in
     rw (c .before .before .before .before .before .before .before .plan5 .given .1, c .unshown5 .ensures)
-    (ap (delivered (a .regs .now) (a .memory .now) (a .output .now)) (c .before .before .before .load-by .ensures clock))
+    (ap (delivered (a .regs .now) (a .memory .now) (a .output .now))
+    (c .before .before .before .load-by .ensures clock))
 
 returns-6 : tie.Need-returns-6
 unfolding perform
 returns-6 c =
-    λ clock. rw (c .before .before .before .before .before .before .before .before .before .plan6 .given .1) (c .before .before .before .before .store-at .ensures clock)
+    λ clock. rw (c .before .before .before .before .before .before .before .before .before .plan6 .given .1)
+    (c .before .before .before .before .store-at .ensures clock)
 
 returns-7 : tie.Need-returns-7
 unfolding perform
 returns-7 c =
-    λ clock. rw (c .before .before .before .before .before .before .before .before .before .plan7 .given .1) (c .before .before .before .before .store-by .ensures clock)
+    λ clock. rw (c .before .before .before .before .before .before .before .before .before .plan7 .given .1)
+    (c .before .before .before .before .store-by .ensures clock)
 
 returns-8 : tie.Need-returns-8
 unfolding perform
 returns-8 c =
     λ clock.
     let a = c .before .before .before .before .before .before .before .before .before .before .before .before .args in
-    rw (c .before .before .before .before .before .before .before .before .plan8 .given .1, c .unshown6 .ensures, ← c .before .before .before .before .next .ensures)
-    (ap (delivered (a .regs .now) (a .memory .now) (a .output .now)) (c .before .before .before .raise .ensures clock (trap (c .before .before .before .before .before .before .before .before .plan8 .given .0 .0)) refl))
+    rw (
+      c .before .before .before .before .before .before .before .before .plan8 .given .1,
+      c .unshown6 .ensures,
+      ← c .before .before .before .before .next .ensures,
+    )
+    (ap (delivered (a .regs .now) (a .memory .now) (a .output .now))
+    (c .before .before .before .raise .ensures clock
+    (trap (c .before .before .before .before .before .before .before .before .plan8 .given .0 .0)) refl))
 
 returns-9 : tie.Need-returns-9
 unfolding perform
@@ -72,7 +85,8 @@ returns-9 c =
     λ clock.
     let a = c .before .before .before .before .before .before .before .before .before .before .args in
     rw (c .before .before .before .before .before .before .enum-told .given .1, c .unshown7 .ensures)
-    (ap (delivered (a .regs .now) (a .memory .now) (a .output .now)) (c .before .before .before .raise2 .ensures clock illegal refl))
+    (ap (delivered (a .regs .now) (a .memory .now) (a .output .now))
+    (c .before .before .before .raise2 .ensures clock illegal refl))
 
 returns-10 : tie.Need-returns-10
 unfolding perform
@@ -80,9 +94,18 @@ returns-10 c =
     λ clock.
     let a = c .before .before .before .before .before .before .before .before .before .before .args in
     rw (c .before .before .before .before .before .before .enum-told2 .given .1, c .unshown8 .ensures)
-    (ap (delivered (a .regs .now) (a .memory .now) (a .output .now)) (c .before .before .before .return-from-interrupt .ensures clock))
+    (ap (delivered (a .regs .now) (a .memory .now) (a .output .now))
+    (c .before .before .before .return-from-interrupt .ensures clock))
 
 pub perform-spec : {M : Type 1} → statement M
 perform-spec =
     tie.close
-    (tie.spec (λ c. search needs) (λ c κs. search needs) (λ c κs. search needs) (λ c. search needs) (λ c κs. search needs) (λ c κs. search needs) (λ c. search needs) (λ c κs. search needs) (λ c κs. search needs) (λ c. search needs) (λ c κs. search needs) (λ c κs. search needs) (λ c. search needs) (λ c κs. search needs) (λ c κs. search needs) (λ c. search needs) (λ c κs. search needs) (λ c. search needs) (λ c κs. search needs) (λ c. search needs) (λ c κs. search needs) (λ c κs. search needs) (λ c κs. search needs) (λ c. search needs) (λ c κs. search needs) (λ c κs. search needs) (λ c. search needs) (λ c κs. search needs) (λ c κs. search needs) returns returns-2 returns-3 (λ c. search needs) returns-4 (λ c. search needs) returns-5 (λ c. search needs) (λ c. search needs) returns-6 (λ c. search needs) (λ c. search needs) returns-7 (λ c. search needs) returns-8 (λ c. search needs) returns-9 (λ c. search needs) returns-10)
+    (tie.spec (λ c. search needs) (λ c κs. search needs) (λ c κs. search needs) (λ c. search needs)
+    (λ c κs. search needs) (λ c κs. search needs) (λ c. search needs) (λ c κs. search needs) (λ c κs. search needs)
+    (λ c. search needs) (λ c κs. search needs) (λ c κs. search needs) (λ c. search needs) (λ c κs. search needs)
+    (λ c κs. search needs) (λ c. search needs) (λ c κs. search needs) (λ c. search needs) (λ c κs. search needs)
+    (λ c. search needs) (λ c κs. search needs) (λ c κs. search needs) (λ c κs. search needs) (λ c. search needs)
+    (λ c κs. search needs) (λ c κs. search needs) (λ c. search needs) (λ c κs. search needs) (λ c κs. search needs)
+    returns returns-2 returns-3 (λ c. search needs) returns-4 (λ c. search needs) returns-5 (λ c. search needs)
+    (λ c. search needs) returns-6 (λ c. search needs) (λ c. search needs) returns-7 (λ c. search needs) returns-8
+    (λ c. search needs) returns-9 (λ c. search needs) returns-10)

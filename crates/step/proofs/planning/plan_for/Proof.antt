@@ -1,4 +1,5 @@
--- `step::planning::plan_for` meets its contract: each arm of the match knows its instruction, and its operands are what the callees answer.
+-- `step::planning::plan_for` meets its contract: each arm of the match knows its instruction, and its operands are what
+-- the callees answer.
 use mathlib.Core.Path.{_≡_}
 use mir.Syntax.{w16}
 use mir.Val.{toZ, ofZ}
@@ -18,7 +19,13 @@ returns c =
 returns-2 : tie.Need-returns-2
 unfolding planOf
 returns-2 c =
-    rw (c .before .before .before .before .i2 .given .1, c .sum .ensures, c .before .register2 .ensures, c .before .before .register .ensures, c .before .before .before .before .before .before .next .ensures)
+    rw (
+      c .before .before .before .before .i2 .given .1,
+      c .sum .ensures,
+      c .before .register2 .ensures,
+      c .before .before .register .ensures,
+      c .before .before .before .before .before .before .next .ensures,
+    )
 
 returns-3 : tie.Need-returns-3
 unfolding planOf
@@ -26,7 +33,13 @@ returns-3 c =
     let n = c .before .before .before .i3 .given .0 .1 .1 .0 in
     let known = c .before .before .known-told3 .given in
     let e : toZ w16 (ofZ w16 n) ≡ n = search needs in
-    rw (c .before .before .before .i3 .given .1, c .offset .ensures, c .before .register3 .ensures, c .before .before .before .before .before .next .ensures, e)
+    rw (
+      c .before .before .before .i3 .given .1,
+      c .offset .ensures,
+      c .before .register3 .ensures,
+      c .before .before .before .before .before .next .ensures,
+      e,
+    )
 
 returns-4 : tie.Need-returns-4
 unfolding planOf
@@ -42,7 +55,13 @@ returns-5 c =
     let n = c .before .before .before .i5 .given .0 .1 .0 in
     let known = c .before .before .known-told5 .given in
     let e : toZ w16 (ofZ w16 n) ≡ n = search needs in
-    rw (c .before .before .before .i5 .given .1, c .offset3 .ensures, c .before .register4 .ensures, c .before .before .before .before .before .next .ensures, e)
+    rw (
+      c .before .before .before .i5 .given .1,
+      c .offset3 .ensures,
+      c .before .register4 .ensures,
+      c .before .before .before .before .before .next .ensures,
+      e,
+    )
 
 returns-6 : tie.Need-returns-6
 unfolding planOf
@@ -60,7 +79,13 @@ returns-7 c =
 returns-8 : tie.Need-returns-8
 unfolding planOf
 returns-8 c =
-    rw (c .before .before .before .before .i8 .given .1, c .bit-and .ensures, c .before .register7 .ensures, c .before .before .register6 .ensures, c .before .before .before .before .before .before .next .ensures)
+    rw (
+      c .before .before .before .before .i8 .given .1,
+      c .bit-and .ensures,
+      c .before .register7 .ensures,
+      c .before .before .register6 .ensures,
+      c .before .before .before .before .before .before .next .ensures,
+    )
 
 returns-9 : tie.Need-returns-9
 unfolding planOf
@@ -68,7 +93,14 @@ returns-9 c =
     let n = c .before .before .before .before .i9 .given .0 .1 .1 .0 in
     let known = c .before .before .before .known-told9 .given in
     let e : toZ w16 (ofZ w16 n) ≡ n = search needs in
-    rw (c .before .before .before .before .i9 .given .1, c .bit-and2 .ensures, c .before .word-of .ensures, c .before .before .register8 .ensures, c .before .before .before .before .before .before .next .ensures, e)
+    rw (
+      c .before .before .before .before .i9 .given .1,
+      c .bit-and2 .ensures,
+      c .before .word-of .ensures,
+      c .before .before .register8 .ensures,
+      c .before .before .before .before .before .before .next .ensures,
+      e,
+    )
 
 returns-10 : tie.Need-returns-10
 unfolding planOf
@@ -84,7 +116,13 @@ returns-11 c =
     let n = c .before .before .before .before .i11 .given .0 .1 .1 .0 in
     let known = c .before .before .before .known-told11 .given in
     let e : toZ w16 (ofZ w16 n) ≡ n = search needs in
-    rw (c .before .before .before .before .i11 .given .1, c .offset6 .ensures, c .before .register11 .ensures, c .before .before .register10 .ensures, e)
+    rw (
+      c .before .before .before .before .i11 .given .1,
+      c .offset6 .ensures,
+      c .before .register11 .ensures,
+      c .before .before .register10 .ensures,
+      e,
+    )
 
 returns-12 : tie.Need-returns-12
 unfolding planOf
@@ -94,7 +132,12 @@ returns-12 c =
 returns-13 : tie.Need-returns-13
 unfolding planOf
 returns-13 c =
-    rw (c .before .before .before .i12 .given .1, c .complement .ensures, c .before .register12 .ensures, c .before .before .before .before .before .next .ensures)
+    rw (
+      c .before .before .before .i12 .given .1,
+      c .complement .ensures,
+      c .before .register12 .ensures,
+      c .before .before .before .before .before .next .ensures,
+    )
 
 returns-14 : tie.Need-returns-14
 unfolding planOf
@@ -110,7 +153,13 @@ returns-15 c =
     let n = c .before .before .before .i14 .given .0 .1 .0 in
     let known = c .before .before .known-told14 .given in
     let e : toZ w16 (ofZ w16 n) ≡ n = search needs in
-    rw (c .before .before .before .i14 .given .1, c .offset8 .ensures, c .before .register13 .ensures, c .before .before .before .before .before .next .ensures, e)
+    rw (
+      c .before .before .before .i14 .given .1,
+      c .offset8 .ensures,
+      c .before .register13 .ensures,
+      c .before .before .before .before .before .next .ensures,
+      e,
+    )
 
 returns-16 : tie.Need-returns-16
 unfolding planOf
@@ -138,4 +187,15 @@ returns-19 c =
 pub plan-for-spec : {M : Type 1} → statement M
 plan-for-spec =
     tie.close
-    (tie.spec (λ c κs. search needs) (λ c. search needs) (λ c κs. search needs) (λ c. search needs) (λ c κs. search needs) (λ c κs. search needs) (λ c κs. search needs) (λ c. search needs) (λ c κs. search needs) (λ c κs. search needs) (λ c. search needs) (λ c κs. search needs) (λ c. search needs) (λ c κs. search needs) (λ c κs. search needs) (λ c. search needs) (λ c κs. search needs) (λ c. search needs) (λ c κs. search needs) (λ c. search needs) (λ c κs. search needs) (λ c κs. search needs) (λ c κs. search needs) (λ c. search needs) (λ c κs. search needs) (λ c κs. search needs) (λ c κs. search needs) (λ c. search needs) (λ c κs. search needs) (λ c κs. search needs) (λ c. search needs) (λ c κs. search needs) (λ c κs. search needs) (λ c κs. search needs) (λ c. search needs) (λ c. search needs) (λ c κs. search needs) (λ c κs. search needs) (λ c. search needs) (λ c κs. search needs) (λ c. search needs) (λ c κs. search needs) (λ c κs. search needs) (λ c. search needs) (λ c κs. search needs) (λ c. search needs) (λ c. search needs) (λ c κs. search needs) (λ c. search needs) returns returns-2 returns-3 returns-4 returns-5 returns-6 returns-7 returns-8 returns-9 returns-10 returns-11 returns-12 returns-13 returns-14 returns-15 returns-16 returns-17 returns-18 returns-19)
+    (tie.spec (λ c κs. search needs) (λ c. search needs) (λ c κs. search needs) (λ c. search needs)
+    (λ c κs. search needs) (λ c κs. search needs) (λ c κs. search needs) (λ c. search needs) (λ c κs. search needs)
+    (λ c κs. search needs) (λ c. search needs) (λ c κs. search needs) (λ c. search needs) (λ c κs. search needs)
+    (λ c κs. search needs) (λ c. search needs) (λ c κs. search needs) (λ c. search needs) (λ c κs. search needs)
+    (λ c. search needs) (λ c κs. search needs) (λ c κs. search needs) (λ c κs. search needs) (λ c. search needs)
+    (λ c κs. search needs) (λ c κs. search needs) (λ c κs. search needs) (λ c. search needs) (λ c κs. search needs)
+    (λ c κs. search needs) (λ c. search needs) (λ c κs. search needs) (λ c κs. search needs) (λ c κs. search needs)
+    (λ c. search needs) (λ c. search needs) (λ c κs. search needs) (λ c κs. search needs) (λ c. search needs)
+    (λ c κs. search needs) (λ c. search needs) (λ c κs. search needs) (λ c κs. search needs) (λ c. search needs)
+    (λ c κs. search needs) (λ c. search needs) (λ c. search needs) (λ c κs. search needs) (λ c. search needs) returns
+    returns-2 returns-3 returns-4 returns-5 returns-6 returns-7 returns-8 returns-9 returns-10 returns-11 returns-12
+    returns-13 returns-14 returns-15 returns-16 returns-17 returns-18 returns-19)

@@ -11,4 +11,5 @@ returns c =
     refl
 
 pub defined-psr-spec : {M : Type 1} → statement M
-defined-psr-spec = tie.close (tie.spec (λ c. search needs) (λ c. search needs) (λ c. search needs) (λ c. search needs) returns)
+defined-psr-spec = tie.close (tie.spec (λ c. search needs) (λ c. search needs) (λ c. search needs) (λ c. search needs)
+    returns)

@@ -1,4 +1,5 @@
--- `step::return_from::return_from_interrupt` meets its contract: the two words popped are those of the lent memory, or the exception is raised.
+-- `step::return_from::return_from_interrupt` meets its contract: the two words popped are those of the lent memory, or
+-- the exception is raised.
 use mathlib.Core.Path.{refl, ap, _∙_}
 use borrow.Author.Needs.{needs}
 use borrow.Author.Tests.{le-leb, lt-leb}
@@ -14,17 +15,29 @@ returns : tie.Need-returns
 unfolding return popped inUserMode
 returns c =
     λ clock.
-    let a = c .before .before .before .before .before .before .before .before .before .before .before .before .before .before .args in
-    rw (lt-leb _ _ (c .before .before .before .before .before .before .before .before .before .before .before .if1 .taken))
+    let a = c .before .before .before .before .before .before .before .before .before .before .before .before .before
+    .before .args in
+    rw (lt-leb _ _ (c .before .before .before .before .before .before .before .before .before .before .before .if1
+    .taken))
     (ap (λ (m : Machine). quiet m (a .memory .now)) (c .after-return .ensures clock)
-    ∙ rw (c .before .next2 .ensures, c .before .before .before .defined-psr .ensures, c .before .before .before .before .word-at2 .ensures, c .before .before .before .before .before .before .next .ensures, c .before .before .before .before .before .before .before .word-at .ensures, c .before .before .before .before .before .before .before .before .before .register .ensures))
+    ∙ rw (
+      c .before .next2 .ensures,
+      c .before .before .before .defined-psr .ensures,
+      c .before .before .before .before .word-at2 .ensures,
+      c .before .before .before .before .before .before .next .ensures,
+      c .before .before .before .before .before .before .before .word-at .ensures,
+      c .before .before .before .before .before .before .before .before .before .register .ensures,
+    ))
 
 returns-2 : tie.Need-returns-2
 unfolding return inUserMode
 returns-2 c =
-    λ clock. rw (le-leb _ _ (c .before .before .before .before .before .if1 .left)) (c .before .before .raise .ensures clock privilege refl)
+    λ clock. rw (le-leb _ _ (c .before .before .before .before .before .if1 .left))
+    (c .before .before .raise .ensures clock privilege refl)
 
 pub return-from-interrupt-spec : {M : Type 1} → statement M
 return-from-interrupt-spec =
     tie.close
-    (tie.spec (λ c κs. search needs) (λ c κs. search needs) (λ c κs. search needs) (λ c κs. search needs) (λ c κs. search needs) (λ c κs. search needs) (λ c κs. search needs) (λ c. search needs) returns (λ c κs. search needs) (λ c. search needs) returns-2)
+    (tie.spec (λ c κs. search needs) (λ c κs. search needs) (λ c κs. search needs) (λ c κs. search needs)
+    (λ c κs. search needs) (λ c κs. search needs) (λ c κs. search needs) (λ c. search needs) returns
+    (λ c κs. search needs) (λ c. search needs) returns-2)

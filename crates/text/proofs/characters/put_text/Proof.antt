@@ -1,4 +1,5 @@
--- `text::characters::put_text` meets its contract: after each turn of the loop the characters passed stand in the output.
+-- `text::characters::put_text` meets its contract: after each turn of the loop the characters passed stand in the
+-- output.
 use Prim.Native.Nat.{ℕ, suc, zero-le, _+_, _-_, _≤_}
 use native.Mathlib.Omega.{arith}
 use native.Mathlib.Numerals.{add-one}
@@ -10,7 +11,8 @@ use Rattle.text.proofs.characters.put_text.Statement.{statement}
 use Rattle.text.proofs.characters.put_text.Tie as tie
 
 abbrev Inv-loop : tie.InvT-loop
-Inv-loop output₀ at text done₀ output done = (output ≡ paste output₀ at text done) × (done ≤ length text) × (length output ≡ length output₀)
+Inv-loop output₀ at text done₀ output done = (output ≡ paste output₀ at text done) × (done ≤ length text) ×
+    (length output ≡ length output₀)
 
 abbrev μ-loop : tie.MeasureT-loop
 μ-loop output₀ at text done₀ output done = length text - done
@@ -41,7 +43,8 @@ loop-again c =
     let text = s .args .text .now in
     let done = l .done in
     let e : set (l .output) (at + done) (getD text done 0) ≡ paste (s .args .output .now) at text (suc done) =
-    ap (λ (o : List ℕ). set o (at + done) (getD text done 0)) (l .inv .0) ∙ paste-suc (s .args .output .now) at text done 0 (omega arith) (omega arith) in
+    ap (λ (o : List ℕ). set o (at + done) (getD text done 0)) (l .inv .0)
+    ∙ paste-suc (s .args .output .now) at text done 0 (omega arith) (omega arith) in
     (rw add-one e, omega arith, length-set (l .output) (at + done) (getD text done 0) ∙ l .inv .2)
 
 add-result : tie.Need-add-result Inv-loop μ-loop
@@ -60,4 +63,5 @@ returns c =
 pub put-text-spec : {M : Type 1} → statement M
 put-text-spec =
     tie.close
-    (tie.spec Inv-loop μ-loop loop-holds shared-slice-read-output add-output slice-write-output add-done loop-less loop-again add-result same-length returns)
+    (tie.spec Inv-loop μ-loop loop-holds shared-slice-read-output add-output slice-write-output add-done loop-less
+    loop-again add-result same-length returns)

@@ -1,4 +1,5 @@
--- The proof of the recursion of `text::operands::put_decimal`: it follows the division by ten, and the measure is the number.
+-- The proof of the recursion of `text::operands::put_decimal`: it follows the division by ten, and the measure is the
+-- number.
 use Prim.Native.Nat.{ℕ, _%_, _/_, _<_}
 use native.Mathlib.Omega.{arith}
 use mathlib.Core.Path.{ap}
@@ -36,11 +37,20 @@ add-put t c = omega arith
 put-requires : (t : ℕ) → lts.Need-put-requires (put.Asked, put.Learnt, below t, reads.Post) (at t) reads.Post
 put-requires t c κs = omega (arith, ap length (last-digit (c .before .before .before .args .n) (c .before .if1 .taken)))
 
-put-decimal-requires : (t : ℕ) → lts.Need-put-decimal-requires (put.Asked, put.Learnt, below t, reads.Post) (at t) reads.Post
+put-decimal-requires : (t : ℕ)
+    → lts.Need-put-decimal-requires (put.Asked, put.Learnt, below t, reads.Post) (at t) reads.Post
 put-decimal-requires t c κs =
     let s = c .before .before .before in
-    let n = s .args .n in
-    (omega (arith, s .pre .0), omega (arith, s .pre .1, ap length (digits-before n (c .before .if1 .left)), length-append (decimal (n / 10)) (digit (n % 10) ∷ [])))
+    let n = s .args .n in (
+      omega (arith, s .pre .0),
+      omega (
+        arith,
+        s .pre .1,
+        ap length (digits-before n (c .before .if1 .left)),
+        length-append (decimal (n / 10))
+            (digit (n % 10) ∷ []),
+      ),
+    )
 
 cast-put-2 : (t : ℕ) → lts.Need-cast-put-2 (put.Asked, put.Learnt, below t, reads.Post) (at t) reads.Post
 cast-put-2 t c = omega arith
@@ -51,23 +61,35 @@ add-put-2 t c = omega arith
 put-requires-2 : (t : ℕ) → lts.Need-put-requires-2 (put.Asked, put.Learnt, below t, reads.Post) (at t) reads.Post
 put-requires-2 t c κs =
     let n = c .before .before .before .before .before .before .before .args .n in
-    omega (arith, c .before .before .before .put-decimal .ensures .place, ap length (digits-before n (c .before .before .before .before .before .if1 .left)), length-append (decimal (n / 10)) (digit (n % 10) ∷ []))
+    omega (
+      arith,
+      c .before .before .before .put-decimal .ensures .place,
+      ap length
+          (digits-before n (c .before .before .before .before .before .if1 .left)),
+      length-append (decimal (n / 10))
+          (digit (n % 10) ∷ []),
+    )
 
 same-length : (t : ℕ) → lts.Need-same-length (put.Asked, put.Learnt, below t, reads.Post) (at t) reads.Post
 same-length t c = search needs
 
 returns : (t : ℕ) → lts.Need-returns (put.Asked, put.Learnt, below t, reads.Post) (at t) reads.Post
-returns t c = rw (last-digit (c .before .before .before .before .before .before .args .n) (c .before .before .before .before .if1 .taken)) (c .before .before .put .ensures)
+returns t c = rw (last-digit (c .before .before .before .before .before .before .args .n)
+    (c .before .before .before .before .if1 .taken)) (c .before .before .put .ensures)
 
 same-length-2 : (t : ℕ) → lts.Need-same-length-2 (put.Asked, put.Learnt, below t, reads.Post) (at t) reads.Post
 same-length-2 t c = search needs
 
 returns-2 : (t : ℕ) → lts.Need-returns-2 (put.Asked, put.Learnt, below t, reads.Post) (at t) reads.Post
 returns-2 t c =
-    rw (digits-before (c .before .before .before .before .before .before .before .before .before .before .args .n) (c .before .before .before .before .before .before .before .before .if1 .left))
-    (then (c .before .before .before .before .before .before .put-decimal .ensures) (c .before .before .put2 .ensures) (omega arith))
+    rw (digits-before (c .before .before .before .before .before .before .before .before .before .before .args .n)
+    (c .before .before .before .before .before .before .before .before .if1 .left))
+    (then (c .before .before .before .before .before .before .put-decimal .ensures) (c .before .before .put2 .ensures)
+    (omega arith))
 
 pub +put-decimal-spec : {M : Type 1} → statement M
 +put-decimal-spec =
     close μ
-    (λ t. lts.spec (put.Asked, put.Learnt, below t, reads.Post) (at t) reads.Post (cast-put t) (add-put t) (put-requires t) (put-decimal-requires t) (cast-put-2 t) (add-put-2 t) (put-requires-2 t) (same-length t) (returns t) (same-length-2 t) (returns-2 t))
+    (λ t. lts.spec (put.Asked, put.Learnt, below t, reads.Post) (at t) reads.Post (cast-put t) (add-put t)
+    (put-requires t) (put-decimal-requires t) (cast-put-2 t) (add-put-2 t) (put-requires-2 t) (same-length t)
+    (returns t) (same-length-2 t) (returns-2 t))

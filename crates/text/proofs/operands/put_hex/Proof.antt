@@ -7,10 +7,15 @@ use Rattle.text.proofs.operands.put_hex.Tie as tie
 
 returns : tie.Need-returns
 returns c =
-    rw (c .before .before .before .before .before .before .before .before .hex-digit .ensures, c .before .before .before .hex-digit2 .ensures)
-    at (then (c .before .before .before .before .before .before .before .put .ensures) (c .before .before .put2 .ensures) (omega arith))
+    rw (
+      c .before .before .before .before .before .before .before .before .hex-digit .ensures,
+      c .before .before .before .hex-digit2 .ensures,
+    )
+    at (then (c .before .before .before .before .before .before .before .put .ensures)
+    (c .before .before .put2 .ensures) (omega arith))
 
 pub put-hex-spec : {M : Type 1} → statement M
 put-hex-spec =
     tie.close
-    (tie.spec (λ c κs. search needs) (λ c κs. search needs) (λ c κs. search needs) (λ c κs. search needs) (λ c. search needs) returns)
+    (tie.spec (λ c κs. search needs) (λ c κs. search needs) (λ c κs. search needs) (λ c κs. search needs)
+    (λ c. search needs) returns)

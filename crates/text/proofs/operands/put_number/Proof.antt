@@ -22,14 +22,24 @@ put-text-requires c κs =
     omega (arith, ap length (below-zero (s .args .n) (s .fits .n) (c .before .before .if1 .taken)))
 
 add-put-decimal : tie.Need-add-put-decimal
-add-put-decimal c = omega (arith, sized (c .before .before .before .before .before .before .before), c .before .before .before .before .before .before .before .before .before .fits .n .sfits)
+add-put-decimal c = omega (
+  arith,
+  sized (c .before .before .before .before .before .before .before),
+  c .before .before .before .before .before .before .before .before .before .fits .n .sfits,
+)
 
 put-decimal-requires : tie.Need-put-decimal-requires
 put-decimal-requires c κs =
     let s = c .before .before .before .before .before .before .before .before .before in
     let z = c .before .before .before .before .before .before .before in
-    let e : length (decimal (z .size .result + 1)) ≡ length (decimal (mag (s .args .n) + 1)) = ap (λ (k : ℕ). length (decimal (k + 1))) (sized z) in
-    omega (arith, c .before .before .before .put-text .ensures .place, ap length (below-zero (s .args .n) (s .fits .n) (c .before .before .before .before .before .before .if1 .taken)))
+    let e : length (decimal (z .size .result + 1))
+    ≡ length (decimal (mag (s .args .n) + 1)) = ap (λ (k : ℕ). length (decimal (k + 1))) (sized z) in
+    omega (
+      arith,
+      c .before .before .before .put-text .ensures .place,
+      ap length
+          (below-zero (s .args .n) (s .fits .n) (c .before .before .before .before .before .before .if1 .taken)),
+    )
 
 put-text-requires-2 : tie.Need-put-text-requires-2
 put-text-requires-2 c κs =
@@ -40,22 +50,42 @@ put-decimal-requires-2 : tie.Need-put-decimal-requires-2
 put-decimal-requires-2 c κs =
     let s = c .before .before .before .before .before .before .before .before .before in
     let z = c .before .before .before .before .before .before .before in
-    let e : length (decimal (z .size .result)) ≡ length (decimal (mag (s .args .n))) = ap (λ (k : ℕ). length (decimal k)) (sized z) in
-    omega (arith, c .before .before .before .put-text2 .ensures .place, ap length (not-below-zero (s .args .n) (s .fits .n) (c .before .before .before .before .before .before .if1 .left)))
+    let e : length (decimal (z .size .result))
+    ≡ length (decimal (mag (s .args .n))) = ap (λ (k : ℕ). length (decimal k)) (sized z) in
+    omega (
+      arith,
+      c .before .before .before .put-text2 .ensures .place,
+      ap length
+          (not-below-zero (s .args .n) (s .fits .n) (c .before .before .before .before .before .before .if1 .left)),
+    )
 
 returns : tie.Need-returns
 returns c =
     let s = c .before .before .before .before .before .before .before .before .before .before .before .before in
-    rw (below-zero (s .args .n) (s .fits .n) (c .before .before .before .before .before .before .before .before .before .if1 .taken), ← sized (c .before .before .before .before .before .before .before .before .before .before))
-    (then (c .before .before .before .before .before .before .put-text .ensures) (c .before .before .put-decimal .ensures) (omega arith))
+    rw (
+      below-zero (s .args .n) (s .fits .n)
+          (c .before .before .before .before .before .before .before .before .before .if1 .taken),
+      ← sized
+          (c .before .before .before .before .before .before .before .before .before .before),
+    )
+    (then (c .before .before .before .before .before .before .put-text .ensures)
+    (c .before .before .put-decimal .ensures) (omega arith))
 
 returns-2 : tie.Need-returns-2
 returns-2 c =
     let s = c .before .before .before .before .before .before .before .before .before .before .before .before in
-    rw (not-below-zero (s .args .n) (s .fits .n) (c .before .before .before .before .before .before .before .before .before .if1 .left), ← sized (c .before .before .before .before .before .before .before .before .before .before))
-    (then (c .before .before .before .before .before .before .put-text2 .ensures) (c .before .before .put-decimal2 .ensures) (omega arith))
+    rw (
+      not-below-zero (s .args .n) (s .fits .n)
+          (c .before .before .before .before .before .before .before .before .before .if1 .left),
+      ← sized
+          (c .before .before .before .before .before .before .before .before .before .before),
+    )
+    (then (c .before .before .before .before .before .before .put-text2 .ensures)
+    (c .before .before .put-decimal2 .ensures) (omega arith))
 
 pub put-number-spec : {M : Type 1} → statement M
 put-number-spec =
     tie.close
-    (tie.spec (λ c κs. search needs) (λ c. search needs) put-text-requires add-put-decimal put-decimal-requires (λ c. search needs) put-text-requires-2 put-decimal-requires-2 (λ c. search needs) returns (λ c. search needs) returns-2)
+    (tie.spec (λ c κs. search needs) (λ c. search needs) put-text-requires add-put-decimal put-decimal-requires
+    (λ c. search needs) put-text-requires-2 put-decimal-requires-2 (λ c. search needs) returns (λ c. search needs)
+    returns-2)

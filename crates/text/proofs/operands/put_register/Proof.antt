@@ -6,7 +6,9 @@ use Rattle.text.proofs.operands.put_register.Statement.{statement}
 use Rattle.text.proofs.operands.put_register.Tie as tie
 
 returns : tie.Need-returns
-returns c = then (c .before .before .before .before .before .before .put .ensures) (c .before .before .put2 .ensures) (omega arith)
+returns c = then (c .before .before .before .before .before .before .put .ensures) (c .before .before .put2 .ensures)
+    (omega arith)
 
 pub put-register-spec : {M : Type 1} → statement M
-put-register-spec = tie.close (tie.spec (λ c κs. search needs) (λ c. search needs) (λ c κs. search needs) (λ c. search needs) returns)
+put-register-spec = tie.close (tie.spec (λ c κs. search needs) (λ c. search needs) (λ c κs. search needs)
+    (λ c. search needs) returns)

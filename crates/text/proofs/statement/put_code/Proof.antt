@@ -6,11 +6,13 @@ use Rattle.text.proofs.statement.put_code.Statement.{statement}
 use Rattle.text.proofs.statement.put_code.Tie as tie
 
 put-requires : tie.Need-put-requires
-put-requires c κs = rw (eq-eqb (c .before .before .before .args .bit) 1 (c .before .if1 .taken)) at (c .before .before .before .pre)
+put-requires c κs = rw (eq-eqb (c .before .before .before .args .bit) 1 (c .before .if1 .taken)) at
+    (c .before .before .before .pre)
 
 returns : tie.Need-returns
 returns c =
-    rw (eq-eqb (c .before .before .before .before .before .before .args .bit) 1 (c .before .before .before .before .if1 .taken))
+    rw (eq-eqb (c .before .before .before .before .before .before .args .bit) 1
+    (c .before .before .before .before .if1 .taken))
     (c .before .before .put .ensures)
 
 returns-2 : tie.Need-returns-2

@@ -16,8 +16,14 @@ use Rattle.text.proofs.statement.put_last_number.Statement.{statement}
 use Rattle.text.proofs.statement.put_last_number.Tie as tie
 
 -- the room that the requires leaves for the parts
-fits : (s : tie.Start) → s .args .at + (length (s .args .separator .now) + (length (signedNumber (s .args .n)) + 1)) ≤ length (s .args .output .now)
-fits s = omega (arith, s .pre, length-append (s .args .separator .now) (signedNumber (s .args .n) ++ lineFeed ∷ []), length-append (signedNumber (s .args .n)) (lineFeed ∷ []))
+fits : (s : tie.Start) → s .args .at + (length (s .args .separator .now) + (length (signedNumber (s .args .n)) + 1)) ≤
+    length (s .args .output .now)
+fits s = omega (
+  arith,
+  s .pre,
+  length-append (s .args .separator .now) (signedNumber (s .args .n) ++ lineFeed ∷ []),
+  length-append (signedNumber (s .args .n)) (lineFeed ∷ []),
+)
 
 -- the number that is passed on is the one given
 same : (s : tie.Start) → length (signedNumber (toZ w16 (ofZ w16 (s .args .n)))) ≡ length (signedNumber (s .args .n))
@@ -51,7 +57,8 @@ returns c =
     let s = c1 .before .before .before .before in
     let room = fits s in
     let passed = same s in
-    then (c1 .put-text .ensures) (then (rw (toZ-ofZ (s .fits .n)) at (c2 .put-number .ensures)) (c3 .put .ensures) (omega arith)) (omega arith)
+    then (c1 .put-text .ensures) (then (rw (toZ-ofZ (s .fits .n)) at (c2 .put-number .ensures)) (c3 .put .ensures)
+    (omega arith)) (omega arith)
 
 pub put-last-number-spec : {M : Type 1} → statement M
 put-last-number-spec =

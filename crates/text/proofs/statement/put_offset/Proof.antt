@@ -16,11 +16,19 @@ use Rattle.text.proofs.statement.put_offset.Statement.{statement}
 use Rattle.text.proofs.statement.put_offset.Tie as tie
 
 -- the room that the requires leaves for the parts
-fits : (s : tie.Start) → s .args .at + (length (s .args .mnemonic .now) + length (space ∷ signedNumber (s .args .n) ++ lineFeed ∷ [])) ≤ length (s .args .output .now)
-fits s = omega (arith, s .pre, length-append (s .args .mnemonic .now) (space ∷ signedNumber (s .args .n) ++ lineFeed ∷ []))
+fits : (s : tie.Start) → s .args .at +
+    (length (s .args .mnemonic .now) + length (space ∷ signedNumber (s .args .n) ++ lineFeed ∷ [])) ≤ length
+    (s .args .output .now)
+fits s = omega (
+  arith,
+  s .pre,
+  length-append (s .args .mnemonic .now)
+      (space ∷ signedNumber (s .args .n) ++ lineFeed ∷ []),
+)
 
 -- the number that is passed on is the one given
-same : (s : tie.Start) → length (signedNumber (toZ w16 (ofZ w16 (s .args .n))) ++ lineFeed ∷ []) ≡ length (signedNumber (s .args .n) ++ lineFeed ∷ [])
+same : (s : tie.Start) → length (signedNumber (toZ w16 (ofZ w16 (s .args .n))) ++ lineFeed ∷ [])
+    ≡ length (signedNumber (s .args .n) ++ lineFeed ∷ [])
 same s = ap (λ (z : ℤ). length (signedNumber z ++ lineFeed ∷ [])) (toZ-ofZ (s .fits .n))
 
 put-text-requires : tie.Need-put-text-requires

@@ -12,7 +12,9 @@ use Rattle.text.proofs.statement.put_one.Statement.{statement}
 use Rattle.text.proofs.statement.put_one.Tie as tie
 
 -- the room that the requires leaves for the parts
-fits : (s : tie.Start) → s .args .at + (length (s .args .mnemonic .now) + length (space ∷ register (s .args .a) ++ others [])) ≤ length (s .args .output .now)
+fits : (s : tie.Start) → s .args .at +
+    (length (s .args .mnemonic .now) + length (space ∷ register (s .args .a) ++ others [])) ≤ length
+    (s .args .output .now)
 fits s = omega (arith, s .pre .1, length-append (s .args .mnemonic .now) (space ∷ register (s .args .a) ++ others []))
 
 put-text-requires : tie.Need-put-text-requires

@@ -9,7 +9,8 @@ use Rattle.text.proofs.statement.put_operand.Statement.{statement}
 use Rattle.text.proofs.statement.put_operand.Tie as tie
 
 -- the room that the requires leaves for the parts
-fits : (s : tie.Start) → s .args .at + (length (s .args .separator .now) + length (register (s .args .r))) ≤ length (s .args .output .now)
+fits : (s : tie.Start) → s .args .at + (length (s .args .separator .now) + length (register (s .args .r))) ≤ length
+    (s .args .output .now)
 fits s = omega (arith, s .pre .1, length-append (s .args .separator .now) (register (s .args .r)))
 
 put-text-requires : tie.Need-put-text-requires

@@ -12,8 +12,15 @@ use Rattle.text.proofs.statement.put_two.Statement.{statement}
 use Rattle.text.proofs.statement.put_two.Tie as tie
 
 -- the room that the requires leaves for the parts
-fits : (s : tie.Start) → s .args .at + (length (s .args .mnemonic .now) + length (space ∷ register (s .args .a) ++ others (register (s .args .b) ∷ []))) ≤ length (s .args .output .now)
-fits s = omega (arith, s .pre .2, length-append (s .args .mnemonic .now) (space ∷ register (s .args .a) ++ others (register (s .args .b) ∷ [])))
+fits : (s : tie.Start) → s .args .at +
+    (length (s .args .mnemonic .now) + length (space ∷ register (s .args .a) ++ others (register (s .args .b) ∷ []))) ≤
+    length (s .args .output .now)
+fits s = omega (
+  arith,
+  s .pre .2,
+  length-append (s .args .mnemonic .now)
+      (space ∷ register (s .args .a) ++ others (register (s .args .b) ∷ [])),
+)
 
 put-text-requires : tie.Need-put-text-requires
 put-text-requires c κs =
@@ -35,7 +42,8 @@ put-operand-requires-2 c κs =
 
 put-requires : tie.Need-put-requires
 put-requires c κs =
-    let s = c .before .before .before .before .before .before .before .before .before .before .before .before .before .before .before .before .before in
+    let s = c .before .before .before .before .before .before .before .before .before .before .before .before .before
+    .before .before .before .before in
     let room = fits s in
     omega arith
 
@@ -47,9 +55,11 @@ returns c =
     let c1 = c2 .before .before .before .before .before in
     let s = c1 .before .before .before .before in
     let room = fits s in
-    then (c1 .put-text .ensures) (then (c2 .put-operand .ensures) (then (c3 .put-operand2 .ensures) (c4 .put .ensures) (omega arith)) (omega arith)) (omega arith)
+    then (c1 .put-text .ensures) (then (c2 .put-operand .ensures)
+    (then (c3 .put-operand2 .ensures) (c4 .put .ensures) (omega arith)) (omega arith)) (omega arith)
 
 pub put-two-spec : {M : Type 1} → statement M
 put-two-spec =
     tie.close
-    (tie.spec put-text-requires (λ c. search needs) put-operand-requires (λ c. search needs) put-operand-requires-2 put-requires (λ c. search needs) returns)
+    (tie.spec put-text-requires (λ c. search needs) put-operand-requires (λ c. search needs) put-operand-requires-2
+    put-requires (λ c. search needs) returns)

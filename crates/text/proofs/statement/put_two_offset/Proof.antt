@@ -17,11 +17,20 @@ use Rattle.text.proofs.statement.put_two_offset.Statement.{statement}
 use Rattle.text.proofs.statement.put_two_offset.Tie as tie
 
 -- the room that the requires leaves for the parts
-fits : (s : tie.Start) → s .args .at + (length (s .args .mnemonic .now) + length (space ∷ register (s .args .a) ++ others (register (s .args .b) ∷ signedNumber (s .args .n) ∷ []))) ≤ length (s .args .output .now)
-fits s = omega (arith, s .pre .2, length-append (s .args .mnemonic .now) (space ∷ register (s .args .a) ++ others (register (s .args .b) ∷ signedNumber (s .args .n) ∷ [])))
+fits : (s : tie.Start) → s .args .at +
+    (length (s .args .mnemonic .now) + length
+    (space ∷ register (s .args .a) ++ others (register (s .args .b) ∷ signedNumber (s .args .n) ∷ []))) ≤ length
+    (s .args .output .now)
+fits s = omega (
+  arith,
+  s .pre .2,
+  length-append (s .args .mnemonic .now)
+      (space ∷ register (s .args .a) ++ others (register (s .args .b) ∷ signedNumber (s .args .n) ∷ [])),
+)
 
 -- the number that is passed on is the one given
-same : (s : tie.Start) → length (signedNumber (toZ w16 (ofZ w16 (s .args .n))) ++ lineFeed ∷ []) ≡ length (signedNumber (s .args .n) ++ lineFeed ∷ [])
+same : (s : tie.Start) → length (signedNumber (toZ w16 (ofZ w16 (s .args .n))) ++ lineFeed ∷ [])
+    ≡ length (signedNumber (s .args .n) ++ lineFeed ∷ [])
 same s = ap (λ (z : ℤ). length (signedNumber z ++ lineFeed ∷ [])) (toZ-ofZ (s .fits .n))
 
 put-text-requires : tie.Need-put-text-requires
@@ -44,7 +53,8 @@ put-operand-requires-2 c κs =
 
 put-last-number-requires : tie.Need-put-last-number-requires
 put-last-number-requires c κs =
-    let s = c .before .before .before .before .before .before .before .before .before .before .before .before .before .before .before .before .before .before in
+    let s = c .before .before .before .before .before .before .before .before .before .before .before .before .before
+    .before .before .before .before .before in
     let room = fits s in
     let passed = same s in
     omega arith
@@ -58,9 +68,12 @@ returns c =
     let s = c1 .before .before .before .before in
     let room = fits s in
     let passed = same s in
-    then (c1 .put-text .ensures) (then (c2 .put-operand .ensures) (then (c3 .put-operand2 .ensures) (rw (toZ-ofZ (s .fits .n)) at (c4 .put-last-number .ensures)) (omega arith)) (omega arith)) (omega arith)
+    then (c1 .put-text .ensures) (then (c2 .put-operand .ensures)
+    (then (c3 .put-operand2 .ensures) (rw (toZ-ofZ (s .fits .n)) at (c4 .put-last-number .ensures)) (omega arith))
+    (omega arith)) (omega arith)
 
 pub put-two-offset-spec : {M : Type 1} → statement M
 put-two-offset-spec =
     tie.close
-    (tie.spec put-text-requires (λ c. search needs) put-operand-requires (λ c. search needs) put-operand-requires-2 (λ c. search needs) put-last-number-requires (λ c. search needs) returns)
+    (tie.spec put-text-requires (λ c. search needs) put-operand-requires (λ c. search needs) put-operand-requires-2
+    (λ c. search needs) put-last-number-requires (λ c. search needs) returns)

@@ -1,5 +1,5 @@
--- `word::fields::extend` meets its contract: the test of the field's top bit is the one of `signed`, and the complement of a small
--- i16 is the negative number meant.
+-- `word::fields::extend` meets its contract: the test of the field's top bit is the one of `signed`, and the complement
+-- of a small i16 is the negative number meant.
 use Prim.Native.Nat.{ℕ, suc, _+_, _-_, _%_, _<_}
 use native.Mathlib.Omega.{arith}
 use native.Mathlib.Nat.{mod-lt}
@@ -37,4 +37,5 @@ returns-2 c =
 pub extend-spec : {M : Type 1} → statement M
 extend-spec =
     tie.close
-    (tie.spec (λ c. search needs) (λ c. search needs) (λ c. search needs) (λ c. search needs) (λ c. search needs) sub-result-2 (λ c. search needs) returns returns-2)
+    (tie.spec (λ c. search needs) (λ c. search needs) (λ c. search needs) (λ c. search needs) (λ c. search needs)
+    sub-result-2 (λ c. search needs) returns returns-2)

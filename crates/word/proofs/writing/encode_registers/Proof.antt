@@ -16,14 +16,25 @@ returns-2 c =
 returns-3 : tie.Need-returns-3
 returns-3 c =
     let s = c .before .before .before .before .args in
-    simp
-    (c .refuse3 .ensures, lt-ltb (s .bits11to9) 8 (omega arith), lt-ltb (s .bits8to6) 8 (omega arith), le-ltb (s .bits2to0) 8 (omega arith))
+    simp (
+      c .refuse3 .ensures,
+      lt-ltb (s .bits11to9) 8 (omega arith),
+      lt-ltb (s .bits8to6) 8 (omega arith),
+      le-ltb
+          (s .bits2to0) 8 (omega arith),
+    )
 
 returns-4 : tie.Need-returns-4
 returns-4 c =
     let s = c .before .before .before .args in
-    simp (lt-ltb (s .bits11to9) 8 (omega arith), lt-ltb (s .bits8to6) 8 (omega arith), lt-ltb (s .bits2to0) 8 (omega arith))
+    simp (
+      lt-ltb (s .bits11to9) 8 (omega arith),
+      lt-ltb (s .bits8to6) 8 (omega arith),
+      lt-ltb (s .bits2to0) 8
+          (omega arith),
+    )
 
 pub encode-registers-spec : {M : Type 1} → statement M
 encode-registers-spec =
-    tie.close (tie.spec (λ c κs. search needs) returns (λ c κs. search needs) returns-2 (λ c κs. search needs) returns-3 (λ c. search needs) (λ c. search needs) (λ c. search needs) (λ c. search needs) (λ c. search needs) returns-4)
+    tie.close (tie.spec (λ c κs. search needs) returns (λ c κs. search needs) returns-2 (λ c κs. search needs) returns-3
+    (λ c. search needs) (λ c. search needs) (λ c. search needs) (λ c. search needs) (λ c. search needs) returns-4)
