@@ -81,7 +81,7 @@ fn in_steps(m: Machine) -> Machine {
 
 fn main() {
     introduce();
-    let m = run::fresh(0x3000, true, 0xFDFF);
+    let m = runner::fresh(0x3000, true, 0xFDFF);
     let a = in_calls(m);
     let b = in_steps(m);
     if same_record(a, b) {

@@ -1,4 +1,4 @@
-// The machine for hosts in C and Rust: document 01's fresh record, run and single step. They are those of `run`, but
+// The machine for hosts in C and Rust: document 01's fresh record, run and single step. They are those of `runner`, but
 // for refusals and stops, which are answered by their numbers, since an enum can't cross to C. Nothing is required of a
 // caller.
 use machine::Machine;
@@ -119,7 +119,7 @@ fn report_of(report: Report) -> Lc3Report
 pub extern "C" fn lc3_fresh(pc: u16, user: bool, stack: u16) -> Machine
     ensures { λ r. ⌜ r ≡ freshOf pc user stack ⌝ }
 {
-    run::fresh(pc, user, stack)
+    runner::fresh(pc, user, stack)
 }
 
 // The run of n steps. A call that is turned down answers its number and leaves everything as it was handed in.
@@ -136,7 +136,7 @@ pub extern "C" fn lc3_run(
         ≡ answerOf (callOf (startOf m (now (memory .entry)) (now (times .entry)) (now (bytes .entry))
         (now (output .entry))) n) ⌝ }
 {
-    let a = run::run(m, memory, times, bytes, output, n);
+    let a = runner::run(m, memory, times, bytes, output, n);
     let machine = a.machine;
     let r = report_of(a.report);
     Lc3Answer {
@@ -164,6 +164,6 @@ pub extern "C" fn lc3_step(
         ≡ answerOf (callOf (startOf (now (m .entry)) (now (memory .entry)) (now (times .entry)) (now (bytes .entry))
         (now (output .entry))) 1) ⌝ }
 {
-    let report = run::single_step(m, memory, times, bytes, output);
+    let report = runner::single_step(m, memory, times, bytes, output);
     report_of(report)
 }

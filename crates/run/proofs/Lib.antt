@@ -1,4 +1,4 @@
--- The laws of runs and calls, the loop over the steps, and the proofs of the theorems.
+-- The laws of runs and calls, and the proofs of the theorems.
 pub mod RefusedCalls
 pub mod RunLaws
 pub mod RunKeeps
@@ -6,8 +6,6 @@ pub mod Acceptance
 pub mod RefusalLaws
 pub mod KeyTimes
 pub mod KeyLists
-pub mod LoopLaws
-pub mod QuietLaws
 pub mod Examples
 pub mod CallExamples
 pub mod Continuing

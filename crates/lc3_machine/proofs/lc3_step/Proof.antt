@@ -1,4 +1,4 @@
--- `lc3_step` meets its contract, by a walk of its MIR: the record and the slices are given to `run::single_step` for good, each at its
+-- `lc3_step` meets its contract, by a walk of its MIR: the record and the slices are given to `runner::single_step` for good, each at its
 -- own lifetime, and its report goes to `report_of`. The parameters are those of `single_step`: what it asks is what there is on entry,
 -- and what it ensures of the last values is said of the same names. Of both callees the proof knows the contracts alone.
 use mathlib.Core.Path.{_≡_, refl, ap, _∙_}
@@ -41,10 +41,10 @@ use Rattle.run.specs.declared.Report.{Report}
 use Rattle.run.specs.Call.{startOf, stepEndOf, callOf}
 use Rattle.run.proofs.Report as P
 use Rattle.run.proofs.Report.Laws as P′
-use Rattle.run.proofs.single_step as step
-use Rattle.run.proofs.single_step.Symbol as step-def
-use Rattle.run.proofs.single_step.Symbol.{name as #run·single-step}
-use Rattle.run.proofs.single_step.Met as step-thm
+use Rattle.runner.proofs.single_step as step
+use Rattle.runner.proofs.single_step.Symbol as step-def
+use Rattle.runner.proofs.single_step.Symbol.{name as #runner·single-step}
+use Rattle.runner.proofs.single_step.Met as step-thm
 use Rattle.lc3_machine.specs.declared.Lc3Report.{Lc3Report}
 use Rattle.lc3_machine.specs.Answer.{answerOf, reportOf, reported}
 use Rattle.lc3_machine.proofs.Lc3Report as N
@@ -132,7 +132,7 @@ module _ {M : Type 1} (𝓤 : URA M) (H : Heap 𝓤) (A : Atoms 𝓤) (W : Given
       -- the tokens, then what is had of the parameters, from the last, then the numbers
       move ! (1 ∷ []) $ frame ! $ nothing ! $ move ! (2 ∷ 0 ∷ []) $ fjoin ! $ nothing ! $ fjoin ! $ nothing ! $ fjoin ! $ move ! (2 ∷ 0 ∷ []) $ fjoin ! $ move ! (2 ∷ 0 ∷ []) $ fjoin ! $ done !
 
-  module _ (C : Calls 𝓤 H) (Λ : Loops 𝓤 H) (fm : FmC 𝓤 H (W .laws) C) (known-step : Triple 𝓤 (C #run·single-step) (Step 𝓤 H A at-mem run)) (known-put : Triple 𝓤 (C #lc3-machine·report-of) (Put 𝓤 H A at-mem run)) where
+  module _ (C : Calls 𝓤 H) (Λ : Loops 𝓤 H) (fm : FmC 𝓤 H (W .laws) C) (known-step : Triple 𝓤 (C #runner·single-step) (Step 𝓤 H A at-mem run)) (known-put : Triple 𝓤 (C #lc3-machine·report-of) (Put 𝓤 H A at-mem run)) where
     walk : Room u16 (length (a .1 .0 .now)) → Room u64 (length (a .1 .1 .0 .now)) → Room u8 (length (a .1 .1 .1 .0 .now)) → Room u8 (length (a .1 .1 .1 .1 .0 .now))
         → ent 𝓤 (Step 𝓤 H A at-mem run .pre to-step) (WpFn 𝓤 H C Λ code.function (Step 𝓤 H A at-mem run .args to-step) Post)
     walk room-x room-t room-y room-z =
@@ -177,7 +177,7 @@ module _ {M : Type 1} (𝓤 : URA M) (H : Heap 𝓤) (A : Atoms 𝓤) (W : Given
 
 module _ {M : Type 1} (𝓤 : URA M) (H : Heap 𝓤) (A : Atoms 𝓤) (W : Given 𝓤 H A) (at-mem : Memory → SProp 𝓤) (run : Routine → Fun 𝓤) where
   -- the walk at every choice of lifetimes, shares and arguments
-  walks : (C : Calls 𝓤 H) (Λ : Loops 𝓤 H) → FmC 𝓤 H (W .laws) C → Triple 𝓤 (C #run·single-step) (Step 𝓤 H A at-mem run) → Triple 𝓤 (C #lc3-machine·report-of) (Put 𝓤 H A at-mem run)
+  walks : (C : Calls 𝓤 H) (Λ : Loops 𝓤 H) → FmC 𝓤 H (W .laws) C → Triple 𝓤 (C #runner·single-step) (Step 𝓤 H A at-mem run) → Triple 𝓤 (C #lc3-machine·report-of) (Put 𝓤 H A at-mem run)
       → Walks 𝓤 H A f.ended stayed (WpFn 𝓤 H C Λ code.function) (f.clauses 𝓤 H A at-mem run)
   walks C Λ fm known-step known-put = walked 𝓤 H A f.ended stayed (f.clauses 𝓤 H A at-mem run) (WpFn 𝓤 H C Λ code.function) (λ κs. (ptr-vals, (slice-vals, (slice-vals, (slice-vals, (slice-vals, tt))))))
       (λ κs. (mut-tells (named 0) (κs .0) T.the-row, (mut-slice-tells (named 1) (κs .1 .0) u16, (shr-slice-tells (named 2) (κs .1 .1 .0) u64, (shr-slice-tells (named 3) (κs .1 .1 .1 .0) u8, (mut-slice-tells (named 4) (κs .1 .1 .1 .1 .0) u8, tt))))))
@@ -196,7 +196,7 @@ module _ {M : Type 1} (𝓤 : URA M) (H : Heap 𝓤) (A : Atoms 𝓤) (W : Given
   )
 
   -- the walk, taken to the contract
-  meets : (𝓣 : Tables 𝓤 H) → Triple 𝓤 (𝓣 .C #run·single-step) (Step 𝓤 H A at-mem run) → Triple 𝓤 (𝓣 .C #lc3-machine·report-of) (Put 𝓤 H A at-mem run)
+  meets : (𝓣 : Tables 𝓤 H) → Triple 𝓤 (𝓣 .C #runner·single-step) (Step 𝓤 H A at-mem run) → Triple 𝓤 (𝓣 .C #lc3-machine·report-of) (Put 𝓤 H A at-mem run)
       → Meets 𝓤 H A f.signature (WpFn 𝓤 H (𝓣 .C) (𝓣 .Λ) code.function) (f.spec 𝓤 H A at-mem run)
   meets 𝓣 known-step known-put =
       walk-meets 𝓤 H A f.ended stayed W goes (f.clauses 𝓤 H A at-mem run)
@@ -208,5 +208,5 @@ lc3-step-spec 𝓤 H 𝓜 𝓖 𝓡 =
     entered 𝓤 H (tripleOf 𝓤 H (𝓖 .A) f.signature (f.spec 𝓤 H (𝓖 .A) (𝓜 .mem) (𝓡 .run)))
     (tables 𝓤 H 𝓜 𝓡 code.env .C) (tables 𝓤 H 𝓜 𝓡 code.env .Λ) #lc3-machine·lc3-step code.function (code.unfolded 𝓤 H 𝓜 𝓡)
     (meets 𝓤 H (𝓖 .A) (givenOf 𝓤 H 𝓜 𝓖) (𝓜 .mem) (𝓡 .run) (tablesOf 𝓤 H 𝓜 (tables 𝓤 H 𝓜 𝓡 code.env))
-    (cited 𝓤 H (Step 𝓤 H (𝓖 .A) (𝓜 .mem) (𝓡 .run)) 𝓜 𝓡 code.env #run·single-step step-def.routine code.calls-run·single-step (step-thm.met 𝓤 H 𝓜 𝓖 𝓡))
+    (cited 𝓤 H (Step 𝓤 H (𝓖 .A) (𝓜 .mem) (𝓡 .run)) 𝓜 𝓡 code.env #runner·single-step step-def.routine code.calls-runner·single-step (step-thm.met 𝓤 H 𝓜 𝓖 𝓡))
     (cited 𝓤 H (Put 𝓤 H (𝓖 .A) (𝓜 .mem) (𝓡 .run)) 𝓜 𝓡 code.env #lc3-machine·report-of put-def.routine code.calls-lc3-machine·report-of (put-thm.met 𝓤 H 𝓜 𝓖 𝓡)))

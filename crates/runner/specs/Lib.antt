@@ -1,0 +1,3 @@
+-- What the functions of the loop answer and leave.
+pub mod Stepping
+pub mod Stretches
