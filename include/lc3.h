@@ -52,12 +52,13 @@ extern "C" {
  * call changes. The name that the shared library is loaded by (its SONAME) ends in it, as in
  * liblc3.so.3, so that no host meets another version than it was built for.
  */
-#define LC3_VERSION 4
+#define LC3_VERSION 5
 
 /* Sizes and limits. */
 #define LC3_MEMORY_WORDS 65536            /* words of memory: no other number is accepted */
 #define LC3_MAX_STEPS 1048576             /* steps of one call; a longer run is several calls */
 #define LC3_MAX_CLOCK (UINT64_C(1) << 48) /* the clock never passes this */
+#define LC3_MAX_BUSY 8                    /* steps for which the display is busy after a byte */
 #define LC3_MAX_LINE 17                   /* bytes of the longest line, its line feed included */
 #define LC3_VECTOR_WORDS 512              /* the vector words, x0000 to x01FF */
 #define LC3_MONITOR_WORDS 677             /* the words of the ready-made monitor, x0000 to x02A4 */
@@ -75,7 +76,14 @@ extern "C" {
 #define LC3_KBDR_BYTE 0x00FF      /* the last key */
 #define LC3_MCR_CLOCK 0x8000      /* clock enable; a machine with this bit clear is halted */
 
-/* Addresses of the device registers: privileged, as are all of x0000 to x2FFF, xFE00 to xFFFF. */
+/*
+ * Addresses of the device registers: privileged, as are all of x0000 to x2FFF, xFE00 to xFFFF.
+ *
+ * The display takes its time. After a step that shows a byte it is busy for LC3_MAX_BUSY steps, of
+ * whatever kind: meanwhile a load of the DSR gives 0 instead of x8000, and a byte stored to the DDR
+ * is lost. A program that is to lose none waits until the DSR is negative, as the routines of the
+ * ready-made monitor do.
+ */
 #define LC3_ADDRESS_KBSR 0xFE00
 #define LC3_ADDRESS_KBDR 0xFE02
 #define LC3_ADDRESS_DSR 0xFE04
@@ -102,7 +110,7 @@ enum {
     LC3_REFUSED_FIELD = 2,    /* a value is out of its field's range, or the kind is unknown */
     LC3_REFUSED_MASK = 3,     /* the mask of a BR is above 7 */
     LC3_REFUSED_MEMORY = 11,  /* memory is not LC3_MEMORY_WORDS words */
-    LC3_REFUSED_RECORD = 12,  /* an undefined bit in PSR, KBSR, KBDR or MCR, or a clock too high */
+    LC3_REFUSED_RECORD = 12,  /* an undefined bit in PSR, KBSR, KBDR, MCR; busy or clock too high */
     LC3_REFUSED_STEPS = 13,   /* n is above LC3_MAX_STEPS, or clock + n above LC3_MAX_CLOCK */
     LC3_REFUSED_LISTS = 14,   /* times and bytes differ in length */
     LC3_REFUSED_TIME = 15,    /* times[index] is below the clock */
@@ -124,7 +132,7 @@ enum {
 enum {
     LC3_DONE = 0,       /* n steps were made */
     LC3_HALTED = 1,     /* the MCR's clock enable is clear */
-    LC3_OUTPUT_FULL = 2 /* the next step stores to the DDR and the output has no free byte */
+    LC3_OUTPUT_FULL = 2 /* the next step shows a byte and the output has no free one */
 };
 
 /* The machine, apart from its memory. A host may read and alter every field between calls. */
@@ -137,6 +145,7 @@ typedef struct {
     uint16_t kbsr;      /* keyboard status */
     uint16_t kbdr;      /* keyboard data */
     uint16_t mcr;       /* machine control */
+    uint16_t busy;      /* steps until the display is ready, 0 to LC3_MAX_BUSY; 0 is ready */
     uint64_t clock;     /* steps made since the machine was fresh */
 } lc3_record;
 
@@ -385,6 +394,7 @@ LC3_LAYOUT(offsetof(lc3_record, saved_usp) == 22);
 LC3_LAYOUT(offsetof(lc3_record, kbsr) == 24);
 LC3_LAYOUT(offsetof(lc3_record, kbdr) == 26);
 LC3_LAYOUT(offsetof(lc3_record, mcr) == 28);
+LC3_LAYOUT(offsetof(lc3_record, busy) == 30);
 LC3_LAYOUT(offsetof(lc3_record, clock) == 32);
 
 LC3_LAYOUT(sizeof(lc3_answer) == 80);

@@ -77,6 +77,7 @@ static random_case make_case(unsigned number) {
     c.record.kbsr = any() & 0xC000;
     c.record.kbdr = any() & 0x00FF;
     c.record.mcr = any() % 32 ? 0x8000 : 0;
+    c.record.busy = any() % 2 ? 0 : any() % (LC3_MAX_BUSY + 1);
     c.record.clock = any() % 1000;
     uint64_t time = c.record.clock;
     for (int i = 0; i < KEYS; i++) {
@@ -91,6 +92,7 @@ static random_case make_case(unsigned number) {
     if (number % 40 == 3) c.record.clock = LC3_MAX_CLOCK - any() % 400;
     if (number % 40 == 4) c.bytes_len--;
     if (number % 40 == 5) c.times[any() % KEYS] -= 5;
+    if (number % 40 == 6) c.record.busy = LC3_MAX_BUSY + 1;
     return c;
 }
 
@@ -105,7 +107,7 @@ static lc3_answer obey_case(run_function *run, const random_case *c, uint16_t *m
 static bool same_record(const lc3_record *a, const lc3_record *b) {
     return !memcmp(a->regs, b->regs, sizeof a->regs) && a->pc == b->pc && a->psr == b->psr &&
            a->saved_ssp == b->saved_ssp && a->saved_usp == b->saved_usp && a->kbsr == b->kbsr &&
-           a->kbdr == b->kbdr && a->mcr == b->mcr && a->clock == b->clock;
+           a->kbdr == b->kbdr && a->mcr == b->mcr && a->busy == b->busy && a->clock == b->clock;
 }
 
 static bool same_answer(const lc3_answer *a, const lc3_answer *b) {
@@ -162,7 +164,7 @@ static double now(void) {
 
 /* Nanoseconds per step of a program, over calls of the full length for about the given time. */
 static double time_steps(run_function *run, const program *p, double ns) {
-    uint8_t output[16];
+    static uint8_t output[MOST_SHOWN];
     lc3_record record = lc3_fresh(0x3000, true, 0xFDFF);
     uint64_t steps = 0;
     load_program(lent, p);

@@ -6,6 +6,7 @@
 #include <stdlib.h>
 
 static uint16_t memory[LC3_MEMORY_WORDS];
+static uint8_t output[MOST_SHOWN];
 
 int main(int argc, char **argv) {
     if (argc != 4) {
@@ -16,7 +17,7 @@ int main(int argc, char **argv) {
                         : !strcmp(argv[1], "plain") ? plain_run
                                                     : tuned_run;
     uint64_t steps = strtoull(argv[3], NULL, 10), time = 0;
-    uint8_t byte = 0, output[16];
+    uint8_t byte = 0;
     lc3_record record = lc3_fresh(0x3000, true, 0xFDFF);
     for (int p = 0; p < PROGRAMS; p++) {
         if (strcmp(argv[2], programs[p].name)) continue;

@@ -1,6 +1,7 @@
 /*
  * The programs that are timed and counted: words from x3000 up, in User mode, without end. TRAP x25
- * leads to an RTI at x0200, TRAP x20 to a routine that waits for a key.
+ * leads to an RTI at x0200, TRAP x20 to a routine that waits for a key, TRAP x21 to one that waits
+ * for the display and shows a byte.
  */
 #ifndef PROGRAMS_H
 #define PROGRAMS_H
@@ -106,6 +107,24 @@ static const uint16_t getc_words[] = {
     0xFE00, /* KBSR    .FILL  xFE00 */
 };
 
+/* Byte after byte: most steps are those of the wait for the display. */
+static const uint16_t show_words[] = {
+    0xF021, /* AGAIN   TRAP   x21 */
+    0x0FFE, /*         BRnzp  AGAIN */
+};
+
+static const uint16_t out_words[] = {
+    0xA203, /* WAIT    LDI    R1, DSR */
+    0x07FE, /*         BRzp   WAIT */
+    0xB002, /*         STI    R0, DDR */
+    0x8000, /*         RTI */
+    0xFE04, /* DSR     .FILL  xFE04 */
+    0xFE06, /* DDR     .FILL  xFE06 */
+};
+
+/* A byte takes ten steps or more. */
+enum { MOST_SHOWN = LC3_MAX_STEPS / 10 };
+
 typedef struct {
     const char *name;
     const uint16_t *words;
@@ -118,6 +137,7 @@ static const program programs[] = {
     {"sieve", sieve_words, sizeof sieve_words / sizeof *sieve_words},
     {"calls", calls_words, sizeof calls_words / sizeof *calls_words},
     {"poll", poll_words, sizeof poll_words / sizeof *poll_words},
+    {"show", show_words, sizeof show_words / sizeof *show_words},
 };
 
 enum { PROGRAMS = sizeof programs / sizeof *programs };
@@ -130,6 +150,8 @@ static inline void load_program(uint16_t *memory, const program *p) {
     memory[0x0200] = 0x8000; /* RTI */
     memory[0x0020] = 0x0210;
     memcpy(memory + 0x0210, getc_words, sizeof getc_words);
+    memory[0x0021] = 0x0220;
+    memcpy(memory + 0x0220, out_words, sizeof out_words);
 }
 
 #endif

@@ -1,6 +1,6 @@
 /*
  * The rules that the two C interpreters of the benchmark share: fields, access control, entry and
- * RTI, the device registers, and refusals.
+ * RTI, the device registers, the end of a step, and refusals.
  */
 #ifndef RULES_H
 #define RULES_H
@@ -67,7 +67,7 @@ static inline uint16_t load(lc3_record *m, const uint16_t *memory, uint16_t addr
     switch (address) {
     case LC3_ADDRESS_KBSR: return m->kbsr;
     case LC3_ADDRESS_KBDR: m->kbsr &= LC3_KBSR_INTERRUPT; return m->kbdr;
-    case LC3_ADDRESS_DSR: return 0x8000;
+    case LC3_ADDRESS_DSR: return m->busy ? 0 : 0x8000;
     case LC3_ADDRESS_DDR: return 0;
     case LC3_ADDRESS_PSR: return m->psr;
     case LC3_ADDRESS_MCR: return m->mcr;
@@ -75,7 +75,7 @@ static inline uint16_t load(lc3_record *m, const uint16_t *memory, uint16_t addr
     }
 }
 
-/* False: a store to the DDR and no free byte; nothing is stored. */
+/* False: a byte is to be shown and there is no free one; nothing is stored. */
 static inline bool store(lc3_record *m, uint16_t *memory, display *out, uint16_t address,
                          uint16_t value) {
     if (address < 0xFE00) {
@@ -89,8 +89,10 @@ static inline bool store(lc3_record *m, uint16_t *memory, display *out, uint16_t
     case LC3_ADDRESS_KBDR: return true;
     case LC3_ADDRESS_DSR: return true;
     case LC3_ADDRESS_DDR:
+        if (m->busy) return true;
         if (out->shown == out->length) return false;
         out->bytes[out->shown++] = value;
+        m->busy = LC3_MAX_BUSY + 1; /* the end of this very step takes 1 off */
         return true;
     case LC3_ADDRESS_PSR: m->psr = (m->psr & LC3_PSR_USER) | (value & 0x0707); return true;
     case LC3_ADDRESS_MCR: m->mcr = value & LC3_MCR_CLOCK; return true;
@@ -98,9 +100,14 @@ static inline bool store(lc3_record *m, uint16_t *memory, display *out, uint16_t
     }
 }
 
+/* The end of a step: a busy display comes nearer to being ready. */
+static inline void end_step(lc3_record *m) {
+    if (m->busy) m->busy--;
+}
+
 static bool sound(const lc3_record *m) {
     return !(m->psr & ~0x8707) && !(m->kbsr & ~0xC000) && !(m->kbdr & ~0x00FF) &&
-           !(m->mcr & ~0x8000) && m->clock <= LC3_MAX_CLOCK;
+           !(m->mcr & ~0x8000) && m->busy <= LC3_MAX_BUSY && m->clock <= LC3_MAX_CLOCK;
 }
 
 /* Which of the times is at fault goes to *index, and is 0 where none is. */

@@ -35,6 +35,7 @@ static void check_record(const lc3_record *got, const lc3_record *wanted) {
     CHECK(got->kbsr, wanted->kbsr);
     CHECK(got->kbdr, wanted->kbdr);
     CHECK(got->mcr, wanted->mcr);
+    CHECK(got->busy, wanted->busy);
     CHECK(got->clock, wanted->clock);
 }
 
@@ -339,6 +340,13 @@ static void test_refused_record(void) {
     check_bits("bits of KBDR", offsetof(lc3_record, kbdr), 0x00FF);
     check_bits("bits of MCR", offsetof(lc3_record, mcr), 0x8000);
     arguments c = usual();
+    c.record.busy = LC3_MAX_BUSY;
+    check_refusal("busy 8", &c, LC3_ACCEPTED);
+    c.record.busy = LC3_MAX_BUSY + 1;
+    check_refusal("busy 9", &c, LC3_REFUSED_RECORD);
+    c.record.busy = UINT16_MAX;
+    check_refusal("highest busy", &c, LC3_REFUSED_RECORD);
+    c.record.busy = 0;
     c.n = 0;
     c.record.clock = LC3_MAX_CLOCK + 1;
     check_refusal("clock above 2^48", &c, LC3_REFUSED_RECORD);
@@ -484,7 +492,11 @@ static const cell alphabet[] = {
     {0x0203, LC3_ADDRESS_DDR},
 };
 
-/* Three bytes of room: the fourth store, at clock 9, finds none, and its key stays out too. */
+/*
+ * Three bytes of room. Each byte keeps the display busy for eight steps, so that of the stores, one
+ * in three steps, the first of three is shown. The one at clock 27 finds no room, and its key stays
+ * out too.
+ */
 static void test_output_full(void) {
     clear_buffers();
     write_cells(memory, alphabet, sizeof alphabet / sizeof *alphabet);
@@ -494,16 +506,16 @@ static void test_output_full(void) {
     c.record.regs[0] = 'A';
     c.n = 100;
     c.output_len = 3;
-    c.times[0] = 9;
+    c.times[0] = 27;
     c.times_len = c.bytes_len = 1;
     keep_buffers();
-    memcpy(wanted_output, "ABC", 3);
+    memcpy(wanted_output, "ADG", 3);
     lc3_record after = c.record;
-    after.regs[0] = 'D';
+    after.regs[0] = 'J';
     after.psr = LC3_PSR_P;
-    after.clock = 9;
+    after.clock = 27;
     lc3_answer got = run(&c);
-    check_answer(&got, &(lc3_answer){after, 9, 0, 3, 0, LC3_ACCEPTED, LC3_OUTPUT_FULL});
+    check_answer(&got, &(lc3_answer){after, 27, 0, 3, 0, LC3_ACCEPTED, LC3_OUTPUT_FULL});
     check_buffers();
 
     part = "a step that finds no room";
@@ -517,24 +529,54 @@ static void test_room_again(void) {
     part = "room again";
     arguments c = usual();
     c.record = lc3_fresh(0x0200, false, 0xFDFF);
-    c.record.regs[0] = 'D';
-    c.record.clock = 9;
+    c.record.regs[0] = 'J';
+    c.record.clock = 27;
     c.output_len = 1;
-    c.times[0] = 9;
+    c.times[0] = 27;
     c.bytes[0] = 'k';
     c.times_len = c.bytes_len = 1;
     clear_buffers();
     write_cells(memory, alphabet, sizeof alphabet / sizeof *alphabet);
     keep_buffers();
-    wanted_output[0] = 'D';
+    wanted_output[0] = 'J';
     lc3_record after = c.record;
     after.pc = 0x0201;
     after.kbsr = LC3_KBSR_READY;
     after.kbdr = 'k';
-    after.clock = 10;
+    after.busy = LC3_MAX_BUSY;
+    after.clock = 28;
     lc3_answer got = run(&c);
     check_answer(&got, &(lc3_answer){after, 1, 1, 1, 0, LC3_ACCEPTED, LC3_DONE});
     check_buffers();
+}
+
+/* A load of the DSR and a store to the DDR, with no room for a byte, at each busy count. */
+static void test_busy(void) {
+    static const cell loads[] = {{0x0200, 0xA001}, {0x0202, LC3_ADDRESS_DSR}}; /* LDI R0, x0202 */
+    static const cell stores[] = {{0x0200, 0xB001}, {0x0202, LC3_ADDRESS_DDR}}; /* STI R0, x0202 */
+    for (uint16_t busy = 0; busy <= LC3_MAX_BUSY; busy++) {
+        arguments c = usual();
+        c.record = lc3_fresh(0x0200, false, 0xFDFF);
+        c.record.busy = busy;
+        c.output_len = 0;
+        lc3_record after = c.record;
+        after.pc = 0x0201;
+        after.busy = busy ? busy - 1 : 0;
+        after.clock = 1;
+
+        part = "a store to the DDR of a busy display";
+        clear_buffers();
+        write_cells(memory, stores, 2);
+        check_stop(&c, run,
+                   busy ? (lc3_answer){.record = after, .steps = 1, .stop = LC3_DONE}
+                        : (lc3_answer){.record = c.record, .stop = LC3_OUTPUT_FULL});
+
+        part = "a load of the DSR of a busy display";
+        write_cells(memory, loads, 2);
+        after.regs[0] = busy ? 0 : 0x8000;
+        after.psr = busy ? LC3_PSR_Z : LC3_PSR_N;
+        check_stop(&c, step, (lc3_answer){.record = after, .steps = 1, .stop = LC3_DONE});
+    }
 }
 
 static void test_keys(void) {
@@ -572,6 +614,7 @@ static arguments any_arguments(void) {
     c.record.kbsr = any() & 0xC000;
     c.record.kbdr = any() & 0x00FF;
     c.record.mcr = any() % 16 ? 0x8000 : 0;
+    c.record.busy = any() % (LC3_MAX_BUSY + 1);
     c.record.clock = any() % 1000;
     for (int i = 0; i < 3; i++) {
         c.times[i] = (i ? c.times[i - 1] : c.record.clock) + any() % 4;
@@ -970,6 +1013,7 @@ int main(void) {
     test_halted();
     test_output_full();
     test_room_again();
+    test_busy();
     test_keys();
     test_step_is_run();
     test_steps_are_run();

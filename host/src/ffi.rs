@@ -136,7 +136,7 @@ const _: () = assert!(offset_of!(Record, regs) == 0 && offset_of!(Record, pc) ==
 const _: () = assert!(offset_of!(Record, psr) == 18 && offset_of!(Record, saved_ssp) == 20);
 const _: () = assert!(offset_of!(Record, saved_usp) == 22 && offset_of!(Record, kbsr) == 24);
 const _: () = assert!(offset_of!(Record, kbdr) == 26 && offset_of!(Record, mcr) == 28);
-const _: () = assert!(offset_of!(Record, clock) == 32);
+const _: () = assert!(offset_of!(Record, busy) == 30 && offset_of!(Record, clock) == 32);
 const _: () = assert!(size_of::<Answer>() == 80 && align_of::<Answer>() == 8);
 const _: () = assert!(offset_of!(Answer, record) == 0 && offset_of!(Answer, steps) == 40);
 const _: () = assert!(offset_of!(Answer, keys) == 48 && offset_of!(Answer, shown) == 56);

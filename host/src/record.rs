@@ -34,6 +34,10 @@ pub struct Record {
     pub kbdr: u16,
     /// The machine control: bit 15 is clock enable. No other bit is defined.
     pub mcr: u16,
+    /// The steps until the display is ready, at most 8: 8 after a step that showed a byte, one less
+    /// after each later step, and 0 once it is ready. While it is busy, DSR gives 0 and a byte
+    /// stored to DDR is lost.
+    pub busy: u16,
     /// The number of steps made so far, at most 2^48.
     pub clock: u64,
 }

@@ -99,7 +99,7 @@ impl fmt::Display for Stop {
 pub enum Refusal {
     /// Memory is not [`WORDS`] words.
     Memory,
-    /// The record has an undefined bit, or a clock above [`CLOCK_LIMIT`].
+    /// The record has an undefined bit, a busy count above 8, or a clock above [`CLOCK_LIMIT`].
     Record,
     /// More than [`STEP_LIMIT`] steps, or a clock that would pass [`CLOCK_LIMIT`].
     Steps,
@@ -140,7 +140,9 @@ impl fmt::Display for Refusal {
     fn fmt(&self, f: &mut fmt::Formatter<'_>) -> fmt::Result {
         match self {
             Refusal::Memory => f.write_str("memory is not 65,536 words"),
-            Refusal::Record => f.write_str("the record has an undefined bit or a clock above 2^48"),
+            Refusal::Record => f.write_str(
+                "the record has an undefined bit, a busy count above 8, or a clock above 2^48",
+            ),
             Refusal::Steps => {
                 f.write_str("more than 1,048,576 steps, or a clock that would pass 2^48")
             }

@@ -7,7 +7,7 @@ mod support;
 
 use lc3::ffi::Answer;
 use lc3::{CLOCK_LIMIT, STEP_LIMIT, WORDS};
-use reference::bus::REGISTERS;
+use reference::bus::{DDR, DSR, REGISTERS};
 use reference::figure::FIGURE;
 use reference::machine::{self, Cause, Event, CAUSES, OUTPUT_FULL};
 use std::time::Instant;
@@ -23,6 +23,13 @@ struct Tally {
     pointers: [u64; REGISTERS.len()],
     loads: [u64; REGISTERS.len()],
     stores: [u64; REGISTERS.len()],
+    /// Pointers and loads from DSR, by the display's busy count.
+    dsr_loads: [u64; BUSY_COUNTS],
+    /// Stores to DDR, by the busy count: those at 0 show a byte.
+    ddr_stores: [u64; BUSY_COUNTS],
+    /// Stores to DDR while the display was busy and the output full, which is not answered then.
+    busy_without_room: u64,
+    interrupts_while_busy: u64,
     vectors_pushed_on: u64,
     stacks_wrapped: u64,
     stops: [u64; 3],
@@ -35,6 +42,9 @@ struct Tally {
     /// Refusals 15 at another entry than the first; 19 always is.
     later_entries_below_clock: u64,
 }
+
+/// The busy counts of a display, 0 to 8.
+const BUSY_COUNTS: usize = 9;
 
 /// The refusals of a run in the order in which they are tested; the last two are tested together.
 const REFUSALS: [u32; 6] = [11, 12, 13, 14, 15, 19];
@@ -59,10 +69,26 @@ impl Tally {
         count(&mut self.pointers, event.reached.pointer);
         count(&mut self.loads, event.reached.load);
         count(&mut self.stores, event.reached.store);
+        self.display(event);
         if let Some(entry) = event.entry {
             let above = entry.stack.wrapping_add(1);
             self.vectors_pushed_on += u64::from([entry.stack, above].contains(&entry.vector));
             self.stacks_wrapped += u64::from(entry.stack >= 0xFFFE);
+        }
+    }
+
+    fn display(&mut self, event: &Event) {
+        let reached = |access: Option<usize>, register| {
+            u64::from(access.is_some_and(|place| REGISTERS[place] == register))
+        };
+        let busy = usize::from(event.busy);
+        self.dsr_loads[busy] +=
+            reached(event.reached.pointer, DSR) + reached(event.reached.load, DSR);
+        let store = reached(event.reached.store, DDR);
+        self.ddr_stores[busy] += store;
+        if busy > 0 {
+            self.busy_without_room += store * u64::from(!event.room);
+            self.interrupts_while_busy += u64::from(event.cause == Cause::Keyboard);
         }
     }
 
@@ -110,6 +136,12 @@ impl Tally {
             lines.push((format!("loads from x{register:04X}"), self.loads[i]));
             lines.push((format!("stores to x{register:04X}"), self.stores[i]));
         }
+        for busy in 0..BUSY_COUNTS {
+            lines.push((format!("loads from DSR at busy {busy}"), self.dsr_loads[busy]));
+            lines.push((format!("stores to DDR at busy {busy}"), self.ddr_stores[busy]));
+        }
+        lines.push(("stores to DDR while busy, output full".into(), self.busy_without_room));
+        lines.push(("interrupts while busy".into(), self.interrupts_while_busy));
         lines
     }
 
@@ -244,6 +276,14 @@ fn each_undefined_bit_is_refused_and_each_defined_one_accepted() {
         expect(&mut bench, code(0xC000), |case| case.record.kbsr |= bit);
         expect(&mut bench, code(0x00FF), |case| case.record.kbdr |= bit);
         expect(&mut bench, code(0x8000), |case| case.record.mcr |= bit);
+    }
+}
+
+#[test]
+fn a_busy_count_above_8_is_refused() {
+    let mut bench = bench();
+    for busy in 0..=u16::MAX {
+        expect(&mut bench, if busy > 8 { 12 } else { 0 }, |case| case.record.busy = busy);
     }
 }
 

@@ -38,6 +38,7 @@ fn user(word: u16) -> Example {
         kbsr: 0,
         kbdr: 0,
         mcr: 0x8000,
+        busy: 0,
         clock: 0,
     };
     Example { record, memory }

@@ -44,6 +44,8 @@ struct Called {
     memory: Vec<u16>,
     shown: Vec<u8>,
     steps: u64,
+    /// The steps made when the last byte had been shown.
+    last_shown: Option<u64>,
     stop: Stop,
 }
 
@@ -65,6 +67,7 @@ impl Caller {
         record.psr = record.psr & 0x8000 | rng.word() & 0x0707;
         record.clock = rng.below(1 << 20);
         record.kbdr = rng.word() & 0x00FF;
+        record.busy = rng.below(9) as u16;
         // At priority 4 and above the keyboard may be enabled: it does not interrupt.
         if record.psr & 0x0400 != 0 {
             record.kbsr = rng.pick(&[0x0000, 0x4000]);
@@ -107,6 +110,7 @@ impl Caller {
         let (mut record, mut memory) = (self.record, self.memory.clone());
         let mut output = vec![0xAA; room];
         let (mut steps, mut keys, mut shown, mut stop) = (0, 0, 0, Stop::Done);
+        let mut last_shown = None;
         while stop == Stop::Done && (steps == 0 || record.pc != self.next()) {
             let (left, free) = (self.keys().after(keys), &mut output[shown..]);
             let report = lc3::step(&mut record, &mut memory, left, free).expect("accepted");
@@ -114,10 +118,13 @@ impl Caller {
             keys += report.keys;
             shown += report.shown;
             stop = report.stop;
+            if report.shown > 0 {
+                last_shown = Some(steps);
+            }
             assert!(steps < lc3::STEP_LIMIT, "the call does not end");
         }
         output.truncate(shown);
-        let called = Called { record, memory, shown: output, steps, stop };
+        let called = Called { record, memory, shown: output, steps, last_shown, stop };
         self.compare(room, &called);
         called
     }
@@ -164,10 +171,20 @@ fn assert_only_the_stack_changed(before: &[u16], after: &[u16]) {
 }
 
 impl Called {
+    /// The display's busy count after the call: 8 after the last byte, and one less a step.
+    fn busy(&self, caller: &Caller) -> u16 {
+        let (count, since) = match self.last_shown {
+            Some(steps) => (8, self.steps - steps),
+            None => (u64::from(caller.record.busy), self.steps),
+        };
+        count.saturating_sub(since) as u16
+    }
+
     /// The caller goes on at Next, with R0 and the keyboard as given and all else as before.
     fn assert_back(&self, caller: &Caller, r0: u16, (kbsr, kbdr): (u16, u16), shown: &[u8]) {
         let before = caller.record;
-        let mut wanted = Record { pc: caller.next(), kbsr, kbdr, ..before };
+        let busy = self.busy(caller);
+        let mut wanted = Record { pc: caller.next(), kbsr, kbdr, busy, ..before };
         wanted.regs[0] = r0;
         wanted.clock += self.steps;
         if before.mode() == Mode::User {
@@ -182,7 +199,7 @@ impl Called {
     /// The machine has halted, with R0 to R5 and R7, and what the keyboard holds, as before.
     fn assert_halted(&self, caller: &Caller, shown: &[u8]) {
         let before = caller.record;
-        let mut wanted = before;
+        let mut wanted = Record { busy: self.busy(caller), ..before };
         wanted.regs[6] = 0x2FFE;
         wanted.mcr = 0;
         wanted.clock += self.steps;
@@ -512,7 +529,7 @@ fn an_interrupt_returns_at_once() {
     let mut memory = caller.memory.clone();
     let run = lc3::run(caller.record, &mut memory, Keys::NONE, &mut [], 2).expect("accepted");
     let saved_usp = caller.record.regs[6];
-    let clock = caller.record.clock + 2;
-    assert_eq!(run.record, Record { saved_usp, clock, ..caller.record });
+    let (clock, busy) = (caller.record.clock + 2, caller.record.busy.saturating_sub(2));
+    assert_eq!(run.record, Record { saved_usp, clock, busy, ..caller.record });
     assert_only_the_stack_changed(&caller.memory, &memory);
 }

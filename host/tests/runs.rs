@@ -35,6 +35,8 @@ fn joined(first: Answer, second: Answer) -> Answer {
 #[test]
 fn a_run_split_in_two_equals_the_whole() {
     let (mut whole, mut split) = (Buffers::new(), Buffers::new());
+    // Splits between two steps at which the display counts on, by what it has left.
+    let mut busy = [0u64; 9];
     for_cases(40_000, |rng, case, template| {
         whole.set(case, template);
         let expected = whole.run(case.record, 0, 0, case.n);
@@ -48,9 +50,12 @@ fn a_run_split_in_two_equals_the_whole() {
         // Where all k steps were made this is n - k.
         let second = split.run(first.record, keys, shown, case.n - first.steps);
         assert_eq!(joined(first, second), expected);
+        busy[usize::from(first.record.busy)] += u64::from(first.steps > 0 && second.steps > 0);
         split.check(case);
         assert_same_buffers(&split, &whole);
     });
+    println!("splits by the display's busy count: {busy:?}");
+    assert!(support::runs(40_000) < 40_000 || busy.iter().all(|&splits| splits > 0));
 }
 
 #[test]

@@ -36,7 +36,7 @@ fn memory_sizes(memory: &mut [u16]) {
 }
 
 fn undefined_bits(memory: &mut [u16]) {
-    heading(b"12: an undefined bit or a clock above 2^48");
+    heading(b"12: an undefined bit, a busy count above 8, or a clock above 2^48");
     let mut m = record();
     m.psr = 0x8707;
     m.devices.kbsr = 0xC000;
@@ -58,6 +58,14 @@ fn undefined_bits(memory: &mut [u16]) {
     m.devices.kbdr = 0x00FF;
     m.devices.mcr = 0x8001;
     keyless(b"MCR x8001", m, memory, 0);
+}
+
+fn busy_counts(memory: &mut [u16]) {
+    let mut m = record();
+    m.devices.busy = 8;
+    keyless(b"busy 8", m, memory, 0);
+    m.devices.busy = 9;
+    keyless(b"busy 9", m, memory, 0);
 }
 
 fn clocks(memory: &mut [u16]) {
@@ -164,6 +172,7 @@ fn all_apply(memory: &mut [u16]) {
 // The cases that lend memory of the right size.
 fn right_size(memory: &mut [u16]) {
     undefined_bits(memory);
+    busy_counts(memory);
     clocks(memory);
     step_counts(memory);
     step_counts_late(memory);

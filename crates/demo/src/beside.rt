@@ -38,7 +38,7 @@ pub(crate) fn same_record(a: Machine, b: Machine) -> bool {
         && a.saved_usp == b.saved_usp;
     let c = a.devices;
     let d = b.devices;
-    let devices = c.kbsr == d.kbsr && c.kbdr == d.kbdr && c.mcr == d.mcr;
+    let devices = c.kbsr == d.kbsr && c.kbdr == d.kbdr && c.mcr == d.mcr && c.busy == d.busy;
     registers && control && devices && a.clock == b.clock
 }
 

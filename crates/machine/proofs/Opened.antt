@@ -9,16 +9,17 @@ use Rattle.machine.specs.Protection.{privileged, denied}
 use Rattle.machine.specs.Entry.{stackPointerOnEntry, userStackOnEntry, pushed, afterEntry, entry, raised}
 use Rattle.machine.specs.Entry.{interrupted}
 use Rattle.machine.specs.Devices.{isDevice, lentWord, deviceValue, loadedValue, kbsrAfterLoad, afterLoad}
+use Rattle.machine.specs.Devices.{displayIsReady, displayStatus}
 use Rattle.machine.specs.Devices.{kbsrStore, psrStore, mcrStore, ddrStore, deviceStore, stored}
 use Rattle.machine.specs.Access.{loadTo, storeAt, byPointer}
 use Rattle.machine.specs.Return.{afterReturn, popped, return}
 use Rattle.machine.specs.Plan.{planOf}
-use Rattle.machine.specs.Step.{perform, obeyed, interruptedOrObeyed, afterTick, ended, stepOf}
+use Rattle.machine.specs.Step.{perform, obeyed, interruptedOrObeyed, busyAfter, afterTick, ended, stepOf}
 
 unfoldable pub opened : Unit {0}
 unfolding readOf andBits inUserMode definedPsr codesOf recoded isTaken withReads afterInstruction keysDue readyAfter
     lastKey afterKeys pendingInterrupt privileged denied stackPointerOnEntry userStackOnEntry pushed afterEntry entry
-    raised interrupted isDevice lentWord deviceValue loadedValue kbsrAfterLoad afterLoad kbsrStore psrStore mcrStore
+    raised interrupted isDevice lentWord displayIsReady displayStatus deviceValue loadedValue kbsrAfterLoad afterLoad kbsrStore psrStore mcrStore
     ddrStore deviceStore stored loadTo storeAt byPointer afterReturn popped return planOf perform obeyed
-    interruptedOrObeyed afterTick ended stepOf
+    interruptedOrObeyed busyAfter afterTick ended stepOf
 opened = tt

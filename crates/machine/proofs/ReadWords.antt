@@ -240,7 +240,7 @@ module _ (mem₁ mem₂ : List ℕ) (l : length mem₁ ≡ length mem₂) where
   end-follows o₁ o₂ f e =
       let s : SameEffect mem₁ mem₂ o₁ o₂ = f e in
       record {
-        machine = rw (s .machine);
+        machine = rw (s .machine, s .shown);
         shown = s .shown;
         cause = s .cause;
         reads = s .reads;

@@ -2,16 +2,17 @@
 // What one step does is defined in specs/, in the order of document 01; the crate `step` computes it.
 ghost use mathlib.Core.Path.{_≡_};
 ghost use mathlib.Core.List.{List};
-ghost use Prim.Native.Nat.{ℕ};
-ghost use Rattle.machine.specs.Record.{whole, withDevices, setKeyboard, setMcr, freshDevices};
+ghost use Prim.Native.Nat.{ℕ, _-_};
+ghost use Rattle.machine.specs.Record.{whole, withDevices, setKeyboard, setMcr, setBusy, freshDevices};
 
 // What the devices keep. Code that touches no device hands it on whole. Defined bits: KBSR xC000, KBDR x00FF, MCR
-// x8000.
+// x8000. `busy` counts the steps for which the display is still busy, at most 8.
 #[repr(C)]
 pub struct Devices {
     pub kbsr: u16,
     pub kbdr: u16,
     pub mcr: u16,
+    pub busy: u16,
 }
 
 // The record of document 01, as a host keeps it. Defined bits of PSR: x8707.
@@ -63,6 +64,17 @@ pub enum Pending {
     Interrupt(u16, u16),
 }
 
+// A count that falls by so many, until 0.
+pub fn fallen(count: u16, by: u64) -> u16
+    ensures { λ r. ⌜ r ≡ count - by ⌝ }
+{
+    let c = count as u64;
+    if c <= by {
+        return 0;
+    }
+    (c - by) as u16
+}
+
 // The devices with these keyboard registers.
 pub fn set_keyboard(d: Devices, kbsr: u16, kbdr: u16) -> Devices
     ensures { λ r. ⌜ r ≡ setKeyboard kbsr kbdr d ⌝ }
@@ -71,6 +83,7 @@ pub fn set_keyboard(d: Devices, kbsr: u16, kbdr: u16) -> Devices
         kbsr,
         kbdr,
         mcr: d.mcr,
+        busy: d.busy,
     }
 }
 
@@ -82,6 +95,19 @@ pub fn set_mcr(d: Devices, mcr: u16) -> Devices
         kbsr: d.kbsr,
         kbdr: d.kbdr,
         mcr,
+        busy: d.busy,
+    }
+}
+
+// The devices with this busy count of the display.
+pub fn set_busy(d: Devices, busy: u16) -> Devices
+    ensures { λ r. ⌜ r ≡ setBusy busy d ⌝ }
+{
+    Devices {
+        kbsr: d.kbsr,
+        kbdr: d.kbdr,
+        mcr: d.mcr,
+        busy,
     }
 }
 
@@ -93,6 +119,7 @@ pub fn fresh_devices() -> Devices
         kbsr: 0,
         kbdr: 0,
         mcr: 0x8000,
+        busy: 0,
     }
 }
 

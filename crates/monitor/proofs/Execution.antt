@@ -12,18 +12,19 @@ use lib.Dec.{leb}
 use lib.ListN.{length, take}
 use Rattle.machine.specs.declared.Machine.{Machine}
 use Rattle.machine.specs.declared.Devices.{Devices}
-use Rattle.machine.specs.Record.{setKeyboard}
+use Rattle.machine.specs.Record.{setKeyboard, setBusy}
 use Rattle.machine.specs.Keys.{readyAfter, lastKey, afterKeys}
 use Rattle.machine.specs.Outcome.{Outcome}
 use Rattle.machine.specs.Causes.{takesInterrupt}
-use Rattle.machine.specs.Step.{obeyed, afterTick, ended, stepOf}
+use Rattle.machine.specs.Step.{obeyed, busyAfter, afterTick, ended, stepOf}
 use Rattle.run.specs.declared.Ending.the-variants.{Done}
 use Rattle.run.specs.Run.{Start, End, arriving, nextStep, withShown, stepMade, isHalted, showsByte, isFull, runOf}
 use Rattle.machine.proofs.InterruptRule.{interrupt-is-taken-by-rule-2, otherwise-the-word-is-obeyed}
 use Rattle.run.proofs.RunLaws.{done-run-goes-on}
 use Rattle.monitor.proofs.KeyLaws.{arrived, ready-after-both, last-of-both}
 
--- What of a run can be foretold without its keys. The PSR is high * 8 + codes: mode and priority, and N, Z, P.
+-- What of a run can be foretold without its keys. The PSR is high * 8 + codes: mode and priority, and N, Z, P. `busy` is
+-- the display's count.
 pub record View : Type 0 where
   pub regs : List ℕ
   pub pc : ℕ
@@ -34,20 +35,25 @@ pub record View : Type 0 where
   pub memory : List ℕ
   pub output : List ℕ
   pub shown : ℕ
+  pub busy : ℕ
 
 abbrev pub psrAt : View → ℕ
 psrAt v = v .high * 8 + v .codes
 
-abbrev pub machineAt : View → Devices → ℕ → Machine
-machineAt v devices clock = record {
+-- The record of a view, with this busy count in the place of its own, and all else of the devices and the clock as given.
+abbrev pub machineWith : ℕ → View → Devices → ℕ → Machine
+machineWith busy v devices clock = record {
   regs = v .regs;
   pc = v .pc;
   psr = psrAt v;
   «saved_ssp» = v .ssp;
   «saved_usp» = v .usp;
-  devices = devices;
+  devices = setBusy busy devices;
   clock = clock;
 }
+
+abbrev pub machineAt : View → Devices → ℕ → Machine
+machineAt v devices clock = machineWith (v .busy) v devices clock
 
 abbrev pub standingAt : View → ℕ → ℕ → Devices → ℕ → End
 standingAt v k keys devices clock = record {
@@ -77,9 +83,10 @@ pub record At (s : Start) (k : ℕ) (v : View) : Type 0 where
   pub stands : runOf s k ≡ standingAt v k keys devices clock
   pub quiet : (j : ℕ) → j < k → QuietStep s j
 
--- An outcome that shows these bytes and leaves this view, with the devices and the clock as they are.
-pub record Gives (o : Outcome) (bytes : List ℕ) (v : View) (devices : Devices) (clock : ℕ) : Type 0 where
-  pub machine : o .machine ≡ machineAt v devices clock
+-- An outcome that shows these bytes and leaves this view but for the busy count, with the devices and the clock as they
+-- are: both counts move at the end of the step.
+pub record Gives (o : Outcome) (bytes : List ℕ) (busy : ℕ) (v : View) (devices : Devices) (clock : ℕ) : Type 0 where
+  pub machine : o .machine ≡ machineWith busy v devices clock
   pub memory : o .memory ≡ v .memory
   pub shown : o .shown ≡ bytes
 
@@ -145,14 +152,15 @@ module _ {s : Start} {k : ℕ} {v : View} (a : At s k v) (quiet : QuietStep s k)
 
   -- The instruction at PC leads from one view to another, whatever the devices and the clock hold.
   pub advance : (v′ : View) (bytes : List ℕ)
-      → ((d : Devices) (t : ℕ) → Gives (obeyed (machineAt v d t) (v .memory)) bytes v′ d t)
+      → ((d : Devices) (t : ℕ) → Gives (obeyed (machineAt v d t) (v .memory)) bytes (v .busy) v′ d t)
+      → v′ .busy ≡ busyAfter bytes (v .busy)
       → (showsByte bytes && leb (length (v .output)) (v .shown)) ≡ false
       → v′ .output ≡ withShown bytes (v .shown) (v .output) → v′ .shown ≡ v .shown + length bytes → At s (suc k) v′
   unfolding here ended afterTick
-  advance v′ bytes gives free output shown =
+  advance v′ bytes gives counts free output shown =
       let g = gives devices′ (a .clock) in
       let m : nextStep s here .machine ≡ machineAt v′ devices′ (a .clock + 1) =
-      rw next-is (ap afterTick (g .machine)) in
+      rw (next-is, g .machine, g .shown, ← counts) in
       let mem : nextStep s here .memory ≡ v′ .memory = rw next-is (g .memory) in
       let b : nextStep s here .shown ≡ bytes = rw next-is (g .shown) in
       record {

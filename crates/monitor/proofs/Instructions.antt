@@ -1,13 +1,13 @@
 -- One law for each kind of instruction that a routine obeys in Supervisor mode, and for the trap that enters it. The
 -- PSR is high * 8 + codes: mode and priority, and N, Z, P.
-use Prim.Native.Nat.{ℕ, suc, _+_, _*_, _/_, _%_, _<_}
+use Prim.Native.Nat.{ℕ, suc, _+_, _-_, _*_, _/_, _%_, _<_}
 use native.Mathlib.Nat.{add-zero}
 use native.Mathlib.Numerals.{add-one}
 use native.Mathlib.Omega.{arith}
 use mathlib.Core.Path.{_≡_, refl}
 use mathlib.Core.Bool.{Bool, true, false, cond, true≢false}
 use mathlib.Core.List.{List, [], _∷_}
-use borrow.Author.Tests.{lt-leb, eqb-true}
+use borrow.Author.Tests.{lt-leb, eq-eqb, eqb-true}
 use lib.Dec.{eqb}
 use lib.ListN.{length, getD, set}
 use Rattle.word.specs.Reading.{readOf}
@@ -19,12 +19,13 @@ use Rattle.machine.specs.Psr.{inUserMode, definedPsr, codesOf, recoded}
 use Rattle.machine.specs.Outcome.{withReads, afterInstruction}
 use Rattle.machine.specs.Protection.{denied}
 use Rattle.machine.specs.Entry.{pushed, entry, afterEntry, raised, stackPointerOnEntry, userStackOnEntry}
-use Rattle.machine.specs.Devices.{KBDR, DSR, DDR, isDevice, deviceValue, loadedValue, kbsrAfterLoad, afterLoad}
+use Rattle.machine.specs.Devices.{KBDR, DSR, DDR, isDevice, displayIsReady, displayStatus, deviceValue, loadedValue}
+use Rattle.machine.specs.Devices.{kbsrAfterLoad, afterLoad}
 use Rattle.machine.specs.Devices.{ddrStore, deviceStore, stored}
 use Rattle.machine.specs.Access.{loadTo, storeAt, byPointer}
 use Rattle.machine.specs.Return.{afterReturn, popped, return}
 use Rattle.machine.specs.Plan.{planOf}
-use Rattle.machine.specs.Step.{perform, obeyed}
+use Rattle.machine.specs.Step.{perform, obeyed, busyAfter}
 use Rattle.run.specs.Run.{Start, withShown, showsByte}
 use Rattle.monitor.proofs.Execution.{View, psrAt, machineAt, Gives, advance, Quiet, Leads, leads-by-one}
 
@@ -34,10 +35,12 @@ pub record Plans (v : View) (plan : Plan) : Type 0 where
 
 -- What a plan does from a view, whatever the devices and the clock hold.
 abbrev Performs : Plan → View → List ℕ → View → Type 0
-Performs plan v bytes v′ = (d : Devices) (t : ℕ) → Gives (perform plan (machineAt v d t) (v .memory)) bytes v′ d t
+Performs plan v bytes v′ = (d : Devices) (t : ℕ)
+    → Gives (perform plan (machineAt v d t) (v .memory)) bytes (v .busy) v′ d t
 
 obeys-plan : (v v′ : View) (plan : Plan) (bytes : List ℕ) → denied (psrAt v) (v .pc) ≡ false → Plans v plan
-    → Performs plan v bytes v′ → (d : Devices) (t : ℕ) → Gives (obeyed (machineAt v d t) (v .memory)) bytes v′ d t
+    → Performs plan v bytes v′ → (d : Devices) (t : ℕ)
+    → Gives (obeyed (machineAt v d t) (v .memory)) bytes (v .busy) v′ d t
 unfolding obeyed withReads
 obeys-plan v v′ plan bytes allowed p h d t = record {
   machine = rw (allowed, p .is) (h d t .machine);
@@ -47,7 +50,7 @@ obeys-plan v v′ plan bytes allowed p h d t = record {
 
 -- ---- the views that instructions lead to
 
--- With other registers, PC, codes and memory; all else stays.
+-- With other registers, PC, codes and memory, and the display's count one less; all else stays.
 abbrev pub changed : View → List ℕ → ℕ → ℕ → List ℕ → View
 changed v regs pc codes memory = record {
   regs = regs;
@@ -59,6 +62,7 @@ changed v regs pc codes memory = record {
   memory = memory;
   output = v .output;
   shown = v .shown;
+  busy = v .busy - 1;
 }
 
 -- At Next, with a byte shown.
@@ -73,6 +77,7 @@ showing v b = record {
   memory = v .memory;
   output = set (v .output) (v .shown) b;
   shown = suc (v .shown);
+  busy = 8;
 }
 
 -- After a trap in User mode that finds this PC at its vector.
@@ -87,6 +92,7 @@ trapped v pc = record {
   memory = pushed (v .memory) (v .ssp) (psrAt v) (next (v .pc));
   output = v .output;
   shown = v .shown;
+  busy = v .busy - 1;
 }
 
 -- After an RTI to User mode that pops this PC and this PSR.
@@ -101,27 +107,29 @@ returned v pc high codes ssp = record {
   memory = v .memory;
   output = v .output;
   shown = v .shown;
+  busy = v .busy - 1;
 }
 
 -- ---- a plan that shows nothing, and one that shows a byte
 
 module _ {s : Start} {bound : ℕ} (quiet : Quiet s bound) {v : View} (allowed : denied (psrAt v) (v .pc) ≡ false)
     (plan : Plan) (p : Plans v plan) (v′ : View) where
-  silently : v′ .output ≡ v .output → v′ .shown ≡ v .shown → Performs plan v [] v′ → Leads s bound v 1 v′
-  unfolding withShown showsByte
-  silently same-output same-shown h =
+  silently : v′ .output ≡ v .output → v′ .shown ≡ v .shown → v′ .busy ≡ v .busy - 1 → Performs plan v [] v′
+      → Leads s bound v 1 v′
+  unfolding withShown showsByte busyAfter
+  silently same-output same-shown one-less h =
       leads-by-one quiet
       (λ k a q.
-      advance a q v′ [] (obeys-plan v v′ plan [] allowed p h) refl same-output
+      advance a q v′ [] (obeys-plan v v′ plan [] allowed p h) one-less refl same-output
       (rw (add-zero (v .shown)) same-shown))
 
   shows-byte : (b : ℕ) → v .shown < length (v .output) → v′ .output ≡ set (v .output) (v .shown) b
-      → v′ .shown ≡ suc (v .shown) → Performs plan v (b ∷ []) v′ → Leads s bound v 1 v′
-  unfolding withShown showsByte
-  shows-byte b free with-byte one-more h =
+      → v′ .shown ≡ suc (v .shown) → v′ .busy ≡ 8 → Performs plan v (b ∷ []) v′ → Leads s bound v 1 v′
+  unfolding withShown showsByte busyAfter
+  shows-byte b free with-byte one-more begins h =
       leads-by-one quiet
       (λ k a q.
-      advance a q v′ (b ∷ []) (obeys-plan v v′ plan (b ∷ []) allowed p h)
+      advance a q v′ (b ∷ []) (obeys-plan v v′ plan (b ∷ []) allowed p h) begins
       (lt-leb (length (v .output)) (v .shown) free) with-byte (rw (add-one (v .shown)) one-more))
 
 -- ---- TRAP in User mode
@@ -134,7 +142,7 @@ pub traps : {s : Start} {bound : ℕ} (quiet : Quiet s bound) {v : View} → inU
     → getD (pushed (v .memory) (v .ssp) (psrAt v) (next (v .pc))) vector 0 ≡ pc → Leads s bound v 1 (trapped v pc)
 unfolding perform raised entry afterEntry stackPointerOnEntry userStackOnEntry
 traps quiet {v} user below allowed vector pc p w =
-    silently quiet allowed (Call vector) p (trapped v pc) refl refl
+    silently quiet allowed (Call vector) p (trapped v pc) refl refl refl
     (λ d t. record {
       machine = rw (user, w, user-trap-psr (v .high) (v .codes) below);
       memory = rw user;
@@ -175,7 +183,7 @@ module _ {s : Start} {bound : ℕ} (quiet : Quiet s bound) {v : View} (above : v
   moves r x pc p =
       let allowed = all-allowed v above below in
       silently quiet (allowed (v .pc)) (Move r x pc) p
-      (changed v (withRegister (v .regs) r x) pc (codesOf x) (v .memory)) refl refl
+      (changed v (withRegister (v .regs) r x) pc (codesOf x) (v .memory)) refl refl refl
       (λ d t. record { machine = rw (recodes (v .high) (v .codes) (codesOf x) below); memory = refl; shown = refl })
 
   -- BR, JMP
@@ -183,7 +191,7 @@ module _ {s : Start} {bound : ℕ} (quiet : Quiet s bound) {v : View} (above : v
   unfolding perform afterInstruction recoded
   jumps pc p =
       let allowed = all-allowed v above below in
-      silently quiet (allowed (v .pc)) (Jump pc) p (changed v (v .regs) pc (v .codes) (v .memory)) refl refl
+      silently quiet (allowed (v .pc)) (Jump pc) p (changed v (v .regs) pc (v .codes) (v .memory)) refl refl refl
       (λ d t. record { machine = refl; memory = refl; shown = refl })
 
   -- LD, LDR of a plain word
@@ -193,7 +201,7 @@ module _ {s : Start} {bound : ℕ} (quiet : Quiet s bound) {v : View} (above : v
   loads r b x p plain w =
       let allowed = all-allowed v above below in
       silently quiet (allowed (v .pc)) (Load r b) p
-      (changed v (withRegister (v .regs) r x) (next (v .pc)) (codesOf x) (v .memory)) refl refl
+      (changed v (withRegister (v .regs) r x) (next (v .pc)) (codesOf x) (v .memory)) refl refl refl
       (λ d t. record {
         machine = rw
             (allowed b, plain, w, plain-load-keeps b (d .kbsr) plain, recodes (v .high) (v .codes) (codesOf x) below);
@@ -208,41 +216,42 @@ module _ {s : Start} {bound : ℕ} (quiet : Quiet s bound) {v : View} (above : v
   stores x b p plain =
       let allowed = all-allowed v above below in
       silently quiet (allowed (v .pc)) (Store x b) p
-      (changed v (v .regs) (next (v .pc)) (v .codes) (set (v .memory) b x)) refl refl
+      (changed v (v .regs) (next (v .pc)) (v .codes) (set (v .memory) b x)) refl refl refl
       (λ d t. record {
         machine = rw (allowed b, plain);
         memory = rw (allowed b, plain);
         shown = rw (allowed b, plain);
       })
 
-  -- LDI by a plain word that holds DSR
-  pub polls : (r b : ℕ) → Plans v (LoadBy r b) → isDevice b ≡ false → getD (v .memory) b 0 ≡ DSR
-      → Leads s bound v 1 (changed v (withRegister (v .regs) r 0x8000) (next (v .pc)) 4 (v .memory))
-  unfolding perform byPointer withReads loadTo afterInstruction recoded codesOf afterLoad loadedValue isDevice
-      kbsrAfterLoad deviceValue
-  polls r b p plain w =
+  -- LDI by a plain word that holds DSR, while the display is ready and while it is busy
+  pub polls : (r b x codes : ℕ) → Plans v (LoadBy r b) → isDevice b ≡ false → getD (v .memory) b 0 ≡ DSR
+      → cond (eqb (v .busy) 0) 0x8000 0 ≡ x → codesOf x ≡ codes
+      → Leads s bound v 1 (changed v (withRegister (v .regs) r x) (next (v .pc)) codes (v .memory))
+  unfolding perform byPointer withReads loadTo afterInstruction recoded afterLoad loadedValue isDevice kbsrAfterLoad
+      deviceValue displayStatus displayIsReady
+  polls r b x codes p plain w status set =
       let allowed = all-allowed v above below in
       silently quiet (allowed (v .pc)) (LoadBy r b) p
-      (changed v (withRegister (v .regs) r 0x8000) (next (v .pc)) 4 (v .memory)) refl refl
+      (changed v (withRegister (v .regs) r x) (next (v .pc)) codes (v .memory)) refl refl refl
       (λ d t. record {
         machine = rw (allowed b, plain, w, plain-load-keeps b (d .kbsr) plain, allowed DSR)
-            (rw (recodes (v .high) (v .codes) 4 below));
+            (rw (status, set, recodes (v .high) (v .codes) codes below));
         memory = rw (allowed b, plain, w, allowed DSR);
         shown = rw (allowed b, plain, w, allowed DSR);
       })
 
-  -- STI by a plain word that holds DDR
-  pub shows : (x b : ℕ) → Plans v (StoreBy x b) → isDevice b ≡ false → getD (v .memory) b 0 ≡ DDR
+  -- STI by a plain word that holds DDR, while the display is ready
+  pub shows : (x b : ℕ) → Plans v (StoreBy x b) → isDevice b ≡ false → getD (v .memory) b 0 ≡ DDR → v .busy ≡ 0
       → v .shown < length (v .output) → Leads s bound v 1 (showing v (x % 256))
   unfolding perform byPointer withReads storeAt afterInstruction recoded afterLoad loadedValue isDevice kbsrAfterLoad
-      stored deviceStore ddrStore
-  shows x b p plain w free =
+      stored deviceStore ddrStore displayIsReady
+  shows x b p plain w ready free =
       let allowed = all-allowed v above below in
-      shows-byte quiet (allowed (v .pc)) (StoreBy x b) p (showing v (x % 256)) (x % 256) free refl refl
+      shows-byte quiet (allowed (v .pc)) (StoreBy x b) p (showing v (x % 256)) (x % 256) free refl refl refl
       (λ d t. record {
         machine = rw (allowed b, plain, w, plain-load-keeps b (d .kbsr) plain, allowed DDR);
         memory = rw (allowed b, plain, w, allowed DDR);
-        shown = rw (allowed b, plain, w, allowed DDR);
+        shown = rw (allowed b, plain, w, allowed DDR, eq-eqb (v .busy) 0 ready);
       })
 
   -- RTI to User mode
@@ -252,7 +261,7 @@ module _ {s : Start} {bound : ℕ} (quiet : Quiet s bound) {v : View} (above : v
   unfolding perform return popped afterReturn
   returns sp pc high codes p six w psr user =
       let here = supervisor (v .high) (v .codes) above below in
-      silently quiet (all-allowed v above below (v .pc)) Return p (returned v pc high codes (next (next sp))) refl refl
+      silently quiet (all-allowed v above below (v .pc)) Return p (returned v pc high codes (next (next sp))) refl refl refl
       (λ d t. record {
         machine = rw (here, six, w, psr, user);
         memory = rw here;

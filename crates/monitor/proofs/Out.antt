@@ -1,11 +1,14 @@
--- OUT, step by step: TRAP, ADD, STR, LDI, BRzp, STI, LDR, ADD, RTI. Each is one application of the law of its kind.
-use Prim.Native.Nat.{ℕ, _+_, _*_, _/_, _%_, _≤_, _<_}
+-- OUT, step by step: TRAP, ADD, STR; LDI and BRzp until the display is ready; STI, LDR, ADD, RTI. Each is one application
+-- of the law of its kind. The wait is an induction on the busy count, which falls by two in each turn.
+use Prim.Native.Nat.{ℕ, zero, suc, _+_, _-_, _*_, _/_, _%_, _≤_, _<_}
 use native.Mathlib.Omega.{arith}
 use mathlib.Core.Path.{_≡_, refl, sym, ap, subst, _∙_}
 use mathlib.Core.Bool.{Bool, true, false, cond, _&&_}
 use mathlib.Core.List.{List, [], _∷_}
+use lib.Dec.{eqb}
 use lib.ListN.{length, getD, set, take, drop, length-set}
 use lib.Seq.{getD-set-same, getD-set-other, take-set-le, drop-set-lt}
+use borrow.Author.Tests.{ne-eqb}
 use Rattle.word.specs.Reading.{readOf}
 use Rattle.word.specs.declared.Instruction.the-variants.{Trap}
 use Rattle.machine.specs.declared.Machine.{Machine}
@@ -26,7 +29,7 @@ use Rattle.run.specs.Noninterference.{causeAt}
 use Rattle.machine.proofs.StepLaws.{codesOf-below}
 use Rattle.run.proofs.RunLaws.{run-of-none, done-steps-are-made}
 use Rattle.run.proofs.Acceptance.{accepted-is-acceptable, call-is-run}
-use Rattle.monitor.specs.Out.{CallsOut, Uninterrupted, Resumed, outSteps, OutShows}
+use Rattle.monitor.specs.Out.{CallsOut, Uninterrupted, Resumed, waitSteps, outSteps, outStepsOf, OutShows}
 use Rattle.monitor.proofs.Execution.{View, machineAt, standingAt, At, Quiet, Leads, then, no-interrupt}
 use Rattle.monitor.proofs.Instructions.{Plans, trapped, traps}
 use Rattle.monitor.proofs.Instructions.{moves, jumps, loads, stores, polls, shows, returns}
@@ -37,14 +40,19 @@ not-taken : (h : ℕ) → isTaken 3 (h * 8 + 4) ≡ false
 unfolding isTaken andBits
 not-taken h = let e : (h * 8 + 4) % 8 ≡ 4 = omega arith in rw e
 
--- ---- the eight steps of the routine, in Supervisor mode
+-- And it is after zero.
+taken : (h : ℕ) → isTaken 3 (h * 8 + 2) ≡ true
+unfolding isTaken andBits
+taken h = let e : (h * 8 + 2) % 8 ≡ 2 = omega arith in rw e
+
+-- ---- the steps of the routine, in Supervisor mode
 
 -- From these registers, and a memory that holds the monitor's words, with a free byte in the output.
 module _ (s : Start) (bound : ℕ) (quiet : Quiet s bound) (r₀ r₁ r₂ r₃ r₄ r₅ r₇ high usp : ℕ) (mem output : List ℕ)
     (above : high < 4096) (i : Intact mem) (size : length mem ≡ 65536) (free : 0 < length output) where
-  -- R1, R6, PC, the codes, the memory and the output are all that changes.
-  abbrev view : ℕ → ℕ → ℕ → ℕ → List ℕ → List ℕ → ℕ → View
-  view r₁′ r₆ pc codes memory output shown = record {
+  -- R1, R6, PC, the codes, the memory, the output and the busy count are all that changes.
+  abbrev view : ℕ → ℕ → ℕ → ℕ → List ℕ → List ℕ → ℕ → ℕ → View
+  view r₁′ r₆ pc codes memory output shown busy = record {
     regs = r₀ ∷ r₁′ ∷ r₂ ∷ r₃ ∷ r₄ ∷ r₅ ∷ r₆ ∷ r₇ ∷ [];
     pc = pc;
     high = high;
@@ -54,6 +62,7 @@ module _ (s : Start) (bound : ℕ) (quiet : Quiet s bound) (r₀ r₁ r₂ r₃ 
     memory = memory;
     output = output;
     shown = shown;
+    busy = busy;
   }
 
   -- the memory with R1 kept, and the output with the byte shown
@@ -66,42 +75,103 @@ module _ (s : Start) (bound : ℕ) (quiet : Quiet s bound) (r₀ r₁ r₂ r₃ 
   kept-intact : Intact kept
   kept-intact = still-intact i 0x2FFD r₁ (omega arith)
 
-  at-0204 : (codes : ℕ) → codes < 8
-      → Leads s bound (view r₁ 0x2FFE 0x0204 codes mem output 0) 1 (view r₁ 0x2FFD 0x0205 1 mem output 0)
+  at-0204 : (codes busy : ℕ) → codes < 8
+      → Leads s bound (view r₁ 0x2FFE 0x0204 codes mem output 0 busy) 1
+      (view r₁ 0x2FFD 0x0205 1 mem output 0 (busy - 1))
   unfolding reading codesOf
-  at-0204 codes below = moves quiet above below 6 0x2FFD 0x0205 (planned i (omega arith) refl)
+  at-0204 codes busy below = moves quiet above below 6 0x2FFD 0x0205 (planned i (omega arith) refl)
 
-  at-0205 : Leads s bound (view r₁ 0x2FFD 0x0205 1 mem output 0) 1 (view r₁ 0x2FFD 0x0206 1 kept output 0)
+  at-0205 : (busy : ℕ)
+      → Leads s bound (view r₁ 0x2FFD 0x0205 1 mem output 0 busy) 1
+      (view r₁ 0x2FFD 0x0206 1 kept output 0 (busy - 1))
   unfolding reading isDevice
-  at-0205 = stores quiet above (omega arith) r₁ 0x2FFD (planned i (omega arith) refl) refl
+  at-0205 busy = stores quiet above (omega arith) r₁ 0x2FFD (planned i (omega arith) refl) refl
 
-  at-0206 : Leads s bound (view r₁ 0x2FFD 0x0206 1 kept output 0) 1 (view 0x8000 0x2FFD 0x0207 4 kept output 0)
-  unfolding reading isDevice
-  at-0206 =
-      polls quiet above (omega arith) 1 0x0282 (planned kept-intact (omega arith) refl) refl
-      (word-at kept-intact 0x0282 DSR (omega arith) refl)
+  -- ---- the wait
 
-  at-0207 : Leads s bound (view 0x8000 0x2FFD 0x0207 4 kept output 0) 1 (view 0x8000 0x2FFD 0x0208 4 kept output 0)
+  -- LDI finds the display ready, and BRzp goes on.
+  at-0206-ready : (r codes : ℕ) → codes < 8
+      → Leads s bound (view r 0x2FFD 0x0206 codes kept output 0 0) 1 (view 0x8000 0x2FFD 0x0207 4 kept output 0 0)
+  unfolding reading isDevice codesOf
+  at-0206-ready r codes below =
+      polls quiet above below 1 0x0282 0x8000 4 (planned kept-intact (omega arith) refl) refl
+      (word-at kept-intact 0x0282 DSR (omega arith) refl) refl refl
+
+  at-0207-ready :
+      Leads s bound (view 0x8000 0x2FFD 0x0207 4 kept output 0 0) 1 (view 0x8000 0x2FFD 0x0208 4 kept output 0 0)
   unfolding reading
-  at-0207 =
+  at-0207-ready =
       jumps quiet above (omega arith) 0x0208
       (planned kept-intact (omega arith) (ap (λ (taken : Bool). Jump (cond taken 0x0206 0x0208)) (not-taken high)))
 
-  at-0208 : Leads s bound (view 0x8000 0x2FFD 0x0208 4 kept output 0) 1 (view 0x8000 0x2FFD 0x0209 4 kept with-byte 1)
+  -- LDI finds it busy, and BRzp goes back.
+  at-0206-busy : (r codes busy : ℕ) → codes < 8
+      → Leads s bound (view r 0x2FFD 0x0206 codes kept output 0 (suc busy)) 1 (view 0 0x2FFD 0x0207 2 kept output 0 busy)
+  unfolding reading isDevice codesOf
+  at-0206-busy r codes busy below =
+      let z : suc busy - 1 ≡ busy = omega arith in
+      let status = ap (λ (ready : Bool). cond {A = ℕ} ready 0x8000 0) (ne-eqb (suc busy) 0 (λ e. absurd (omega arith))) in
+      let polled : Leads s bound (view r 0x2FFD 0x0206 codes kept output 0 (suc busy)) 1
+      (view 0 0x2FFD 0x0207 2 kept output 0 (suc busy - 1)) =
+      polls quiet above below 1 0x0282 0 2 (planned kept-intact (omega arith) refl) refl
+      (word-at kept-intact 0x0282 DSR (omega arith) refl) status refl in
+      rw z at polled
+
+  at-0207-busy : (busy : ℕ)
+      → Leads s bound (view 0 0x2FFD 0x0207 2 kept output 0 busy) 1 (view 0 0x2FFD 0x0206 2 kept output 0 (busy - 1))
+  unfolding reading
+  at-0207-busy busy =
+      jumps quiet above (omega arith) 0x0206
+      (planned kept-intact (omega arith) (ap (λ (taken : Bool). Jump (cond taken 0x0206 0x0208)) (taken high)))
+
+  -- A turn that finds the display busy.
+  one-turn : (r codes busy : ℕ) → codes < 8
+      → Leads s bound (view r 0x2FFD 0x0206 codes kept output 0 (suc busy)) 2
+      (view 0 0x2FFD 0x0206 2 kept output 0 (busy - 1))
+  one-turn r codes busy below = then (at-0206-busy r codes busy below) (at-0207-busy busy)
+
+  abbrev Waits : ℕ → Type 0
+  Waits busy = (r codes : ℕ) → codes < 8
+      → Leads s bound (view r 0x2FFD 0x0206 codes kept output 0 busy) (waitSteps busy)
+      (view 0x8000 0x2FFD 0x0208 4 kept output 0 0)
+
+  waits-zero : Waits zero
+  unfolding waitSteps
+  waits-zero r codes below = then (at-0206-ready r codes below) at-0207-ready
+
+  waits-one : Waits (suc zero)
+  unfolding waitSteps
+  waits-one r codes below = then (one-turn r codes 0 below) (waits-zero 0 2 (omega arith))
+
+  waits-more : (busy : ℕ) → Waits busy → Waits (suc (suc busy))
+  unfolding waitSteps
+  waits-more busy w r codes below =
+      let z : suc busy - 1 ≡ busy = omega arith in
+      then (rw z at (one-turn r codes (suc busy) below)) (w 0 2 (omega arith))
+
+  waits : (busy : ℕ) → Waits busy
+  waits zero = waits-zero
+  waits (suc zero) = waits-one
+  waits (suc (suc busy)) = waits-more busy (waits busy)
+
+  -- ---- the byte, and the way back
+
+  at-0208 : Leads s bound (view 0x8000 0x2FFD 0x0208 4 kept output 0 0) 1
+      (view 0x8000 0x2FFD 0x0209 4 kept with-byte 1 8)
   unfolding reading isDevice
   at-0208 =
       shows quiet above (omega arith) r₀ 0x0283 (planned kept-intact (omega arith) refl) refl
-      (word-at kept-intact 0x0283 DDR (omega arith) refl) free
+      (word-at kept-intact 0x0283 DDR (omega arith) refl) refl free
 
-  at-0209 : Leads s bound (view 0x8000 0x2FFD 0x0209 4 kept with-byte 1) 1
-      (view r₁ 0x2FFD 0x020A (codesOf r₁) kept with-byte 1)
+  at-0209 : Leads s bound (view 0x8000 0x2FFD 0x0209 4 kept with-byte 1 8) 1
+      (view r₁ 0x2FFD 0x020A (codesOf r₁) kept with-byte 1 7)
   unfolding reading isDevice
   at-0209 =
       loads quiet above (omega arith) 1 0x2FFD r₁ (planned kept-intact (omega arith) refl) refl
       (getD-set-same mem 0x2FFD r₁ 0 (omega (arith, size)))
 
-  at-020a : Leads s bound (view r₁ 0x2FFD 0x020A (codesOf r₁) kept with-byte 1) 1
-      (view r₁ 0x2FFE 0x020B 1 kept with-byte 1)
+  at-020a : Leads s bound (view r₁ 0x2FFD 0x020A (codesOf r₁) kept with-byte 1 7) 1
+      (view r₁ 0x2FFE 0x020B 1 kept with-byte 1 6)
   unfolding reading
   at-020a =
       unfold codesOf in moves quiet above (codesOf-below r₁) 6 0x2FFE 0x020B (planned kept-intact (omega arith) refl)
@@ -121,9 +191,10 @@ module _ (s : Start) (bound : ℕ) (quiet : Quiet s bound) (r₀ r₁ r₂ r₃ 
       memory = kept;
       output = with-byte;
       shown = 1;
+      busy = 5;
     }
 
-    at-020b : Leads s bound (view r₁ 0x2FFE 0x020B 1 kept with-byte 1) 1 resumed
+    at-020b : Leads s bound (view r₁ 0x2FFE 0x020B 1 kept with-byte 1 6) 1 resumed
     unfolding reading
     at-020b =
         let p : getD kept 0x2FFE 0 ≡ pc = getD-set-other mem 0x2FFD 0x2FFE r₁ 0 (λ e. omega arith) ∙ pc-pushed in
@@ -131,11 +202,12 @@ module _ (s : Start) (bound : ℕ) (quiet : Quiet s bound) (r₀ r₁ r₂ r₃ 
         ap definedPsr (getD-set-other mem 0x2FFD 0x2FFF r₁ 0 (λ e. omega arith)) ∙ psr-pushed in
         returns quiet above (omega arith) 0x2FFE pc high′ codes′ (planned kept-intact (omega arith) refl) refl p q user
 
-    -- All eight.
-    routine : (codes : ℕ) → codes < 8 → Leads s bound (view r₁ 0x2FFE 0x0204 codes mem output 0) 8 resumed
-    routine codes below =
-        then (at-0204 codes below)
-        (then at-0205 (then at-0206 (then at-0207 (then at-0208 (then at-0209 (then at-020a at-020b))))))
+    -- All of them, from this busy count on.
+    routine : (codes busy : ℕ) → codes < 8
+        → Leads s bound (view r₁ 0x2FFE 0x0204 codes mem output 0 busy) (2 + (waitSteps (busy - 1 - 1) + 4)) resumed
+    routine codes busy below =
+        then (then (at-0204 codes busy below) (at-0205 (busy - 1)))
+        (then (waits (busy - 1 - 1) r₁ 1 (omega arith)) (then at-0208 (then at-0209 (then at-020a at-020b))))
 
 -- ---- the start: the trap, in User mode
 
@@ -185,6 +257,7 @@ viewOf s regs = record {
   memory = s .memory;
   output = s .output;
   shown = 0;
+  busy = s .machine .devices .busy;
 }
 
 machine-at-start : (s : Start) (regs : List ℕ) → s .machine .regs ≡ regs → s .machine .«saved_ssp» ≡ 0x3000
@@ -232,7 +305,19 @@ above-kept mem x y z =
     ∙ drop-set-lt 0x3000 (set mem 0x2FFF x) 0x2FFE y (omega arith)
     ∙ drop-set-lt 0x3000 mem 0x2FFF x (omega arith)
 
-module _ (s : Start) (n : ℕ) (c : CallsOut s n) (quiet : Quiet s outSteps) (x : Eight (s .machine .regs)) where
+wait-at-most : (busy : ℕ) → waitSteps busy ≤ busy + 3
+unfolding waitSteps
+wait-at-most zero = omega arith
+wait-at-most (suc zero) = omega arith
+wait-at-most (suc (suc busy)) = omega (arith, wait-at-most busy)
+
+few-steps : (busy : ℕ) → busy ≤ 8 → outSteps busy ≤ 32
+few-steps busy h = omega (arith, wait-at-most (busy - 1 - 1 - 1))
+
+few : (s : Start) (n : ℕ) → CallsOut s n → outStepsOf s ≤ 32
+few s n c = few-steps (s .machine .devices .busy) (accepted-is-acceptable s n (c .accepted) .defined .devices .busy)
+
+module _ (s : Start) (n : ℕ) (c : CallsOut s n) (quiet : Quiet s (outStepsOf s)) (x : Eight (s .machine .regs)) where
   abbrev psr : ℕ
   psr = s .machine .psr / 8 * 8 + s .machine .psr % 8
 
@@ -304,7 +389,7 @@ module _ (s : Start) (n : ℕ) (c : CallsOut s n) (quiet : Quiet s outSteps) (x 
     quiet = λ j h. absurd (omega arith);
   }
 
-  to-trap : Leads s outSteps (viewOf s regs) 1 (trapped (viewOf s regs) 0x0204)
+  to-trap : Leads s (outStepsOf s) (viewOf s regs) 1 (trapped (viewOf s regs) 0x0204)
   unfolding pushed stack reading
   to-trap =
       traps quiet user (omega arith) (allowed-at psr (s .machine .pc) (c .user-address)) 0x21 0x0204
@@ -321,22 +406,30 @@ module _ (s : Start) (n : ℕ) (c : CallsOut s n) (quiet : Quiet s outSteps) (x 
     memory = set stack 0x2FFD (x .r₁);
     output = set (s .output) 0 (x .r₀ % 256);
     shown = 1;
+    busy = 5;
   }
 
-  from-trap : Leads s outSteps (trapped (viewOf s regs) 0x0204) 8 after
+  abbrev busy : ℕ
+  busy = s .machine .devices .busy
+
+  from-trap : Leads s (outStepsOf s) (trapped (viewOf s regs) 0x0204) (2 + (waitSteps (busy - 1 - 1 - 1) + 4)) after
   unfolding pushed stack
   from-trap =
-      routine s outSteps quiet (x .r₀) (x .r₁) (x .r₂) (x .r₃) (x .r₄) (x .r₅) (x .r₇) (s .machine .psr / 8 % 4096)
+      routine s (outStepsOf s) quiet (x .r₀) (x .r₁) (x .r₂) (x .r₃) (x .r₄) (x .r₅) (x .r₇) (s .machine .psr / 8 % 4096)
       (x .r₆) stack (s .output) (omega arith) stack-intact stack-size (c .free-byte) (next (s .machine .pc))
-      (s .machine .psr / 8) (s .machine .psr % 8) pc-on-stack psr-on-stack user (s .machine .psr % 8) (omega arith)
+      (s .machine .psr / 8) (s .machine .psr % 8) pc-on-stack psr-on-stack user (s .machine .psr % 8)
+      (busy - 1) (omega arith)
 
-  at-end : At s outSteps after
-  at-end = then to-trap from-trap .on (omega arith) at-start
+  at-end : At s (outStepsOf s) after
+  at-end =
+      let z : 0 + (1 + (2 + (waitSteps (busy - 1 - 1 - 1) + 4))) ≡ outSteps busy = omega arith in
+      rw z at (then to-trap from-trap .on (omega arith) at-start)
 
-  out-resumes : (e : End) (keys : ℕ) (devices : Devices) (clock : ℕ) → clock ≡ s .machine .clock + outSteps
+  out-resumes : (e : End) (keys : ℕ) (devices : Devices) (clock : ℕ) → clock ≡ s .machine .clock + outStepsOf s
       → devices .kbsr ≡ readyAfter (take keys (s .bytes)) (s .machine .devices .kbsr)
       → devices .kbdr ≡ lastKey (take keys (s .bytes)) (s .machine .devices .kbdr) → devices .mcr ≡ 0x8000
-      → e ≡ standingAt after outSteps keys devices clock → outSteps ≤ callOf s n .steps → Resumed s n outSteps e
+      → e ≡ standingAt after (outStepsOf s) keys devices clock → outStepsOf s ≤ callOf s n .steps
+      → Resumed s n (outStepsOf s) e
   unfolding stack
   out-resumes e keys devices clock ticks kbsr kbdr mcr q makes =
       rw q
@@ -354,41 +447,43 @@ module _ (s : Start) (n : ℕ) (c : CallsOut s n) (quiet : Quiet s outSteps) (x 
         kbsr = kbsr;
         kbdr = kbdr;
         mcr = mcr ∙ sym (c .mcr);
+        busy = refl;
         clock = ticks;
         words-below = below-kept (s .memory) psr (next (s .machine .pc)) (x .r₁);
         words-above = above-kept (s .memory) psr (next (s .machine .pc)) (x .r₁);
       })
 
-  makes-them : outSteps ≤ callOf s n .steps
+  makes-them : outStepsOf s ≤ callOf s n .steps
   makes-them =
       rw (call-is-run s n n (c .accepted) (omega arith))
-      (done-steps-are-made s n outSteps (omega (arith, c .steps)) (ap (λ (e : End). e .ending) (at-end .stands)))
+      (done-steps-are-made s n (outStepsOf s) (omega (arith, c .steps, few s n c))
+      (ap (λ (e : End). e .ending) (at-end .stands)))
 
-  shows-and-resumes : Resumed s n outSteps (callOf s outSteps)
+  shows-and-resumes : Resumed s n (outStepsOf s) (callOf s (outStepsOf s))
   shows-and-resumes =
-      out-resumes (callOf s outSteps) (at-end .keys) (at-end .devices) (at-end .clock) (at-end .ticks) (at-end .kbsr)
-      (at-end .kbdr) (at-end .enabled)
-      (call-is-run s n outSteps (c .accepted) (omega (arith, c .steps)) ∙ at-end .stands) makes-them
+      out-resumes (callOf s (outStepsOf s)) (at-end .keys) (at-end .devices) (at-end .clock) (at-end .ticks)
+      (at-end .kbsr) (at-end .kbdr) (at-end .enabled)
+      (call-is-run s n (outStepsOf s) (c .accepted) (omega (arith, c .steps, few s n c)) ∙ at-end .stands) makes-them
 
-  uninterrupted : Uninterrupted s outSteps
+  uninterrupted : Uninterrupted s (outStepsOf s)
   unfolding causeAt
   uninterrupted = record {
     none = λ j h.
         subst (λ (e : End). takesInterrupt (nextStep s e .cause) ≡ false)
-        (sym (call-is-run s n j (c .accepted) (omega (arith, c .steps)))) (at-end .quiet j (omega arith));
+        (sym (call-is-run s n j (c .accepted) (omega (arith, c .steps, few s n c)))) (at-end .quiet j h);
   }
 
-uninterrupted-is-quiet : (s : Start) (n : ℕ) → CallsOut s n → Uninterrupted s outSteps → Quiet s outSteps
+uninterrupted-is-quiet : (s : Start) (n : ℕ) → CallsOut s n → Uninterrupted s (outStepsOf s) → Quiet s (outStepsOf s)
 unfolding causeAt
 uninterrupted-is-quiet s n c u = record {
   at = λ {k} a h.
       subst (λ (e : End). takesInterrupt (nextStep s e .cause) ≡ false)
-      (call-is-run s n k (c .accepted) (omega (arith, c .steps))) (u .none k h);
+      (call-is-run s n k (c .accepted) (omega (arith, c .steps, few s n c))) (u .none k h);
 }
 
 pub out-shows : OutShows
 out-shows = record {
-  within = omega arith;
+  within = few-steps;
   resumes = λ s n c u.
       shows-and-resumes s n c (uninterrupted-is-quiet s n c u) (eight (s .machine .regs) (c .registers));
   not-enabled = λ s n c h l.

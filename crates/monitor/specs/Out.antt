@@ -1,7 +1,7 @@
 -- OUT: "Called from User mode with the monitor's words intact, Saved_SSP x3000, MCR x8000, a free output byte, 32 steps
 -- to run and no interrupt on the way, OUT shows R0's low byte and nothing else, and within those steps the caller
 -- resumes at Next with its registers and PSR as before and no word but x2FF8 to x2FFF changed."
-use Prim.Native.Nat.{ℕ, _+_, _%_, _≤_, _<_}
+use Prim.Native.Nat.{ℕ, zero, suc, _+_, _-_, _%_, _≤_, _<_}
 use mathlib.Core.Path.{_≡_}
 use mathlib.Core.Bool.{true, false}
 use mathlib.Core.List.{List, [], _∷_}
@@ -62,22 +62,37 @@ pub record Resumed (s : Start) (n k : ℕ) (e : End) : Type 0 where
   pub kbsr : e .machine .devices .kbsr ≡ readyAfter (take (e .keys) (s .bytes)) (s .machine .devices .kbsr)
   pub kbdr : e .machine .devices .kbdr ≡ lastKey (take (e .keys) (s .bytes)) (s .machine .devices .kbdr)
   pub mcr : e .machine .devices .mcr ≡ s .machine .devices .mcr
+  -- the byte was shown four steps before the end: LDR, ADD and RTI have followed
+  pub busy : e .machine .devices .busy ≡ 5
   pub clock : e .machine .clock ≡ s .machine .clock + k
   -- "and no word but x2FF8 to x2FFF changed"
   pub words-below : take 0x2FF8 (e .memory) ≡ take 0x2FF8 (s .memory)
   pub words-above : drop 0x3000 (e .memory) ≡ drop 0x3000 (s .memory)
 
--- OUT takes nine steps: the trap, and eight of the routine.
-abbrev pub outSteps : ℕ
-outSteps = 9
+-- The wait for the display, where the first LDI finds this busy count: LDI and BRzp, as often as LDI finds it busy, and
+-- once more.
+unfoldable pub waitSteps : ℕ → ℕ
+waitSteps zero = 2
+waitSteps (suc zero) = 4
+waitSteps (suc (suc busy)) = 2 + waitSteps busy
+
+-- "OUT's steps now include the wait". Its steps with this busy count at the trap: the trap, two of the routine, during
+-- which the count falls by three; the wait; and four more. So 9 to 15.
+abbrev pub outSteps : ℕ → ℕ
+outSteps busy = 3 + (waitSteps (busy - 1 - 1 - 1) + 4)
+
+-- The same, from where a call begins.
+abbrev pub outStepsOf : Start → ℕ
+outStepsOf s = outSteps (s .machine .devices .busy)
 
 pub record OutShows : Type 0 where
-  -- "within those steps"
-  pub within : outSteps ≤ 32
-  pub resumes : (s : Start) (n : ℕ) → CallsOut s n → Uninterrupted s outSteps → Resumed s n outSteps (callOf s outSteps)
+  -- "within those steps", whatever the count is at the call
+  pub within : (busy : ℕ) → busy ≤ 8 → outSteps busy ≤ 32
+  pub resumes : (s : Start) (n : ℕ) → CallsOut s n → Uninterrupted s (outStepsOf s)
+      → Resumed s n (outStepsOf s) (callOf s (outStepsOf s))
   -- where the keyboard's interrupt enable, bit 14, is clear, no step is interrupted, whatever keys arrive
   pub not-enabled : (s : Start) (n : ℕ) → CallsOut s n → s .machine .devices .kbsr % 0x8000 ≡ 0
-      → s .machine .devices .kbsr ≤ 0x8000 → Uninterrupted s outSteps
+      → s .machine .devices .kbsr ≤ 0x8000 → Uninterrupted s (outStepsOf s)
 
 -- ---- the premises can be met
 
@@ -88,7 +103,7 @@ outCalled =
 
 pub record PremisesCanBeMet : Type 0 where
   pub calls-out : CallsOut outCalled 32
-  pub uninterrupted : Uninterrupted outCalled outSteps
+  pub uninterrupted : Uninterrupted outCalled (outStepsOf outCalled)
 
 -- Memory that the monitor was put into holds its words.
 abbrev pub InstalledIsIntact : Type 0

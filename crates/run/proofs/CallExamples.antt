@@ -15,6 +15,9 @@ call-examples-hold = record {
   done-with-no-step = refl;
   halted-before-full = refl;
   full-with-a-key-due = refl;
-  full-in-the-second-step = refl;
   done-after-two = refl;
+  not-full-while-busy = refl;
+  full-once-ready = refl;
+  shown-once-ready = refl;
+  display-takes-its-time = refl;
 }

@@ -4,8 +4,11 @@ use Prim.Native.Nat.{ℕ, _+_, _-_, _^_}
 use mathlib.Core.Path.{_≡_}
 use mathlib.Core.Bool.{true, false}
 use mathlib.Core.List.{List, [], _∷_, map}
-use lib.ListN.{length, replicate}
+use lib.ListN.{length, getD, replicate}
 use Rattle.machine.specs.declared.Machine.{Machine}
+use Rattle.machine.specs.declared.Devices.{Devices}
+use Rattle.machine.specs.Record.{withRegisters}
+use Rattle.machine.specs.Rows.{withWord}
 use Rattle.run.specs.declared.Refusal.the-variants.{MemorySize}
 use Rattle.run.specs.declared.Admission.{Admission}
 use Rattle.run.specs.declared.Admission.the-variants.{Accepted, Rejected}
@@ -18,17 +21,21 @@ use Rattle.run.specs.Call.{startOf}
 
 -- ---- refusals
 
--- A record with this PSR, KBSR, KBDR, MCR and clock. R6 and the saved stack pointers may be anything.
-abbrev pub recordWith : ℕ → ℕ → ℕ → ℕ → ℕ → Machine
-recordWith psr kbsr kbdr mcr clock = record {
+-- A record with this PSR, these devices and this clock. R6 and the saved stack pointers may be anything.
+abbrev pub recordWith : ℕ → Devices → ℕ → Machine
+recordWith psr devices clock = record {
   regs = 1 ∷ 2 ∷ 3 ∷ 4 ∷ 5 ∷ 6 ∷ 0xFFFF ∷ 8 ∷ [];
   pc = 0x0400;
   psr = psr;
   «saved_ssp» = 0xFFFF;
   «saved_usp» = 0xFFFF;
-  devices = record { kbsr = kbsr; kbdr = kbdr; mcr = mcr };
+  devices = devices;
   clock = clock;
 }
+
+-- Devices with this KBSR, KBDR, MCR and busy count.
+abbrev pub devicesWith : ℕ → ℕ → ℕ → ℕ → Devices
+devicesWith kbsr kbdr mcr busy = record { kbsr = kbsr; kbdr = kbdr; mcr = mcr; busy = busy }
 
 -- The record, n, the key times, how many bytes there are, the refusal and its index: 0 where the call is accepted.
 pub data Asked : Type 0 where
@@ -37,17 +44,22 @@ pub data Asked : Type 0 where
 -- A record with this PSR, KBSR, KBDR, MCR and clock, and index 0; the rest as above.
 abbrev pub withBits : ℕ → ℕ → ℕ → ℕ → ℕ → ℕ → List ℕ → ℕ → ℕ → Asked
 withBits psr kbsr kbdr mcr clock n times bytes refusal =
-    asked (recordWith psr kbsr kbdr mcr clock) n times bytes refusal 0
+    asked (recordWith psr (devicesWith kbsr kbdr mcr 0) clock) n times bytes refusal 0
 
 -- A record without a fault, at this clock; the rest as above.
 abbrev pub atClock : ℕ → ℕ → List ℕ → ℕ → ℕ → Asked
 atClock clock n times bytes refusal = withBits 0x8002 0 0 0x8000 clock n times bytes refusal
 
+-- This busy count of the display, and the refusal.
+abbrev pub withBusy : ℕ → ℕ → Asked
+withBusy busy refusal = asked (recordWith 0x8002 (devicesWith 0 0 0x8000 busy) 1000) 5 [] 0 refusal 0
+
 -- These times at clock 1000, a byte for each, and the refusal with its index.
 abbrev pub withTimes : List ℕ → ℕ → ℕ → Asked
-withTimes times refusal index = asked (recordWith 0x8002 0 0 0x8000 1000) 5 times (length times) refusal index
+withTimes times refusal index =
+    asked (recordWith 0x8002 (devicesWith 0 0 0x8000 0) 1000) 5 times (length times) refusal index
 
--- withBits PSR KBSR KBDR MCR clock n times bytes refusal; atClock clock n times bytes refusal;
+-- withBits PSR KBSR KBDR MCR clock n times bytes refusal; withBusy busy refusal; atClock clock n times bytes refusal;
 -- withTimes times refusal index.
 abbrev pub calls : List Asked
 calls =
@@ -65,6 +77,9 @@ calls =
     ∷ withBits 0x8002 0x0000 0x8000 0x8000 1000 5 [] 0 12
     ∷ withBits 0x8002 0x0000 0x0000 0xC000 1000 5 [] 0 12
     ∷ withBits 0x8002 0x0000 0x0000 0x0001 1000 5 [] 0 12
+    -- "refusal 12 covers a count above 8"
+    ∷ withBusy 8 0
+    ∷ withBusy 9 12
     -- "or a clock above 2^48"
     ∷ atClock (2 ^ 48) 0 [] 0 0
     ∷ atClock (2 ^ 48 + 1) 0 [] 0 12
@@ -121,9 +136,13 @@ storing mcr = record {
   psr = 0x0002;
   «saved_ssp» = 0x3000;
   «saved_usp» = 0xFDFF;
-  devices = record { kbsr = 0; kbdr = 0; mcr = mcr };
+  devices = devicesWith 0 0 mcr 0;
   clock = 41;
 }
+
+-- The same with R3 at DSR.
+abbrev pub polling : Machine
+polling = withRegisters (0x0041 ∷ 0xFE06 ∷ 3 ∷ 0xFE04 ∷ 5 ∷ 6 ∷ 0x2F00 ∷ 8 ∷ []) (storing 0x8000)
 
 -- What a run answers but the record's registers: steps, keys, bytes shown, PC, KBDR, the output and the stop.
 pub data Answered : Type 0 where
@@ -140,6 +159,18 @@ stores mcr output n =
     answersOf
     (runOf (startOf (storing mcr) (replicate 65536 0x7040) (41 ∷ 42 ∷ []) (0x61 ∷ 0x62 ∷ []) output) n)
 
+-- ---- the display
+
+-- How many steps were made, and R2 and the busy count after them.
+pub data Polled : Type 0 where
+  polls : ℕ → ℕ → ℕ → Polled
+
+-- n steps from here: STR R0, R1, #0 shows a byte, and LDR R2, R3, #0, which stands everywhere else, loads DSR.
+abbrev pub polled : ℕ → Polled
+polled n =
+    let e = runOf (startOf polling (withWord (replicate 65536 0x64C0) 0x0400 0x7040) [] [] (0 ∷ 0 ∷ [])) n in
+    polls (e .steps) (getD (e .machine .regs) 2 0) (e .machine .devices .busy)
+
 -- ---- the table
 
 pub record CallExamplesHold : Type 0 where
@@ -153,7 +184,7 @@ pub record CallExamplesHold : Type 0 where
         psr = 0x8002;
         «saved_ssp» = 0x3000;
         «saved_usp» = 0;
-        devices = record { kbsr = 0; kbdr = 0; mcr = 0x8000 };
+        devices = record { kbsr = 0; kbdr = 0; mcr = 0x8000; busy = 0 };
         clock = 0;
       }
   pub fresh-in-supervisor-mode :
@@ -164,7 +195,7 @@ pub record CallExamplesHold : Type 0 where
         psr = 0x0002;
         «saved_ssp» = 0;
         «saved_usp» = 0x5678;
-        devices = record { kbsr = 0; kbdr = 0; mcr = 0x8000 };
+        devices = record { kbsr = 0; kbdr = 0; mcr = 0x8000; busy = 0 };
         clock = 0;
       }
   -- The refusals of the rows above, with any memory of 65,536 words; and with any other memory all of them are 11.
@@ -177,5 +208,14 @@ pub record CallExamplesHold : Type 0 where
   pub halted-before-full : stores 0 [] 1 ≡ answers 0 0 0 0x0400 0 [] Halted
   -- "None of the stopped step has happened, key arrival included."
   pub full-with-a-key-due : stores 0x8000 [] 1 ≡ answers 0 0 0 0x0400 0 [] OutputFull
-  pub full-in-the-second-step : stores 0x8000 (0 ∷ []) 2 ≡ answers 1 1 1 0x0401 0x61 (0x41 ∷ []) OutputFull
-  pub done-after-two : stores 0x8000 (0 ∷ 0 ∷ 0 ∷ []) 2 ≡ answers 2 2 2 0x0402 0x62 (0x41 ∷ 0x41 ∷ 0 ∷ []) Done
+  pub done-after-two : stores 0x8000 (0 ∷ 0 ∷ 0 ∷ []) 2 ≡ answers 2 2 1 0x0402 0x62 (0x41 ∷ 0 ∷ 0 ∷ []) Done
+  -- "Output full now needs a display that isn't busy": eight stores are swallowed, and the ninth after the byte stops.
+  pub not-full-while-busy : stores 0x8000 (0 ∷ []) 9 ≡ answers 9 2 1 0x0409 0x62 (0x41 ∷ []) Done
+  pub full-once-ready : stores 0x8000 (0 ∷ []) 10 ≡ answers 9 2 1 0x0409 0x62 (0x41 ∷ []) OutputFull
+  pub shown-once-ready :
+      stores 0x8000 (0 ∷ 0 ∷ 0 ∷ []) 10 ≡ answers 10 2 2 0x040A 0x62 (0x41 ∷ 0x41 ∷ 0 ∷ []) Done
+  -- "After a step that shows a byte, the display is busy for the next eight steps: DSR loads 0 and a DDR store shows
+  -- nothing. The ninth step finds it ready."
+  pub display-takes-its-time : map polled (1 ∷ 2 ∷ 3 ∷ 4 ∷ 5 ∷ 6 ∷ 7 ∷ 8 ∷ 9 ∷ 10 ∷ [])
+      ≡ polls 1 3 8 ∷ polls 2 0 7 ∷ polls 3 0 6 ∷ polls 4 0 5 ∷ polls 5 0 4 ∷ polls 6 0 3 ∷ polls 7 0 2 ∷ polls 8 0 1
+      ∷ polls 9 0 0 ∷ polls 10 0x8000 0 ∷ []

@@ -1,4 +1,5 @@
 // How a run is turned down: 11 to 15 and 19, under the first that applies and never otherwise.
+use machine::Devices;
 use machine::Machine;
 use run::Admission;
 use run::Answer;
@@ -9,11 +10,27 @@ ghost use mathlib.Core.Path.{_≡_};
 ghost use mathlib.Core.List.{List};
 ghost use Prim.Native.Nat.{ℕ};
 ghost use Rattle.run.specs.Run.{begin, endedBy};
-ghost use Rattle.run.specs.Refusals.{undefinedRecord, timesAdmission, admissionOf};
+ghost use Rattle.run.specs.Refusals.{undefinedDevices, undefinedRecord, timesAdmission, admissionOf};
 ghost use Rattle.run.specs.Call.{startOf, endOf};
 ghost use Rattle.run.specs.declared.Ending.the-variants.{Refused};
 
-// 12: an undefined bit, or a clock above 2^48.
+// 12: an undefined bit of a device register, or a busy count above 8.
+fn undefined_devices(d: Devices) -> bool
+    ensures { λ r. ⌜ r ≡ undefinedDevices d ⌝ }
+{
+    if d.kbsr % 0x4000 != 0 {
+        return true;
+    }
+    if 0x0100 <= d.kbdr {
+        return true;
+    }
+    if d.mcr % 0x8000 != 0 {
+        return true;
+    }
+    8 < d.busy
+}
+
+// 12: an undefined bit, a busy count above 8, or a clock above 2^48.
 fn undefined_record(m: Machine) -> bool
     ensures { λ r. ⌜ r ≡ undefinedRecord m ⌝ }
 {
@@ -21,19 +38,11 @@ fn undefined_record(m: Machine) -> bool
     if psr != m.psr {
         return true;
     }
-    if m.devices.kbsr % 0x4000 != 0 {
+    let devices = m.devices;
+    if undefined_devices(devices) {
         return true;
     }
-    if 0x0100 <= m.devices.kbdr {
-        return true;
-    }
-    if m.devices.mcr % 0x8000 != 0 {
-        return true;
-    }
-    if 0x1_0000_0000_0000 < m.clock {
-        return true;
-    }
-    false
+    0x1_0000_0000_0000 < m.clock
 }
 
 // 15 and 19, entry by entry from the first: a time is below the clock, or below the one before it. No entry that passed

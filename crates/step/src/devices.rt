@@ -5,17 +5,29 @@ use crate::Obeyed;
 use crate::memory::set_word;
 use crate::memory::word_at;
 use machine::Control;
+use machine::set_busy;
 use machine::set_keyboard;
 use machine::set_mcr;
 use machine::with_devices;
 ghost use mathlib.Core.Path.{_≡_};
-ghost use mathlib.Core.List.{List};
-ghost use Prim.Native.Nat.{ℕ};
+ghost use mathlib.Core.Bool.{cond};
+ghost use mathlib.Core.List.{List, []};
+ghost use Prim.Native.Nat.{ℕ, _+_};
+ghost use lib.Dec.{eqb};
 ghost use lib.ListN.{length};
-ghost use Rattle.machine.specs.Record.{whole, withPsr, withKbsr, withMcr};
+ghost use Rattle.machine.specs.Record.{whole, withPsr, withKbsr, withMcr, withBusy};
 ghost use Rattle.machine.specs.Devices.{ddrStore, stored};
+ghost use Rattle.machine.specs.Step.{afterTick};
+ghost use Rattle.machine.specs.declared.Control.{Control};
 ghost use Rattle.step.specs.declared.Display.the-variants.{Unchanged};
-ghost use Rattle.step.specs.Delivery.{loadOf, effect, after, delivered};
+ghost use Rattle.step.specs.Delivery.{loadOf, effect, after, delivered, shownBy};
+
+// DSR: x8000, or 0 while the display is busy.
+fn display_status(busy: u16) -> u16
+    ensures { λ r. ⌜ r ≡ cond (eqb busy 0) 0x8000 0 ⌝ }
+{
+    if busy == 0 { 0x8000 } else { 0 }
+}
 
 pub fn load(c: Control, memory: &[u16], a: u16) -> Loaded
     requires { ⌜ length (now memory) ≡ 65536 ⌝ }
@@ -29,7 +41,7 @@ pub fn load(c: Control, memory: &[u16], a: u16) -> Loaded
             kbsr: kbsr % 0x8000,
         },
         0xFE04 => Loaded {
-            value: 0x8000,
+            value: display_status(c.devices.busy),
             kbsr,
         },
         0xFE06 => Loaded { value: 0, kbsr },
@@ -55,22 +67,22 @@ pub fn unshown(c: Control) -> Obeyed
     }
 }
 
-// DDR: the byte is shown at the start of the output, if it has room.
-fn show(c: Control, output: &mut [u8], v: u16) -> Obeyed
-    ensures { λ r. ⌜ ((regs memory : List ℕ) (clock : ℕ) → after r regs clock memory (now (output .exit))
+// DDR, while the display has this busy count: the byte is shown at the start of the output, if it has room. A busy display
+// shows nothing. The count is handed in by itself: a function that is handed the whole record for it costs ten
+// instructions a step.
+fn show(busy: u16, output: &mut [u8], v: u16) -> Display
+    ensures { λ r. ⌜ ((c : Control) (regs memory : List ℕ) (clock : ℕ) → c .devices .busy ≡ busy
+        → after (record { control = c; display = r }) regs clock memory (now (output .exit))
         ≡ delivered regs memory (now (output .entry)) (effect (ddrStore v (whole regs clock c) memory))) ⌝ }
 {
+    if busy != 0 {
+        return Display::Unchanged;
+    }
     if output.len() == 0 {
-        return Obeyed {
-            control: c,
-            display: Display::Full,
-        };
+        return Display::Full;
     }
     output[0] = (v % 256) as u8;
-    Obeyed {
-        control: c,
-        display: Display::Shown,
-    }
+    Display::Shown
 }
 
 // The record with this KBSR, this MCR, this PSR: after a store, and after a load that clears ready.
@@ -99,6 +111,37 @@ fn with_psr(c: Control, psr: u16) -> Control
     }
 }
 
+// The record with this busy count of the display.
+fn with_busy(c: Control, busy: u16) -> Control
+    ensures { λ n. ⌜ ((regs : List ℕ) (clock : ℕ) → whole regs clock n ≡ withBusy busy (whole regs clock c)) ⌝ }
+{
+    with_devices(c, set_busy(c.devices, busy))
+}
+
+// The end of a step that shows nothing. The record stays as it is where the count is 0, as it is most often.
+fn one_step_less(c: Control) -> Control
+    ensures { λ n. ⌜ ((regs : List ℕ) (clock : ℕ) → whole regs (clock + 1) n ≡ afterTick [] (whole regs clock c)) ⌝ }
+{
+    let busy = c.devices.busy;
+    if busy == 0 {
+        return c;
+    }
+    with_busy(c, busy - 1)
+}
+
+// The end of a step, but for the clock, which the caller keeps: the display is busy for eight steps where a byte was to be
+// shown, else for one less.
+pub fn count_down(c: Control, display: Display) -> Control
+    ensures { λ n. ⌜ ((regs : List ℕ) (clock : ℕ) → whole regs (clock + 1) n
+        ≡ afterTick (shownBy display) (whole regs clock c)) ⌝ }
+{
+    match display {
+        Display::Unchanged => one_step_less(c),
+        Display::Shown => with_busy(c, 8),
+        Display::Full => with_busy(c, 8),
+    }
+}
+
 pub fn store(c: Control, memory: &mut [u16], output: &mut [u8], v: u16, a: u16) -> Obeyed
     requires { ⌜ length (now memory) ≡ 65536 ⌝ }
     ensures { λ r. ⌜ ((regs : List ℕ) (clock : ℕ) → after r regs clock (now (memory .exit)) (now (output .exit))
@@ -111,7 +154,13 @@ pub fn store(c: Control, memory: &mut [u16], output: &mut [u8], v: u16, a: u16) 
             unshown(with_kbsr(c, kbsr))
         }
         0xFE02 | 0xFE04 => unshown(c),
-        0xFE06 => show(c, output, v),
+        0xFE06 => {
+            let display = show(c.devices.busy, output, v);
+            Obeyed {
+                control: c,
+                display,
+            }
+        }
         0xFFFC => {
             let psr = c.psr / 0x8000 * 0x8000 + v / 256 % 8 * 256 + v % 8;
             unshown(with_psr(c, psr))

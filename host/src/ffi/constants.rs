@@ -1,7 +1,7 @@
 //! The constants of `lc3.h`, under its names.
 
 /// The version of the interface.
-pub const LC3_VERSION: u32 = 4;
+pub const LC3_VERSION: u32 = 5;
 
 /// Words of memory: no other number is accepted.
 pub const LC3_MEMORY_WORDS: usize = 65_536;
@@ -9,6 +9,8 @@ pub const LC3_MEMORY_WORDS: usize = 65_536;
 pub const LC3_MAX_STEPS: u64 = 1_048_576;
 /// The clock never passes this.
 pub const LC3_MAX_CLOCK: u64 = 1 << 48;
+/// The steps for which the display is busy after it has shown a byte.
+pub const LC3_MAX_BUSY: u16 = 8;
 /// Bytes of the longest line, its line feed included.
 pub const LC3_MAX_LINE: usize = 17;
 /// The vector words, x0000 to x01FF.
@@ -59,7 +61,8 @@ pub const LC3_REFUSED_FIELD: u32 = 2;
 pub const LC3_REFUSED_MASK: u32 = 3;
 /// Refusal: memory is not [`LC3_MEMORY_WORDS`] words.
 pub const LC3_REFUSED_MEMORY: u32 = 11;
-/// Refusal: the record has an undefined bit, or a clock above [`LC3_MAX_CLOCK`].
+/// Refusal: the record has an undefined bit, a busy count above [`LC3_MAX_BUSY`], or a clock above
+/// [`LC3_MAX_CLOCK`].
 pub const LC3_REFUSED_RECORD: u32 = 12;
 /// Refusal: more than [`LC3_MAX_STEPS`] steps, or a clock that would pass [`LC3_MAX_CLOCK`].
 pub const LC3_REFUSED_STEPS: u32 = 13;

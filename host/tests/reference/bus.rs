@@ -76,11 +76,37 @@ impl Device for Keyboard {
 pub struct Display<'a> {
     pub output: &'a mut [u8],
     pub shown: usize,
+    /// The steps until the display is ready again.
+    pub busy: u16,
+}
+
+/// The steps that a display needs for a byte after the one that showed it.
+const BUSY_STEPS: u16 = 8;
+
+impl Display<'_> {
+    /// Whether a display may have this count.
+    pub fn may_be_busy_for(count: u16) -> bool {
+        count <= BUSY_STEPS
+    }
+
+    pub fn is_ready(&self) -> bool {
+        self.busy == 0
+    }
+
+    pub fn has_room(&self) -> bool {
+        self.shown < self.output.len()
+    }
+
+    /// The end of a step, which began with so many bytes shown.
+    pub fn end_step(&mut self, shown_before: usize) {
+        let showed = self.shown > shown_before;
+        self.busy = if showed { BUSY_STEPS } else { self.busy.saturating_sub(1) };
+    }
 }
 
 impl Device for Display<'_> {
     fn load(&mut self, at: u16) -> u16 {
-        if at == DSR {
+        if at == DSR && self.is_ready() {
             0x8000
         } else {
             0
@@ -88,7 +114,7 @@ impl Device for Display<'_> {
     }
 
     fn store(&mut self, at: u16, value: u16) -> Result<(), NoRoom> {
-        if at == DDR {
+        if at == DDR && self.is_ready() {
             *self.output.get_mut(self.shown).ok_or(NoRoom)? = value as u8;
             self.shown += 1;
         }

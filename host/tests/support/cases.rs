@@ -87,9 +87,9 @@ struct Generator<'a> {
     patches: Vec<(u16, u16)>,
 }
 
-/// A random case of the family, in either mode.
+/// A random case of the family, in either mode; the display is out of User mode's reach.
 pub fn case(rng: &mut Rng, family: Family) -> Case {
-    let user = rng.once_in(2);
+    let user = rng.once_in(if family == Family::Display { 8 } else { 2 });
     case_in_mode(rng, family, user)
 }
 
@@ -136,7 +136,7 @@ impl Generator<'_> {
         let any = self.rng.once_in(3);
         let nearby = self.pc.wrapping_add_signed(self.rng.between(-4, 12) as i16);
         match (self.family, any) {
-            (Family::Display, false) => bus::DDR,
+            (Family::Display, false) => self.rng.pick(&[bus::DDR, bus::DDR, bus::DSR]),
             (Family::Keyboard, false) => self.rng.pick(&[bus::KBSR, bus::KBDR]),
             (Family::Devices, false) => self.rng.pick(&bus::REGISTERS),
             (Family::Stacks, false) => self.rng.pick(&VECTORS),
@@ -261,6 +261,7 @@ impl Generator<'_> {
             kbsr: self.rng.pick(&[0x0000, 0x4000, 0x8000, 0xC000]),
             kbdr: self.rng.below(256) as u16,
             mcr: if self.rng.once_in(40) { 0 } else { 0x8000 },
+            busy: if self.rng.once_in(2) { 0 } else { self.rng.below(9) as u16 },
             clock: 0,
         }
     }
@@ -328,11 +329,12 @@ fn spoil_memory(rng: &mut Rng, case: &mut Case) {
 
 fn spoil_record(rng: &mut Rng, case: &mut Case) {
     let bit = 1 << rng.below(16);
-    match rng.below(5) {
+    match rng.below(6) {
         0 => case.record.psr |= bit,
         1 => case.record.kbsr |= bit,
         2 => case.record.kbdr |= bit,
         3 => case.record.mcr |= bit,
+        4 => case.record.busy = rng.pick(&[8, 9, 0x8000, u16::MAX]),
         _ => case.record.clock = rng.pick(&[CLOCK_LIMIT, CLOCK_LIMIT + 1, u64::MAX]),
     }
 }

@@ -2,7 +2,7 @@
 -- device's.
 use borrow.Author.Needs.{needs}
 use borrow.Author.Tests.{ne-eqb}
-use Rattle.machine.specs.Devices.{isDevice, deviceValue, loadedValue, kbsrAfterLoad}
+use Rattle.machine.specs.Devices.{isDevice, displayIsReady, displayStatus, deviceValue, loadedValue, kbsrAfterLoad}
 use Rattle.machine.proofs.DeviceLaws.{no-device}
 use Rattle.step.proofs.devices.load.Statement.{statement}
 use Rattle.step.proofs.devices.load.Tie as tie
@@ -18,9 +18,9 @@ returns-2 c =
     λ regs clock. rw (c .match .keys2)
 
 returns-3 : tie.Need-returns-3
-unfolding loadedValue isDevice deviceValue kbsrAfterLoad
+unfolding loadedValue isDevice deviceValue kbsrAfterLoad displayStatus displayIsReady
 returns-3 c =
-    λ regs clock. rw (c .match .keys3)
+    λ regs clock. rw (c .before .match .keys3, c .display-status .ensures)
 
 returns-4 : tie.Need-returns-4
 unfolding loadedValue isDevice deviceValue kbsrAfterLoad
@@ -53,4 +53,4 @@ returns-7 c =
 pub load-spec : {M : Type 1} → statement M
 load-spec =
     tie.close
-    (tie.spec (λ c κs. search needs) returns returns-2 returns-3 returns-4 returns-5 returns-6 returns-7)
+    (tie.spec (λ c κs. search needs) (λ c κs. search needs) returns returns-2 returns-3 returns-4 returns-5 returns-6 returns-7)

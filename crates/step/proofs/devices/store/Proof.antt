@@ -1,6 +1,6 @@
 -- `step::devices::store` meets its contract: each arm of the match knows its address; the last one knows that it is no
 -- device's.
-use mathlib.Core.Path.{ap}
+use mathlib.Core.Path.{refl, ap}
 use mathlib.Core.Logic.{⊎-elim, inl, inr}
 use Rattle.machine.specs.declared.Machine.{Machine}
 use Rattle.machine.specs.Devices.{isDevice, kbsrStore, psrStore, mcrStore, deviceStore, stored}
@@ -28,8 +28,8 @@ returns-3 : tie.Need-returns-3
 unfolding stored isDevice deviceStore
 returns-3 c =
     λ regs clock. rw (c .before .before .before .before .match .keys3)
-    (c .before .before .show .ensures regs
-    (c .before .before .before .before .before .before .before .args .memory .now) clock)
+    (c .before .before .show .ensures _ regs
+    (c .before .before .before .before .before .before .before .args .memory .now) clock refl)
 
 returns-4 : tie.Need-returns-4
 unfolding stored isDevice deviceStore psrStore
