@@ -34,7 +34,7 @@ format:
 
 host: lib
 	host/c/run.sh
-	host/bench/symbols.sh '*::run' '*::go' '*::run_accepted'
+	host/bench/symbols.sh '*::run' '*::go' '*::run_accepted' '*::quiet_steps'
 	host/bench/count.sh
 	$(CARGO) -- --nocapture
 	RUSTDOCFLAGS="-D warnings" \

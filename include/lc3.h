@@ -1,6 +1,6 @@
 /*
- * lc3.h: the LC-3 machine with privilege, interrupts and a console, for hosts in C and C++.
- * For x86-64 with the System V calling convention.
+ * lc3.h: the LC-3 machine with privilege, interrupts, a console and a timer, for hosts in C and
+ * C++. For x86-64 with the System V calling convention.
  *
  *   lc3_version  the version of the interface that the library was built for
  *   lc3_fresh    makes the record of a machine that has not run yet
@@ -52,7 +52,7 @@ extern "C" {
  * call changes. The name that the shared library is loaded by (its SONAME) ends in it, as in
  * liblc3.so.3, so that no host meets another version than it was built for.
  */
-#define LC3_VERSION 5
+#define LC3_VERSION 6
 
 /* Sizes and limits. */
 #define LC3_MEMORY_WORDS 65536            /* words of memory: no other number is accepted */
@@ -65,7 +65,7 @@ extern "C" {
 
 /* Bits of the PSR. No other bit may be set in a record; any pattern of N, Z, P is allowed. */
 #define LC3_PSR_USER 0x8000     /* set in User mode, clear in Supervisor mode */
-#define LC3_PSR_PRIORITY 0x0700 /* priority level 0 to 7; the keyboard interrupts below 4 */
+#define LC3_PSR_PRIORITY 0x0700 /* level 0 to 7; keyboard interrupts below 4, timer's below 6 */
 #define LC3_PSR_N 0x0004
 #define LC3_PSR_Z 0x0002
 #define LC3_PSR_P 0x0001
@@ -75,6 +75,8 @@ extern "C" {
 #define LC3_KBSR_INTERRUPT 0x4000 /* interrupt enable */
 #define LC3_KBDR_BYTE 0x00FF      /* the last key */
 #define LC3_MCR_CLOCK 0x8000      /* clock enable; a machine with this bit clear is halted */
+#define LC3_TSR_READY 0x8000      /* the interval has passed and TSR has not been loaded since */
+#define LC3_TSR_INTERRUPT 0x4000  /* interrupt enable */
 
 /*
  * Addresses of the device registers: privileged, as are all of x0000 to x2FFF, xFE00 to xFFFF.
@@ -83,11 +85,20 @@ extern "C" {
  * whatever kind: meanwhile a load of the DSR gives 0 instead of x8000, and a byte stored to the DDR
  * is lost. A program that is to lose none waits until the DSR is negative, as the routines of the
  * ready-made monitor do.
+ *
+ * The timer makes preemption possible. A store to the TIR sets its interval, in steps, and starts
+ * it anew; 0 turns it off. Each time that the interval has passed, the ready bit of the TSR is set.
+ * If interrupts are enabled there too, and the priority is below 6, that very step is the interrupt
+ * by word x0181, with priority 6; where the keyboard may interrupt as well, the timer goes first. A
+ * load of the TSR clears ready; until then the timer interrupts again as soon as the priority lets
+ * it.
  */
 #define LC3_ADDRESS_KBSR 0xFE00
 #define LC3_ADDRESS_KBDR 0xFE02
 #define LC3_ADDRESS_DSR 0xFE04
 #define LC3_ADDRESS_DDR 0xFE06
+#define LC3_ADDRESS_TSR 0xFE08 /* timer status: ready, which a load clears, and interrupt enable */
+#define LC3_ADDRESS_TIR 0xFE0A /* timer interval */
 #define LC3_ADDRESS_PSR 0xFFFC
 #define LC3_ADDRESS_MCR 0xFFFE
 
@@ -110,7 +121,7 @@ enum {
     LC3_REFUSED_FIELD = 2,    /* a value is out of its field's range, or the kind is unknown */
     LC3_REFUSED_MASK = 3,     /* the mask of a BR is above 7 */
     LC3_REFUSED_MEMORY = 11,  /* memory is not LC3_MEMORY_WORDS words */
-    LC3_REFUSED_RECORD = 12,  /* an undefined bit in PSR, KBSR, KBDR, MCR; busy or clock too high */
+    LC3_REFUSED_RECORD = 12,  /* an undefined bit or a count out of range: see lc3_record */
     LC3_REFUSED_STEPS = 13,   /* n is above LC3_MAX_STEPS, or clock + n above LC3_MAX_CLOCK */
     LC3_REFUSED_LISTS = 14,   /* times and bytes differ in length */
     LC3_REFUSED_TIME = 15,    /* times[index] is below the clock */
@@ -135,18 +146,27 @@ enum {
     LC3_OUTPUT_FULL = 2 /* the next step shows a byte and the output has no free one */
 };
 
-/* The machine, apart from its memory. A host may read and alter every field between calls. */
+/*
+ * The machine, apart from its memory. A host may read and alter every field between calls.
+ *
+ * A run refuses it with LC3_REFUSED_RECORD where psr, kbsr, kbdr, mcr or timer_status has a bit that
+ * is not named above, busy is above LC3_MAX_BUSY, timer_count is above timer_interval, or 0 while
+ * that is not, or clock is above LC3_MAX_CLOCK.
+ */
 typedef struct {
-    uint16_t regs[8];   /* R0 to R7 */
-    uint16_t pc;        /* address of the next instruction */
-    uint16_t psr;       /* mode, priority and condition codes */
-    uint16_t saved_ssp; /* supervisor stack pointer, kept while in User mode */
-    uint16_t saved_usp; /* user stack pointer, kept while in Supervisor mode */
-    uint16_t kbsr;      /* keyboard status */
-    uint16_t kbdr;      /* keyboard data */
-    uint16_t mcr;       /* machine control */
-    uint16_t busy;      /* steps until the display is ready, 0 to LC3_MAX_BUSY; 0 is ready */
-    uint64_t clock;     /* steps made since the machine was fresh */
+    uint16_t regs[8];        /* R0 to R7 */
+    uint16_t pc;             /* address of the next instruction */
+    uint16_t psr;            /* mode, priority and condition codes */
+    uint16_t saved_ssp;      /* supervisor stack pointer, kept while in User mode */
+    uint16_t saved_usp;      /* user stack pointer, kept while in Supervisor mode */
+    uint16_t kbsr;           /* keyboard status */
+    uint16_t kbdr;           /* keyboard data */
+    uint16_t mcr;            /* machine control */
+    uint16_t busy;           /* steps until the display is ready, 0 to LC3_MAX_BUSY; 0 is ready */
+    uint16_t timer_status;   /* timer status */
+    uint16_t timer_interval; /* steps from one time that the timer is ready to the next; 0: off */
+    uint16_t timer_count;    /* steps until the next: 1 to timer_interval; 0 where that is 0 */
+    uint64_t clock;          /* steps made since the machine was fresh; padding stands before it */
 } lc3_record;
 
 /* What lc3_run answers. A refused call answers the record that it was handed, and zero counts. */
@@ -385,7 +405,7 @@ uint32_t lc3_vectors(lc3_routines routines, uint16_t *output, size_t output_len)
 LC3_LAYOUT(sizeof(bool) == 1);
 LC3_LAYOUT(sizeof(size_t) == 8);
 
-LC3_LAYOUT(sizeof(lc3_record) == 40);
+LC3_LAYOUT(sizeof(lc3_record) == 48);
 LC3_LAYOUT(offsetof(lc3_record, regs) == 0);
 LC3_LAYOUT(offsetof(lc3_record, pc) == 16);
 LC3_LAYOUT(offsetof(lc3_record, psr) == 18);
@@ -395,16 +415,19 @@ LC3_LAYOUT(offsetof(lc3_record, kbsr) == 24);
 LC3_LAYOUT(offsetof(lc3_record, kbdr) == 26);
 LC3_LAYOUT(offsetof(lc3_record, mcr) == 28);
 LC3_LAYOUT(offsetof(lc3_record, busy) == 30);
-LC3_LAYOUT(offsetof(lc3_record, clock) == 32);
+LC3_LAYOUT(offsetof(lc3_record, timer_status) == 32);
+LC3_LAYOUT(offsetof(lc3_record, timer_interval) == 34);
+LC3_LAYOUT(offsetof(lc3_record, timer_count) == 36);
+LC3_LAYOUT(offsetof(lc3_record, clock) == 40);
 
-LC3_LAYOUT(sizeof(lc3_answer) == 80);
+LC3_LAYOUT(sizeof(lc3_answer) == 88);
 LC3_LAYOUT(offsetof(lc3_answer, record) == 0);
-LC3_LAYOUT(offsetof(lc3_answer, steps) == 40);
-LC3_LAYOUT(offsetof(lc3_answer, keys) == 48);
-LC3_LAYOUT(offsetof(lc3_answer, shown) == 56);
-LC3_LAYOUT(offsetof(lc3_answer, index) == 64);
-LC3_LAYOUT(offsetof(lc3_answer, refusal) == 72);
-LC3_LAYOUT(offsetof(lc3_answer, stop) == 76);
+LC3_LAYOUT(offsetof(lc3_answer, steps) == 48);
+LC3_LAYOUT(offsetof(lc3_answer, keys) == 56);
+LC3_LAYOUT(offsetof(lc3_answer, shown) == 64);
+LC3_LAYOUT(offsetof(lc3_answer, index) == 72);
+LC3_LAYOUT(offsetof(lc3_answer, refusal) == 80);
+LC3_LAYOUT(offsetof(lc3_answer, stop) == 84);
 
 LC3_LAYOUT(sizeof(lc3_report) == 40);
 LC3_LAYOUT(offsetof(lc3_report, steps) == 0);

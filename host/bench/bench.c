@@ -50,9 +50,10 @@ typedef struct {
 /* An address at which something changes: a device, or the edge of the privileged addresses. */
 static uint16_t edge(void) {
     static const uint16_t edges[] = {LC3_ADDRESS_KBSR, LC3_ADDRESS_KBDR, LC3_ADDRESS_DSR,
-                                     LC3_ADDRESS_DDR,  LC3_ADDRESS_DDR,  LC3_ADDRESS_PSR,
-                                     LC3_ADDRESS_MCR,  0x2FFF,           0x3000,
-                                     0xFDFF,           0xFFFF,           0x0000};
+                                     LC3_ADDRESS_DDR,  LC3_ADDRESS_DDR,  LC3_ADDRESS_TSR,
+                                     LC3_ADDRESS_TIR,  LC3_ADDRESS_PSR,  LC3_ADDRESS_MCR,
+                                     0x2FFF,           0x3000,           0xFDFF,
+                                     0xFFFF,           0x0000};
     return edges[any() % (sizeof edges / sizeof *edges)];
 }
 
@@ -78,6 +79,9 @@ static random_case make_case(unsigned number) {
     c.record.kbdr = any() & 0x00FF;
     c.record.mcr = any() % 32 ? 0x8000 : 0;
     c.record.busy = any() % 2 ? 0 : any() % (LC3_MAX_BUSY + 1);
+    c.record.timer_status = any() & 0xC000;
+    c.record.timer_interval = any() % 2 ? 0 : any() % 40;
+    c.record.timer_count = c.record.timer_interval ? 1 + any() % c.record.timer_interval : 0;
     c.record.clock = any() % 1000;
     uint64_t time = c.record.clock;
     for (int i = 0; i < KEYS; i++) {
@@ -93,6 +97,8 @@ static random_case make_case(unsigned number) {
     if (number % 40 == 4) c.bytes_len--;
     if (number % 40 == 5) c.times[any() % KEYS] -= 5;
     if (number % 40 == 6) c.record.busy = LC3_MAX_BUSY + 1;
+    if (number % 40 == 7) c.record.timer_status |= 1 << any() % 16;
+    if (number % 40 == 8) c.record.timer_count = any() % 40;
     return c;
 }
 
@@ -107,7 +113,9 @@ static lc3_answer obey_case(run_function *run, const random_case *c, uint16_t *m
 static bool same_record(const lc3_record *a, const lc3_record *b) {
     return !memcmp(a->regs, b->regs, sizeof a->regs) && a->pc == b->pc && a->psr == b->psr &&
            a->saved_ssp == b->saved_ssp && a->saved_usp == b->saved_usp && a->kbsr == b->kbsr &&
-           a->kbdr == b->kbdr && a->mcr == b->mcr && a->busy == b->busy && a->clock == b->clock;
+           a->kbdr == b->kbdr && a->mcr == b->mcr && a->busy == b->busy &&
+           a->timer_status == b->timer_status && a->timer_interval == b->timer_interval &&
+           a->timer_count == b->timer_count && a->clock == b->clock;
 }
 
 static bool same_answer(const lc3_answer *a, const lc3_answer *b) {
@@ -165,9 +173,8 @@ static double now(void) {
 /* Nanoseconds per step of a program, over calls of the full length for about the given time. */
 static double time_steps(run_function *run, const program *p, double ns) {
     static uint8_t output[MOST_SHOWN];
-    lc3_record record = lc3_fresh(0x3000, true, 0xFDFF);
+    lc3_record record = load_program(lent, p);
     uint64_t steps = 0;
-    load_program(lent, p);
     double start = now(), end = start;
     while (end - start < ns) {
         lc3_answer a = run(record, lent, LC3_MEMORY_WORDS, no_times, 0, no_bytes, 0, output,
@@ -239,8 +246,7 @@ static void write_words(void) {
 /* Nanoseconds per call. */
 static double time_calls(void (*batch)(void), unsigned repeats, double ns) {
     double best = 1e9;
-    single = lc3_fresh(0x3000, true, 0xFDFF);
-    load_program(lent, &programs[0]);
+    single = load_program(lent, &programs[0]);
     for (unsigned i = 0; i < repeats; i++) {
         double start = now(), end = start;
         unsigned calls = 0;

@@ -18,10 +18,9 @@ int main(int argc, char **argv) {
                                                     : tuned_run;
     uint64_t steps = strtoull(argv[3], NULL, 10), time = 0;
     uint8_t byte = 0;
-    lc3_record record = lc3_fresh(0x3000, true, 0xFDFF);
     for (int p = 0; p < PROGRAMS; p++) {
         if (strcmp(argv[2], programs[p].name)) continue;
-        load_program(memory, &programs[p]);
+        lc3_record record = load_program(memory, &programs[p]);
         lc3_answer a =
             run(record, memory, LC3_MEMORY_WORDS, &time, 0, &byte, 0, output, sizeof output, steps);
         return a.steps != steps;

@@ -2,7 +2,7 @@
 # Counts the library's processor instructions per step, which no load on the computer disturbs.
 # Exits 1 where a program takes more than the limit. `poll` and `show` wait for a device: `poll` loads a device register
 # in every second step, which is an ordinary step after a quiet one was tried, and `show` somewhat less often. They have
-# a limit of their own.
+# a limit of their own. `timer` is `count` with the timer on, at an interval of 1000 steps.
 #
 # The cost of starting and of the call itself is the same for any number of steps, so the
 # difference between two lengths counts steps alone.
@@ -10,12 +10,12 @@
 #   LC3_LIB_DIR   where liblc3.a is      build
 #   CC            C compiler             gcc
 #   COUNT_LIMIT   instructions per step  40
-#   POLL_LIMIT    for poll and show      94
+#   POLL_LIMIT    for poll and show      100
 set -eu
 cd "$(dirname "$0")/../.."
 
 limit=${COUNT_LIMIT:-40}
-poll_limit=${POLL_LIMIT:-94}
+poll_limit=${POLL_LIMIT:-100}
 steps=20000
 lib=${LC3_LIB_DIR:-build}/liblc3.a
 cc=${CC:-gcc}
@@ -46,7 +46,7 @@ decimal() { printf '%d.%02d' $(($1 / 100)) $(($1 % 100)); }
 
 status=0
 echo "instructions per step, limit $limit, for poll and show $poll_limit"
-for program in count copy sieve calls poll show; do
+for program in count timer copy sieve calls poll show; do
     library=$(per_step library $program)
     plain=$(per_step plain $program)
     tuned=$(per_step tuned $program)

@@ -1,7 +1,7 @@
 /*
  * The programs that are timed and counted: words from x3000 up, in User mode, without end. TRAP x25
  * leads to an RTI at x0200, TRAP x20 to a routine that waits for a key, TRAP x21 to one that waits
- * for the display and shows a byte.
+ * for the display and shows a byte, the timer's interrupt to one that clears ready.
  */
 #ifndef PROGRAMS_H
 #define PROGRAMS_H
@@ -122,6 +122,17 @@ static const uint16_t out_words[] = {
     0xFE06, /* DDR     .FILL  xFE06 */
 };
 
+/* What a timer's interrupt needs at the least. */
+static const uint16_t timer_words[] = {
+    0x1DBF, /*         ADD    R6, R6, #-1 */
+    0x7180, /*         STR    R0, R6, #0 */
+    0xA003, /*         LDI    R0, TSR */
+    0x6180, /*         LDR    R0, R6, #0 */
+    0x1DA1, /*         ADD    R6, R6, #1 */
+    0x8000, /*         RTI */
+    0xFE08, /* TSR     .FILL  xFE08 */
+};
+
 /* A byte takes ten steps or more. */
 enum { MOST_SHOWN = LC3_MAX_STEPS / 10 };
 
@@ -129,21 +140,24 @@ typedef struct {
     const char *name;
     const uint16_t *words;
     size_t length;
+    uint16_t interval; /* of the timer, which interrupts; 0 where it is off */
 } program;
 
+#define WORDS_OF(name) name##_words, sizeof name##_words / sizeof *name##_words
+
 static const program programs[] = {
-    {"count", count_words, sizeof count_words / sizeof *count_words},
-    {"copy", copy_words, sizeof copy_words / sizeof *copy_words},
-    {"sieve", sieve_words, sizeof sieve_words / sizeof *sieve_words},
-    {"calls", calls_words, sizeof calls_words / sizeof *calls_words},
-    {"poll", poll_words, sizeof poll_words / sizeof *poll_words},
-    {"show", show_words, sizeof show_words / sizeof *show_words},
+    {"count", WORDS_OF(count), 0}, {"timer", WORDS_OF(count), 1000}, {"copy", WORDS_OF(copy), 0},
+    {"sieve", WORDS_OF(sieve), 0}, {"calls", WORDS_OF(calls), 0},    {"poll", WORDS_OF(poll), 0},
+    {"show", WORDS_OF(show), 0},
 };
 
 enum { PROGRAMS = sizeof programs / sizeof *programs };
 
-/* Loads a program and the traps' vectors and routines into cleared memory. */
-static inline void load_program(uint16_t *memory, const program *p) {
+/*
+ * Loads a program, and the vectors and routines of traps and timer, into cleared memory. Answers the
+ * record to start with.
+ */
+static inline lc3_record load_program(uint16_t *memory, const program *p) {
     memset(memory, 0, LC3_MEMORY_WORDS * sizeof *memory);
     memcpy(memory + 0x3000, p->words, p->length * sizeof *memory);
     memory[0x0025] = 0x0200;
@@ -152,6 +166,12 @@ static inline void load_program(uint16_t *memory, const program *p) {
     memcpy(memory + 0x0210, getc_words, sizeof getc_words);
     memory[0x0021] = 0x0220;
     memcpy(memory + 0x0220, out_words, sizeof out_words);
+    memory[0x0181] = 0x0230;
+    memcpy(memory + 0x0230, timer_words, sizeof timer_words);
+    lc3_record record = lc3_fresh(0x3000, true, 0xFDFF);
+    record.timer_interval = record.timer_count = p->interval;
+    if (p->interval) record.timer_status = LC3_TSR_INTERRUPT;
+    return record;
 }
 
 #endif

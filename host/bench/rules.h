@@ -1,6 +1,6 @@
 /*
  * The rules that the two C interpreters of the benchmark share: fields, access control, entry and
- * RTI, the device registers, the end of a step, and refusals.
+ * RTI, the device registers, start and end of a step, and refusals.
  */
 #ifndef RULES_H
 #define RULES_H
@@ -11,7 +11,10 @@
 enum { BR, ADD, LD, ST, JSR, AND, LDR, STR, RTI, NOT, LDI, STI, JMP, RESERVED, LEA, TRAP };
 
 /* Addresses of the vectors. */
-enum { PRIVILEGE = 0x0100, ILLEGAL = 0x0101, ACCESS = 0x0102, KEYBOARD = 0x0180 };
+enum { PRIVILEGE = 0x0100, ILLEGAL = 0x0101, ACCESS = 0x0102, KEYBOARD = 0x0180, TIMER = 0x0181 };
+
+/* The priorities of the interrupts, as they stand in PSR. */
+enum { PRIORITY_4 = 0x0400, PRIORITY_6 = 0x0600 };
 
 /* The display: the lent output and how much of it is taken. */
 typedef struct {
@@ -62,6 +65,13 @@ static void leave(lc3_record *m, const uint16_t *memory) {
     m->regs[6] = sp;
 }
 
+/* A load of the timer's status clears ready. */
+static uint16_t timer_status(lc3_record *m) {
+    uint16_t status = m->timer_status;
+    m->timer_status &= LC3_TSR_INTERRUPT;
+    return status;
+}
+
 static inline uint16_t load(lc3_record *m, const uint16_t *memory, uint16_t address) {
     if (address < 0xFE00) return memory[address];
     switch (address) {
@@ -69,6 +79,8 @@ static inline uint16_t load(lc3_record *m, const uint16_t *memory, uint16_t addr
     case LC3_ADDRESS_KBDR: m->kbsr &= LC3_KBSR_INTERRUPT; return m->kbdr;
     case LC3_ADDRESS_DSR: return m->busy ? 0 : 0x8000;
     case LC3_ADDRESS_DDR: return 0;
+    case LC3_ADDRESS_TSR: return timer_status(m);
+    case LC3_ADDRESS_TIR: return m->timer_interval;
     case LC3_ADDRESS_PSR: return m->psr;
     case LC3_ADDRESS_MCR: return m->mcr;
     default: return memory[address];
@@ -94,10 +106,32 @@ static inline bool store(lc3_record *m, uint16_t *memory, display *out, uint16_t
         out->bytes[out->shown++] = value;
         m->busy = LC3_MAX_BUSY + 1; /* the end of this very step takes 1 off */
         return true;
+    case LC3_ADDRESS_TSR:
+        m->timer_status = (m->timer_status & LC3_TSR_READY) | (value & LC3_TSR_INTERRUPT);
+        return true;
+    case LC3_ADDRESS_TIR: m->timer_interval = m->timer_count = value; return true;
     case LC3_ADDRESS_PSR: m->psr = (m->psr & LC3_PSR_USER) | (value & 0x0707); return true;
     case LC3_ADDRESS_MCR: m->mcr = value & LC3_MCR_CLOCK; return true;
     default: memory[address] = value; return true;
     }
+}
+
+/* The start of a step, after its keys have arrived: the timer counts. Off, its count is 0. */
+static inline void count_timer(lc3_record *m) {
+    if (m->timer_count && --m->timer_count == 0) {
+        m->timer_status |= LC3_TSR_READY;
+        m->timer_count = m->timer_interval;
+    }
+}
+
+/* The interrupt of a device that is ready and enabled, if the priority is below the device's own. */
+static inline bool interrupt(lc3_record *m, uint16_t *memory, uint16_t status, uint16_t vector,
+                             uint16_t priority) {
+    if (status != (LC3_KBSR_READY | LC3_KBSR_INTERRUPT)) return false;
+    if ((m->psr & LC3_PSR_PRIORITY) >= priority) return false;
+    enter(m, memory, vector, m->pc);
+    m->psr = (m->psr & ~LC3_PSR_PRIORITY) | priority;
+    return true;
 }
 
 /* The end of a step: a busy display comes nearer to being ready. */
@@ -107,7 +141,9 @@ static inline void end_step(lc3_record *m) {
 
 static bool sound(const lc3_record *m) {
     return !(m->psr & ~0x8707) && !(m->kbsr & ~0xC000) && !(m->kbdr & ~0x00FF) &&
-           !(m->mcr & ~0x8000) && m->busy <= LC3_MAX_BUSY && m->clock <= LC3_MAX_CLOCK;
+           !(m->mcr & ~0x8000) && m->busy <= LC3_MAX_BUSY && !(m->timer_status & ~0xC000) &&
+           m->timer_count <= m->timer_interval && !m->timer_count == !m->timer_interval &&
+           m->clock <= LC3_MAX_CLOCK;
 }
 
 /* Which of the times is at fault goes to *index, and is 0 where none is. */

@@ -1,7 +1,7 @@
 /*
  * Every function of lc3.h from a host's side: the version, the fourteen examples, the refusals at
- * their boundaries, the stops, the reading and writing of all instructions, lines of text, object
- * files, and the ready-made monitor.
+ * their boundaries, the stops, display and timer, the reading and writing of all instructions, lines
+ * of text, object files, and the ready-made monitor.
  */
 #include "lc3.h"
 
@@ -36,6 +36,9 @@ static void check_record(const lc3_record *got, const lc3_record *wanted) {
     CHECK(got->kbdr, wanted->kbdr);
     CHECK(got->mcr, wanted->mcr);
     CHECK(got->busy, wanted->busy);
+    CHECK(got->timer_status, wanted->timer_status);
+    CHECK(got->timer_interval, wanted->timer_interval);
+    CHECK(got->timer_count, wanted->timer_count);
     CHECK(got->clock, wanted->clock);
 }
 
@@ -62,7 +65,7 @@ static uint64_t any(void) {
 /* Random words, one in eight the address of a device. */
 static void fill_memory(void) {
     for (int i = 0; i < WORDS; i++) {
-        memory[i] = any() % 8 ? any() : 0xFE00 + 2 * (any() % 4);
+        memory[i] = any() % 8 ? any() : 0xFE00 + 2 * (any() % 6);
     }
 }
 
@@ -339,6 +342,7 @@ static void test_refused_record(void) {
     check_bits("bits of KBSR", offsetof(lc3_record, kbsr), 0xC000);
     check_bits("bits of KBDR", offsetof(lc3_record, kbdr), 0x00FF);
     check_bits("bits of MCR", offsetof(lc3_record, mcr), 0x8000);
+    check_bits("bits of TSR", offsetof(lc3_record, timer_status), 0xC000);
     arguments c = usual();
     c.record.busy = LC3_MAX_BUSY;
     check_refusal("busy 8", &c, LC3_ACCEPTED);
@@ -352,6 +356,27 @@ static void test_refused_record(void) {
     check_refusal("clock above 2^48", &c, LC3_REFUSED_RECORD);
     c.record.clock = UINT64_MAX;
     check_refusal("highest clock", &c, LC3_REFUSED_RECORD);
+}
+
+static void check_timer_count(const char *name, uint16_t interval, uint16_t count,
+                              uint32_t number) {
+    arguments c = usual();
+    c.record.timer_interval = interval;
+    c.record.timer_count = count;
+    check_refusal(name, &c, number);
+}
+
+static void test_refused_timer(void) {
+    check_timer_count("the timer off", 0, 0, LC3_ACCEPTED);
+    check_timer_count("a count with the timer off", 0, 1, LC3_REFUSED_RECORD);
+    check_timer_count("no count with an interval", 1, 0, LC3_REFUSED_RECORD);
+    check_timer_count("count and interval 1", 1, 1, LC3_ACCEPTED);
+    check_timer_count("count 2, interval 1", 1, 2, LC3_REFUSED_RECORD);
+    check_timer_count("no count with the highest interval", UINT16_MAX, 0, LC3_REFUSED_RECORD);
+    check_timer_count("count 1, highest interval", UINT16_MAX, 1, LC3_ACCEPTED);
+    check_timer_count("highest count and interval", UINT16_MAX, UINT16_MAX, LC3_ACCEPTED);
+    check_timer_count("highest count, lower interval", UINT16_MAX - 1, UINT16_MAX,
+                      LC3_REFUSED_RECORD);
 }
 
 static void test_refused_steps(void) {
@@ -427,6 +452,7 @@ static void test_refusal_order(void) {
 static void test_refusals(void) {
     test_refused_memory();
     test_refused_record();
+    test_refused_timer();
     test_refused_steps();
     test_refused_keys();
     test_refused_times();
@@ -579,6 +605,63 @@ static void test_busy(void) {
     }
 }
 
+/*
+ * A program in User mode that counts, with the timer at interval 3: ready, and the interrupt, at the
+ * third step. The routine loads the TSR, which clears ready, and returns; meanwhile the timer has
+ * counted on.
+ */
+static void test_timer(void) {
+    static const cell cells[] = {
+        {0x3000, 0x1021}, /* ADD R0, R0, #1 */
+        {0x3001, 0x0FFE}, /* BRnzp x3000 */
+        {0x0181, 0x0200}, /* where the timer's interrupt goes */
+        {0x0200, 0xA201}, /* LDI R1, x0202 */
+        {0x0201, 0x8000}, /* RTI */
+        {0x0202, LC3_ADDRESS_TSR},
+    };
+    clear_buffers();
+    write_cells(memory, cells, sizeof cells / sizeof *cells);
+    arguments c = usual();
+    c.record.timer_status = LC3_TSR_INTERRUPT;
+    c.record.timer_interval = c.record.timer_count = 3;
+    c.n = 2;
+    part = "the timer counts";
+    lc3_record after = c.record;
+    after.regs[0] = 1;
+    after.psr = LC3_PSR_USER | LC3_PSR_P;
+    after.timer_count = 1;
+    after.clock = 2;
+    check_stop(&c, run, (lc3_answer){.record = after, .steps = 2, .stop = LC3_DONE});
+
+    part = "the timer interrupts";
+    c.record = after;
+    keep_buffers();
+    wanted_memory[0x2FFF] = after.psr;
+    wanted_memory[0x2FFE] = 0x3000;
+    after.saved_usp = after.regs[6];
+    after.regs[6] = 0x2FFE;
+    after.pc = 0x0200;
+    after.psr = 0x0600 | LC3_PSR_P;
+    after.timer_status = LC3_TSR_READY | LC3_TSR_INTERRUPT;
+    after.timer_count = 3;
+    after.clock = 3;
+    lc3_answer got = step(&c);
+    check_answer(&got, &(lc3_answer){.record = after, .steps = 1, .stop = LC3_DONE});
+    check_buffers();
+
+    part = "the routine loads the TSR and returns";
+    c.record = after;
+    c.n = 2;
+    after.regs[1] = LC3_TSR_READY | LC3_TSR_INTERRUPT;
+    after.regs[6] = after.saved_usp;
+    after.pc = 0x3000;
+    after.psr = LC3_PSR_USER | LC3_PSR_P;
+    after.timer_status = LC3_TSR_INTERRUPT;
+    after.timer_count = 1;
+    after.clock = 5;
+    check_stop(&c, run, (lc3_answer){.record = after, .steps = 2, .stop = LC3_DONE});
+}
+
 static void test_keys(void) {
     clear_buffers();
     part = "arrival of keys";
@@ -606,7 +689,7 @@ static void test_keys(void) {
 /* A random record, three keys near its clock and a small output. */
 static arguments any_arguments(void) {
     arguments c = {.memory_len = WORDS, .times_len = 3, .bytes_len = 3, .output_len = any() % 3};
-    for (int i = 0; i < 8; i++) c.record.regs[i] = any() % 3 ? any() : 0xFE00 + 2 * (any() % 4);
+    for (int i = 0; i < 8; i++) c.record.regs[i] = any() % 3 ? any() : 0xFE00 + 2 * (any() % 6);
     c.record.pc = any();
     c.record.psr = any() & 0x8707;
     c.record.saved_ssp = any();
@@ -615,6 +698,9 @@ static arguments any_arguments(void) {
     c.record.kbdr = any() & 0x00FF;
     c.record.mcr = any() % 16 ? 0x8000 : 0;
     c.record.busy = any() % (LC3_MAX_BUSY + 1);
+    c.record.timer_status = any() & 0xC000;
+    c.record.timer_interval = any() % 5;
+    c.record.timer_count = c.record.timer_interval ? 1 + any() % c.record.timer_interval : 0;
     c.record.clock = any() % 1000;
     for (int i = 0; i < 3; i++) {
         c.times[i] = (i ? c.times[i - 1] : c.record.clock) + any() % 4;
@@ -1014,6 +1100,7 @@ int main(void) {
     test_output_full();
     test_room_again();
     test_busy();
+    test_timer();
     test_keys();
     test_step_is_run();
     test_steps_are_run();

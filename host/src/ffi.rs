@@ -131,17 +131,19 @@ pub struct Routines {
 }
 
 // The layout that C gives the same declarations.
-const _: () = assert!(size_of::<Record>() == 40 && align_of::<Record>() == 8);
+const _: () = assert!(size_of::<Record>() == 48 && align_of::<Record>() == 8);
 const _: () = assert!(offset_of!(Record, regs) == 0 && offset_of!(Record, pc) == 16);
 const _: () = assert!(offset_of!(Record, psr) == 18 && offset_of!(Record, saved_ssp) == 20);
 const _: () = assert!(offset_of!(Record, saved_usp) == 22 && offset_of!(Record, kbsr) == 24);
 const _: () = assert!(offset_of!(Record, kbdr) == 26 && offset_of!(Record, mcr) == 28);
-const _: () = assert!(offset_of!(Record, busy) == 30 && offset_of!(Record, clock) == 32);
-const _: () = assert!(size_of::<Answer>() == 80 && align_of::<Answer>() == 8);
-const _: () = assert!(offset_of!(Answer, record) == 0 && offset_of!(Answer, steps) == 40);
-const _: () = assert!(offset_of!(Answer, keys) == 48 && offset_of!(Answer, shown) == 56);
-const _: () = assert!(offset_of!(Answer, index) == 64 && offset_of!(Answer, refusal) == 72);
-const _: () = assert!(offset_of!(Answer, stop) == 76);
+const _: () = assert!(offset_of!(Record, busy) == 30 && offset_of!(Record, timer_status) == 32);
+const _: () = assert!(offset_of!(Record, timer_interval) == 34);
+const _: () = assert!(offset_of!(Record, timer_count) == 36 && offset_of!(Record, clock) == 40);
+const _: () = assert!(size_of::<Answer>() == 88 && align_of::<Answer>() == 8);
+const _: () = assert!(offset_of!(Answer, record) == 0 && offset_of!(Answer, steps) == 48);
+const _: () = assert!(offset_of!(Answer, keys) == 56 && offset_of!(Answer, shown) == 64);
+const _: () = assert!(offset_of!(Answer, index) == 72 && offset_of!(Answer, refusal) == 80);
+const _: () = assert!(offset_of!(Answer, stop) == 84);
 const _: () = assert!(size_of::<Report>() == 40 && align_of::<Report>() == 8);
 const _: () = assert!(offset_of!(Report, steps) == 0 && offset_of!(Report, keys) == 8);
 const _: () = assert!(offset_of!(Report, shown) == 16 && offset_of!(Report, index) == 24);

@@ -1,4 +1,4 @@
-//! The LC-3 with privilege, interrupts and a console.
+//! The LC-3 with privilege, interrupts, a console and a timer.
 //!
 //! This crate is a safe wrapper of the static library `liblc3.a`. It has the library's fourteen calls:
 //!

@@ -38,6 +38,12 @@ pub struct Record {
     /// after each later step, and 0 once it is ready. While it is busy, DSR gives 0 and a byte
     /// stored to DDR is lost.
     pub busy: u16,
+    /// The timer's status: bit 15 is ready, bit 14 interrupt enable. No other bit is defined.
+    pub timer_status: u16,
+    /// The steps from one time that the timer is ready to the next, 0 while it is off.
+    pub timer_interval: u16,
+    /// The steps until the timer is ready next: from 1 to the interval, or 0 while it is off.
+    pub timer_count: u16,
     /// The number of steps made so far, at most 2^48.
     pub clock: u64,
 }

@@ -99,7 +99,8 @@ impl fmt::Display for Stop {
 pub enum Refusal {
     /// Memory is not [`WORDS`] words.
     Memory,
-    /// The record has an undefined bit, a busy count above 8, or a clock above [`CLOCK_LIMIT`].
+    /// The record has an undefined bit, a busy count above 8, a timer count above the interval, or
+    /// 0 with an interval set, or a clock above [`CLOCK_LIMIT`].
     Record,
     /// More than [`STEP_LIMIT`] steps, or a clock that would pass [`CLOCK_LIMIT`].
     Steps,
@@ -141,7 +142,8 @@ impl fmt::Display for Refusal {
         match self {
             Refusal::Memory => f.write_str("memory is not 65,536 words"),
             Refusal::Record => f.write_str(
-                "the record has an undefined bit, a busy count above 8, or a clock above 2^48",
+                "the record has an undefined bit, a busy or timer count out of range, or a clock above \
+                 2^48",
             ),
             Refusal::Steps => {
                 f.write_str("more than 1,048,576 steps, or a clock that would pass 2^48")

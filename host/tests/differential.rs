@@ -7,7 +7,7 @@ mod support;
 
 use lc3::ffi::Answer;
 use lc3::{CLOCK_LIMIT, STEP_LIMIT, WORDS};
-use reference::bus::{DDR, DSR, REGISTERS};
+use reference::bus::{DDR, DSR, REGISTERS, TIR, TSR};
 use reference::figure::FIGURE;
 use reference::machine::{self, Cause, Event, CAUSES, OUTPUT_FULL};
 use std::time::Instant;
@@ -30,10 +30,25 @@ struct Tally {
     /// Stores to DDR while the display was busy and the output full, which is not answered then.
     busy_without_room: u64,
     interrupts_while_busy: u64,
+    /// Keyboard and timer interrupts, by the priority that they met.
+    keyboard_interrupts: [u64; 4],
+    timer_interrupts: [u64; 6],
+    /// Steps in which a device was ready and enabled and the priority, from 4 or 6 on, forbade it.
+    keyboard_waits: [u64; 8],
+    timer_waits: [u64; 8],
+    /// Timer interrupts where the keyboard might have interrupted too.
+    timer_goes_first: u64,
+    /// Steps at which an interval passed, and those of them that were the interrupt.
+    intervals_passed: u64,
+    interrupts_at_once: u64,
+    /// Loads from TSR, as pointer or data, that cleared ready; stores to TIR while the timer counted.
+    ready_cleared: u64,
+    intervals_replaced: u64,
     vectors_pushed_on: u64,
     stacks_wrapped: u64,
     stops: [u64; 3],
     full_with_a_key_due: u64,
+    full_with_the_interval_passing: u64,
     keys: u64,
     shown: u64,
     refusals: [u64; REFUSALS.len()],
@@ -41,6 +56,16 @@ struct Tally {
     refusals_over: [[u64; REFUSALS.len()]; REFUSALS.len()],
     /// Refusals 15 at another entry than the first; 19 always is.
     later_entries_below_clock: u64,
+}
+
+/// How often a step loaded from a device register, as pointer or data, and stored to it.
+fn loads(event: &Event, register: u16) -> u64 {
+    let accesses = [event.reached.pointer, event.reached.load];
+    accesses.into_iter().flatten().filter(|&place| REGISTERS[place] == register).count() as u64
+}
+
+fn stores(event: &Event, register: u16) -> u64 {
+    u64::from(event.reached.store.is_some_and(|place| REGISTERS[place] == register))
 }
 
 /// The busy counts of a display, 0 to 8.
@@ -70,6 +95,7 @@ impl Tally {
         count(&mut self.loads, event.reached.load);
         count(&mut self.stores, event.reached.store);
         self.display(event);
+        self.interrupts(event);
         if let Some(entry) = event.entry {
             let above = entry.stack.wrapping_add(1);
             self.vectors_pushed_on += u64::from([entry.stack, above].contains(&entry.vector));
@@ -78,18 +104,35 @@ impl Tally {
     }
 
     fn display(&mut self, event: &Event) {
-        let reached = |access: Option<usize>, register| {
-            u64::from(access.is_some_and(|place| REGISTERS[place] == register))
-        };
-        let busy = usize::from(event.busy);
-        self.dsr_loads[busy] +=
-            reached(event.reached.pointer, DSR) + reached(event.reached.load, DSR);
-        let store = reached(event.reached.store, DDR);
-        self.ddr_stores[busy] += store;
+        let busy = usize::from(event.found.busy);
+        self.dsr_loads[busy] += loads(event, DSR);
+        self.ddr_stores[busy] += stores(event, DDR);
         if busy > 0 {
-            self.busy_without_room += store * u64::from(!event.room);
-            self.interrupts_while_busy += u64::from(event.cause == Cause::Keyboard);
+            self.busy_without_room += stores(event, DDR) * u64::from(!event.found.room);
+            self.interrupts_while_busy +=
+                u64::from(matches!(event.cause, Cause::Keyboard | Cause::Timer));
         }
+    }
+
+    fn interrupts(&mut self, event: &Event) {
+        let found = &event.found;
+        let priority = usize::from(found.priority);
+        let (keyboard, timer) = (found.keyboard_wants_service, found.timer.wants_service());
+        match event.cause {
+            Cause::Keyboard => self.keyboard_interrupts[priority] += 1,
+            Cause::Timer => {
+                self.timer_interrupts[priority] += 1;
+                self.timer_goes_first += u64::from(keyboard && priority < 4);
+                self.interrupts_at_once += u64::from(found.passed);
+            }
+            _ => {
+                self.keyboard_waits[priority] += u64::from(keyboard);
+                self.timer_waits[priority] += u64::from(timer);
+            }
+        }
+        self.intervals_passed += u64::from(found.passed);
+        self.ready_cleared += loads(event, TSR) * u64::from(found.timer.status() & 0x8000 != 0);
+        self.intervals_replaced += stores(event, TIR) * u64::from(found.timer.interval() != 0);
     }
 
     fn answer(&mut self, case: &Case, answer: &Answer, objections: &[(u32, u64)]) {
@@ -107,20 +150,22 @@ impl Tally {
         let next_key = case.times.get(answer.keys as usize);
         self.full_with_a_key_due +=
             u64::from(answer.stop == OUTPUT_FULL && next_key == Some(&answer.record.clock));
+        self.full_with_the_interval_passing +=
+            u64::from(answer.stop == OUTPUT_FULL && answer.record.timer_count == 1);
     }
 
     fn step_lines(&self) -> Vec<(String, u64)> {
-        use Cause::{Access, Illegal, Instruction, Keyboard, Privilege, Trap};
+        use Cause::{Access, Illegal, Instruction, Keyboard, Privilege, Timer, Trap};
         let mut lines = Vec::new();
         for ((kind, _), count) in FIGURE.iter().zip(self.kinds) {
             lines.push((format!("{kind:?}"), count));
         }
         lines.push(("steps without entry".into(), self.causes[Instruction as usize][0]));
-        for cause in [Trap, Illegal, Keyboard] {
+        for cause in [Trap, Illegal, Keyboard, Timer] {
             let count = self.causes[cause as usize][0];
             lines.push((format!("entries from Supervisor mode: {cause:?}"), count));
         }
-        for cause in [Trap, Privilege, Illegal, Access, Keyboard] {
+        for cause in [Trap, Privilege, Illegal, Access, Keyboard, Timer] {
             let count = self.causes[cause as usize][1];
             lines.push((format!("entries from User mode: {cause:?}"), count));
         }
@@ -145,12 +190,32 @@ impl Tally {
         lines
     }
 
+    fn interrupt_lines(&self) -> Vec<(String, u64)> {
+        let mut lines = Vec::new();
+        let mut by_priority = |name: &str, first: usize, counts: &[u64]| {
+            for (priority, count) in counts.iter().enumerate().skip(first) {
+                lines.push((format!("{name} at priority {priority}"), *count));
+            }
+        };
+        by_priority("keyboard interrupts", 0, &self.keyboard_interrupts);
+        by_priority("timer interrupts", 0, &self.timer_interrupts);
+        by_priority("keyboard waits", 4, &self.keyboard_waits);
+        by_priority("timer waits", 6, &self.timer_waits);
+        lines.push(("timer interrupts before the keyboard's".into(), self.timer_goes_first));
+        lines.push(("intervals passed".into(), self.intervals_passed));
+        lines.push(("timer interrupts as the interval passed".into(), self.interrupts_at_once));
+        lines.push(("loads from TSR that cleared ready".into(), self.ready_cleared));
+        lines.push(("stores to TIR of a timer that counts".into(), self.intervals_replaced));
+        lines
+    }
+
     fn answer_lines(&self) -> Vec<(String, u64)> {
         let mut lines = vec![
             ("stops: done".into(), self.stops[0]),
             ("stops: halted".into(), self.stops[1]),
             ("stops: output full".into(), self.stops[2]),
             ("stops: output full with a key due".into(), self.full_with_a_key_due),
+            ("stops: output full, interval passing".into(), self.full_with_the_interval_passing),
             ("keys".into(), self.keys),
             ("bytes shown".into(), self.shown),
         ];
@@ -168,7 +233,9 @@ impl Tally {
 
     /// Prints the table, and panics if all was to be met and something was not.
     fn check(&self, all: bool) {
-        let lines = [self.step_lines(), self.device_lines(), self.answer_lines()].concat();
+        let lines =
+            [self.step_lines(), self.device_lines(), self.interrupt_lines(), self.answer_lines()]
+                .concat();
         for (name, count) in &lines {
             println!("{count:>12} {name}");
         }
@@ -276,6 +343,7 @@ fn each_undefined_bit_is_refused_and_each_defined_one_accepted() {
         expect(&mut bench, code(0xC000), |case| case.record.kbsr |= bit);
         expect(&mut bench, code(0x00FF), |case| case.record.kbdr |= bit);
         expect(&mut bench, code(0x8000), |case| case.record.mcr |= bit);
+        expect(&mut bench, code(0xC000), |case| case.record.timer_status |= bit);
     }
 }
 
@@ -284,6 +352,18 @@ fn a_busy_count_above_8_is_refused() {
     let mut bench = bench();
     for busy in 0..=u16::MAX {
         expect(&mut bench, if busy > 8 { 12 } else { 0 }, |case| case.record.busy = busy);
+    }
+}
+
+#[test]
+fn a_timer_count_is_within_its_interval() {
+    const VALUES: [u16; 9] = [0, 1, 2, 3, 1000, 0x7FFF, 0x8000, 0xFFFE, 0xFFFF];
+    let mut bench = bench();
+    for (interval, count) in VALUES.iter().flat_map(|&i| VALUES.map(|count| (i, count))) {
+        let refused = count > interval || (count == 0 && interval != 0);
+        expect(&mut bench, if refused { 12 } else { 0 }, |case| {
+            (case.record.timer_interval, case.record.timer_count) = (interval, count);
+        });
     }
 }
 

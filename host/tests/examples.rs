@@ -39,6 +39,9 @@ fn user(word: u16) -> Example {
         kbdr: 0,
         mcr: 0x8000,
         busy: 0,
+        timer_status: 0,
+        timer_interval: 0,
+        timer_count: 0,
         clock: 0,
     };
     Example { record, memory }

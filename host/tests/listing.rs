@@ -1,4 +1,5 @@
-//! docs/monitor.lst against the monitor's words, and the comments of the sources against both.
+//! docs/monitor.lst against the monitor's words, and the comments of the sources against both; the
+//! words of the example `turns` against their comments.
 
 use lc3::{MONITOR_WORDS, VECTOR_WORDS, WORDS};
 use std::collections::HashMap;
@@ -26,7 +27,8 @@ fn number(text: &str) -> Option<u16> {
 
 /// A label, if the words begin with one, and the statement: a label is what no mnemonic follows.
 fn statement(words: &[&str]) -> (String, String) {
-    let mnemonics = ["ADD", "AND", "LD", "LDI", "LDR", "LEA", "RTI", "STI", "STR", ".FILL"];
+    let mnemonics =
+        ["ADD", "AND", "LD", "LDI", "LDR", "LEA", "RTI", "ST", "STI", "STR", "TRAP", ".FILL"];
     let is_mnemonic = |word: &str| mnemonics.contains(&word) || word.starts_with("BR");
     match words {
         [label, rest @ ..] if !is_mnemonic(label) => (label.to_string(), rest.join(" ")),
@@ -75,21 +77,32 @@ fn with_offset(line: &Line, labels: &HashMap<&str, u16>) -> String {
     }
 }
 
-#[test]
-fn every_statement_is_its_word() {
-    let lines = listing();
+/// Panics unless each line's statement, with its label as an offset, is its word.
+fn assert_statements(lines: &[Line]) {
     let labels: HashMap<&str, u16> = lines
         .iter()
         .filter(|line| !line.label.is_empty())
         .map(|line| (line.label.as_str(), line.address))
         .collect();
-    for line in &lines {
+    for line in lines {
         let wanted = match line.statement.strip_prefix(".FILL ") {
             Some(_) => format!(".FILL x{:04X}", line.word),
             None => lc3::line_string(line.word).trim_end().to_string(),
         };
         assert_eq!(with_offset(line, &labels), wanted, "x{:04X}", line.address);
     }
+}
+
+#[test]
+fn every_statement_is_its_word() {
+    assert_statements(&listing());
+}
+
+#[test]
+fn every_statement_of_the_example_is_its_word() {
+    let lines = commented("host/examples/turns.rs", "//");
+    assert_eq!(lines.len(), 42);
+    assert_statements(&lines);
 }
 
 #[test]
@@ -110,6 +123,7 @@ fn commented(path: &str, comment: &str) -> Vec<Line> {
     let mut lines = Vec::new();
     for line in source(path).lines() {
         let Some((code, note)) = line.split_once(comment) else { continue };
+        let note = note.split(';').next().unwrap_or_default();
         let note: Vec<&str> = note.split_whitespace().collect();
         let Some(word) = code.split(['∷', ',']).find_map(|word| number(word.trim())) else {
             continue;

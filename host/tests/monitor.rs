@@ -68,9 +68,17 @@ impl Caller {
         record.clock = rng.below(1 << 20);
         record.kbdr = rng.word() & 0x00FF;
         record.busy = rng.below(9) as u16;
-        // At priority 4 and above the keyboard may be enabled: it does not interrupt.
+        // From priority 4 on the keyboard may be enabled, from 6 on the timer: they do not interrupt.
         if record.psr & 0x0400 != 0 {
             record.kbsr = rng.pick(&[0x0000, 0x4000]);
+        }
+        record.timer_status = rng.pick(&[0x0000, 0x8000]);
+        if record.psr & 0x0600 == 0x0600 {
+            record.timer_status |= rng.pick(&[0x0000, 0x4000]);
+        }
+        if rng.once_in(2) {
+            record.timer_interval = 1 + rng.below(300) as u16;
+            record.timer_count = 1 + rng.below(record.timer_interval.into()) as u16;
         }
         Caller { record, memory, times: Vec::new(), bytes: Vec::new() }
     }
@@ -171,22 +179,30 @@ fn assert_only_the_stack_changed(before: &[u16], after: &[u16]) {
 }
 
 impl Called {
-    /// The display's busy count after the call: 8 after the last byte, and one less a step.
-    fn busy(&self, caller: &Caller) -> u16 {
+    /// The caller's record with the clock and what goes on by itself: display and timer.
+    fn later(&self, caller: &Caller) -> Record {
+        let before = caller.record;
         let (count, since) = match self.last_shown {
             Some(steps) => (8, self.steps - steps),
-            None => (u64::from(caller.record.busy), self.steps),
+            None => (u64::from(before.busy), self.steps),
         };
-        count.saturating_sub(since) as u16
+        let busy = count.saturating_sub(since) as u16;
+        let mut later = Record { busy, clock: before.clock + self.steps, ..before };
+        let (interval, left) = (u64::from(before.timer_interval), u64::from(before.timer_count));
+        if interval > 0 && self.steps < left {
+            later.timer_count = (left - self.steps) as u16;
+        } else if interval > 0 {
+            later.timer_count = (interval - (self.steps - left) % interval) as u16;
+            later.timer_status |= 0x8000;
+        }
+        later
     }
 
     /// The caller goes on at Next, with R0 and the keyboard as given and all else as before.
     fn assert_back(&self, caller: &Caller, r0: u16, (kbsr, kbdr): (u16, u16), shown: &[u8]) {
         let before = caller.record;
-        let busy = self.busy(caller);
-        let mut wanted = Record { pc: caller.next(), kbsr, kbdr, busy, ..before };
+        let mut wanted = Record { pc: caller.next(), kbsr, kbdr, ..self.later(caller) };
         wanted.regs[0] = r0;
-        wanted.clock += self.steps;
         if before.mode() == Mode::User {
             wanted.saved_usp = before.regs[6];
         }
@@ -199,10 +215,9 @@ impl Called {
     /// The machine has halted, with R0 to R5 and R7, and what the keyboard holds, as before.
     fn assert_halted(&self, caller: &Caller, shown: &[u8]) {
         let before = caller.record;
-        let mut wanted = Record { busy: self.busy(caller), ..before };
+        let mut wanted = self.later(caller);
         wanted.regs[6] = 0x2FFE;
         wanted.mcr = 0;
-        wanted.clock += self.steps;
         (wanted.pc, wanted.psr) = (self.record.pc, before.psr & 0x0700 | self.record.psr & 0x0007);
         if before.mode() == Mode::User {
             wanted.saved_usp = before.regs[6];
@@ -420,7 +435,7 @@ fn supervisor_mode_shows_any_words() {
         for number in 0..100 {
             let mut rng = Rng::of_case(47, number);
             let words = random_string(&mut rng, number as usize);
-            for at in [0x2400, 0xFE07, 0xFFFC - words.len() - rng.below(200) as usize] {
+            for at in [0x2400, 0xFE0B, 0xFFFC - words.len() - rng.below(200) as usize] {
                 let caller = Caller::of_trap(&mut rng, Mode::Supervisor, vector);
                 assert_shown(caller, vector, at, &words);
             }
@@ -524,12 +539,16 @@ fn exceptions_halt_and_show_nothing() {
 
 #[test]
 fn an_interrupt_returns_at_once() {
-    let mut caller = Caller::at_word(&mut Rng::of_case(52, 0), Mode::User, 0x0000);
-    (caller.record.psr, caller.record.kbsr) = (0x8002, 0xC000);
-    let mut memory = caller.memory.clone();
-    let run = lc3::run(caller.record, &mut memory, Keys::NONE, &mut [], 2).expect("accepted");
-    let saved_usp = caller.record.regs[6];
-    let (clock, busy) = (caller.record.clock + 2, caller.record.busy.saturating_sub(2));
-    assert_eq!(run.record, Record { saved_usp, clock, busy, ..caller.record });
-    assert_only_the_stack_changed(&caller.memory, &memory);
+    for (kbsr, timer_status) in [(0xC000, 0x0000), (0x0000, 0xC000), (0xC000, 0xC000)] {
+        let mut caller = Caller::at_word(&mut Rng::of_case(52, 0), Mode::User, 0x0000);
+        let before = caller.record;
+        let (timer_interval, timer_count, busy) = (0, 0, 0);
+        caller.record =
+            Record { psr: 0x8002, kbsr, timer_status, timer_interval, timer_count, busy, ..before };
+        let mut memory = caller.memory.clone();
+        let run = lc3::run(caller.record, &mut memory, Keys::NONE, &mut [], 2).expect("accepted");
+        let (saved_usp, clock) = (caller.record.regs[6], caller.record.clock + 2);
+        assert_eq!(run.record, Record { saved_usp, clock, ..caller.record });
+        assert_only_the_stack_changed(&caller.memory, &memory);
+    }
 }

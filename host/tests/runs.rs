@@ -35,8 +35,8 @@ fn joined(first: Answer, second: Answer) -> Answer {
 #[test]
 fn a_run_split_in_two_equals_the_whole() {
     let (mut whole, mut split) = (Buffers::new(), Buffers::new());
-    // Splits between two steps at which the display counts on, by what it has left.
-    let mut busy = [0u64; 9];
+    // Splits between two steps, by what the display has left; and those within the timer's interval.
+    let (mut busy, mut within_interval) = ([0u64; 9], 0u64);
     for_cases(40_000, |rng, case, template| {
         whole.set(case, template);
         let expected = whole.run(case.record, 0, 0, case.n);
@@ -50,12 +50,16 @@ fn a_run_split_in_two_equals_the_whole() {
         // Where all k steps were made this is n - k.
         let second = split.run(first.record, keys, shown, case.n - first.steps);
         assert_eq!(joined(first, second), expected);
-        busy[usize::from(first.record.busy)] += u64::from(first.steps > 0 && second.steps > 0);
+        let Record { timer_interval, timer_count, .. } = first.record;
+        let between = u64::from(first.steps > 0 && second.steps > 0);
+        busy[usize::from(first.record.busy)] += between;
+        within_interval += between * u64::from(timer_count < timer_interval);
         split.check(case);
         assert_same_buffers(&split, &whole);
     });
-    println!("splits by the display's busy count: {busy:?}");
-    assert!(support::runs(40_000) < 40_000 || busy.iter().all(|&splits| splits > 0));
+    println!("splits by the display's busy count: {busy:?}; within an interval: {within_interval}");
+    let all = within_interval > 0 && busy.iter().all(|&splits| splits > 0);
+    assert!(support::runs(40_000) < 40_000 || all, "a kind of split was never met");
 }
 
 #[test]
@@ -264,26 +268,31 @@ fn visible(record: &Record) -> ([u16; 8], u16, u16, u16) {
     (record.regs, record.pc, record.psr, record.mcr)
 }
 
-/// The part of a record that a User program cannot alter: MCR and both saved stack pointers.
-fn hidden(record: &Record) -> (u16, u16, u16) {
-    (record.mcr, record.saved_ssp, record.saved_usp)
+/// The part of a record that a User program cannot alter: MCR, both saved stack pointers, and the
+/// timer's interval.
+fn hidden(record: &Record) -> (u16, u16, u16, u16) {
+    (record.mcr, record.saved_ssp, record.saved_usp, record.timer_interval)
 }
 
-/// An accepted case in User mode, most often deaf to the keyboard.
+/// The timer's part of a record.
+fn timer(record: &Record) -> (u16, u16, u16) {
+    (record.timer_status, record.timer_interval, record.timer_count)
+}
+
+/// An accepted case in User mode, most often deaf to the keyboard and to the timer.
 fn user_case(rng: &mut Rng) -> Case {
     const USUAL: [Family; 4] =
         [Family::Anything, Family::Borders, Family::Rewriting, Family::Computing];
     let family = rng.pick(&USUAL);
     let mut case = cases::case_in_mode(rng, family, true);
-    if !rng.once_in(4) {
-        case.record.psr |= 0x0400;
-    }
+    case.record.psr |= rng.pick(&[0x0000, 0x0400, 0x0600, 0x0600]);
     case
 }
 
 /// A case with all that a User program may see in `one`, and all that is privileged different.
 fn privileged_twin(rng: &mut Rng, one: &Case) -> Case {
-    let mut other = cases::case(rng, Family::Keyboard);
+    let family = rng.pick(&[Family::Keyboard, Family::Timer]);
+    let mut other = cases::case(rng, family);
     let Record { regs, pc, psr, mcr, .. } = one.record;
     other.record = Record { regs, pc, psr, mcr, ..other.record };
     other.patches.retain(|patch| !in_user_space(patch));
@@ -329,6 +338,7 @@ fn user_runs_that_differ_in_what_is_privileged_agree_up_to_a_trap_or_exception()
     let (mut one, mut other) = (Side::new(template(0)), Side::new(template(1)));
     other.template[USER_SPACE].copy_from_slice(&one.template[USER_SPACE]);
     let (mut met, mut steps) = ([0u64; CAUSES], 0);
+    let (mut timers_differ, mut interrupted) = (0u64, 0u64);
     for number in 0..support::runs(30_000) {
         let mut rng = Rng::of_case(seed, number);
         let case = user_case(&mut rng);
@@ -336,12 +346,18 @@ fn user_runs_that_differ_in_what_is_privileged_agree_up_to_a_trap_or_exception()
         one.take(case.clone());
         let _announce = Announce { seed, number, case: &case };
         let (meeting, other_meeting) = (one.meeting(), other.meeting());
-        if ![meeting.cause(), other_meeting.cause()].contains(&Cause::Keyboard) {
+        let causes = [meeting.cause(), other_meeting.cause()];
+        if causes.iter().any(|cause| matches!(cause, Cause::Keyboard | Cause::Timer)) {
+            interrupted += 1;
+        } else {
             check_pair(&mut one, &mut other, &meeting, &other_meeting);
             met[meeting.cause() as usize] += 1;
             steps += meeting.before;
+            timers_differ += u64::from(timer(&one.case.record) != timer(&other.case.record));
         }
     }
     println!("{steps} steps, pairs without cause, by trap and by exception: {:?}", &met[..5]);
+    println!("pairs whose timers differ: {timers_differ}; passed over, interrupted: {interrupted}");
     assert!(met[..5].iter().all(|&pairs| pairs > 0), "a cause was never met");
+    assert!(timers_differ > 0 && interrupted > 0);
 }

@@ -46,5 +46,8 @@ pub(crate) fn same_record(a: Machine, b: Machine) -> bool {
     let c = a.devices;
     let d = b.devices;
     let devices = c.kbsr == d.kbsr && c.kbdr == d.kbdr && c.mcr == d.mcr && c.busy == d.busy;
-    registers && control && devices && a.clock == b.clock
+    let timer = c.timer_status == d.timer_status
+        && c.timer_interval == d.timer_interval
+        && c.timer_count == d.timer_count;
+    registers && control && devices && timer && a.clock == b.clock
 }

@@ -36,7 +36,7 @@ fn memory_sizes(memory: &mut [u16]) {
 }
 
 fn undefined_bits(memory: &mut [u16]) {
-    heading(b"12: an undefined bit, a busy count above 8, or a clock above 2^48");
+    heading(b"12: an undefined bit, a count out of its bounds, or a clock above 2^48");
     let mut m = record();
     m.psr = 0x8707;
     m.devices.kbsr = 0xC000;
@@ -66,6 +66,21 @@ fn busy_counts(memory: &mut [u16]) {
     keyless(b"busy 8", m, memory, 0);
     m.devices.busy = 9;
     keyless(b"busy 9", m, memory, 0);
+}
+
+fn timers(memory: &mut [u16]) {
+    let mut m = record();
+    m.devices.timer_status = 0xC000;
+    m.devices.timer_interval = 7;
+    m.devices.timer_count = 7;
+    keyless(b"timer status xC000, interval 7, count 7", m, memory, 0);
+    m.devices.timer_status = 0xE000;
+    keyless(b"timer status xE000", m, memory, 0);
+    m.devices.timer_status = 0xC000;
+    m.devices.timer_count = 8;
+    keyless(b"timer interval 7, count 8", m, memory, 0);
+    m.devices.timer_count = 0;
+    keyless(b"timer interval 7, count 0", m, memory, 0);
 }
 
 fn clocks(memory: &mut [u16]) {
@@ -173,6 +188,7 @@ fn all_apply(memory: &mut [u16]) {
 fn right_size(memory: &mut [u16]) {
     undefined_bits(memory);
     busy_counts(memory);
+    timers(memory);
     clocks(memory);
     step_counts(memory);
     step_counts_late(memory);

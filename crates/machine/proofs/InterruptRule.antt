@@ -3,9 +3,9 @@
 -- an interrupt, in either mode.
 use Prim.Native.Nat.{ℕ}
 use mathlib.Core.Path.{_≡_, refl, ap, _∙_}
-use mathlib.Core.Bool.{Bool, true, false, cond, _&&_, not}
+use mathlib.Core.Bool.{Bool, true, false, cond, _||_, not}
 use mathlib.Core.List.{List}
-use lib.Dec.{leb, ltb, eqb}
+use lib.Dec.{eqb}
 use lib.ListN.{getD}
 use Rattle.word.specs.Reading.{readOf}
 use Rattle.machine.specs.declared.Machine.{Machine}
@@ -14,19 +14,18 @@ use Rattle.machine.specs.declared.Plan.the-variants.{Move, Put, Jump, Lo
 use Rattle.machine.specs.declared.Plan.the-variants.{Return}
 use Rattle.machine.specs.declared.Pending.the-variants.{Nothing, Interrupt}
 use Rattle.machine.specs.Words.{next}
-use Rattle.machine.specs.Psr.{inUserMode, priorityOf, kept}
+use Rattle.machine.specs.Psr.{inUserMode, kept}
 use Rattle.machine.specs.Outcome.{Reason, trap, privilege, illegal, access, Outcome, plainOutcome, withReads}
 use Rattle.machine.specs.Outcome.{afterInstruction}
-use Rattle.machine.specs.Keys.{afterKeys}
-use Rattle.machine.specs.Interrupts.{keyboardVector, keyboardPriority, pendingInterrupt}
+use Rattle.machine.specs.Interrupts.{keyboardVector, keyboardPriority, timerVector, timerPriority}
+use Rattle.machine.specs.Interrupts.{timerMayInterrupt, keyboardMayInterrupt, pendingInterrupt}
 use Rattle.machine.specs.Protection.{denied}
 use Rattle.machine.specs.Entry.{entry, raised, interrupted}
-use Rattle.machine.specs.Devices.{KBSR, KBDR, DSR, DDR, PSR, isDevice, kbsrStore, psrStore, mcrStore, ddrStore}
-use Rattle.machine.specs.Devices.{deviceStore, stored}
+use Rattle.machine.specs.Devices.{KBSR, KBDR, DSR, DDR, TSR, TIR, PSR, isDevice, ddrStore, deviceStore, stored}
 use Rattle.machine.specs.Access.{checked, loadTo, storeAt, byPointer}
 use Rattle.machine.specs.Return.{popped, return}
 use Rattle.machine.specs.Plan.{planOf}
-use Rattle.machine.specs.Step.{perform, obeyed, interruptedOrObeyed, ended, stepOf}
+use Rattle.machine.specs.Step.{perform, obeyed, interruptedOrObeyed, ended, afterStart, stepOf}
 use Rattle.machine.specs.Causes.{isTrapOrException, takesInterrupt}
 use Rattle.machine.proofs.Tests.{either-branch}
 use Rattle.machine.proofs.TwoSteps.{no-interrupt-is-obeyed}
@@ -47,20 +46,14 @@ checked-is-no-interrupt a m mem o h =
 
 device-store-is-no-interrupt : (v a : ℕ) (m : Machine) (mem : List ℕ) → NoInterruptTaken (deviceStore v a m mem)
 unfolding deviceStore ddrStore
-device-store-is-no-interrupt v a m mem = go (eqb a KBSR) (eqb a KBDR) (eqb a DSR) (eqb a DDR) (eqb a PSR)
-  where
-    go : (b₁ b₂ b₃ b₄ b₅ : Bool)
-        → NoInterruptTaken
-        (cond b₁ (plainOutcome (kbsrStore v m) mem)
-        (cond b₂ (plainOutcome m mem)
-        (cond b₃ (plainOutcome m mem)
-        (cond b₄ (ddrStore v m mem) (cond b₅ (plainOutcome (psrStore v m) mem) (plainOutcome (mcrStore v m) mem))))))
-    go true b₂ b₃ b₄ b₅ = refl
-    go false true b₃ b₄ b₅ = refl
-    go false false true b₄ b₅ = refl
-    go false false false true b₅ = refl
-    go false false false false true = refl
-    go false false false false false = refl
+device-store-is-no-interrupt v a m mem =
+    either-branch NoInterruptTaken (eqb a KBSR) refl
+    (either-branch NoInterruptTaken (eqb a KBDR) refl
+    (either-branch NoInterruptTaken (eqb a DSR) refl
+    (either-branch NoInterruptTaken (eqb a DDR) refl
+    (either-branch NoInterruptTaken (eqb a TSR) refl
+    (either-branch NoInterruptTaken (eqb a TIR) refl
+    (either-branch NoInterruptTaken (eqb a PSR) refl refl))))))
 
 store-is-no-interrupt : (v a : ℕ) (m : Machine) (mem : List ℕ) → NoInterruptTaken (stored v a m mem)
 unfolding stored
@@ -119,23 +112,27 @@ none-pending-is-none-taken : (m : Machine) (mem : List ℕ) → takesInterrupt (
 unfolding interruptedOrObeyed
 none-pending-is-none-taken m mem = instruction-is-no-interrupt m mem
 
-pub interrupt-is-taken-by-rule-2 : (keys : List ℕ) (m : Machine) (mem : List ℕ)
-    → takesInterrupt (stepOf keys m mem .cause)
-    ≡ (leb 0xC000 (afterKeys keys m .devices .kbsr) && ltb (priorityOf (m .psr)) 4)
-unfolding stepOf ended pendingInterrupt afterKeys
-interrupt-is-taken-by-rule-2 keys m mem = go
-    (leb 0xC000 (afterKeys keys m .devices .kbsr) && ltb (priorityOf (m .psr)) 4)
-  where
-    go : (rule-2 : Bool)
-        → takesInterrupt (interruptedOrObeyed (cond rule-2 (Interrupt keyboardVector keyboardPriority) Nothing)
-        (afterKeys keys m) mem .cause) ≡ rule-2
-    go true = pending-is-taken keyboardVector keyboardPriority (afterKeys keys m) mem
-    go false = none-pending-is-none-taken (afterKeys keys m) mem
+-- A device may interrupt at the start of the step: the timer, or the keyboard.
+abbrev pub interruptIsDue : List ℕ → Machine → Bool
+interruptIsDue keys m = timerMayInterrupt (afterStart keys m) || keyboardMayInterrupt (afterStart keys m)
 
-pub otherwise-the-word-is-obeyed : (keys : List ℕ) (m : Machine) (mem : List ℕ)
-    → (leb 0xC000 (afterKeys keys m .devices .kbsr) && ltb (priorityOf (m .psr)) 4) ≡ false
-    → stepOf keys m mem ≡ ended (obeyed (afterKeys keys m) mem)
+pub interrupt-is-taken-by-rule-2 : (keys : List ℕ) (m : Machine) (mem : List ℕ)
+    → takesInterrupt (stepOf keys m mem .cause) ≡ interruptIsDue keys m
+unfolding stepOf ended pendingInterrupt
+interrupt-is-taken-by-rule-2 keys m mem =
+    go (timerMayInterrupt (afterStart keys m)) (keyboardMayInterrupt (afterStart keys m))
+  where
+    go : (timer keyboard : Bool)
+        → takesInterrupt (interruptedOrObeyed (cond timer (Interrupt timerVector timerPriority)
+        (cond keyboard (Interrupt keyboardVector keyboardPriority) Nothing)) (afterStart keys m) mem .cause)
+        ≡ (timer || keyboard)
+    go true keyboard = pending-is-taken timerVector timerPriority (afterStart keys m) mem
+    go false true = pending-is-taken keyboardVector keyboardPriority (afterStart keys m) mem
+    go false false = none-pending-is-none-taken (afterStart keys m) mem
+
+pub otherwise-the-word-is-obeyed : (keys : List ℕ) (m : Machine) (mem : List ℕ) → interruptIsDue keys m ≡ false
+    → stepOf keys m mem ≡ ended (obeyed (afterStart keys m) mem)
 unfolding stepOf ended
 otherwise-the-word-is-obeyed keys m mem e =
-    let n : Machine = afterKeys keys m in
+    let n : Machine = afterStart keys m in
     ap ended (no-interrupt-is-obeyed (pendingInterrupt n) n mem (interrupt-is-taken-by-rule-2 keys m mem ∙ e))

@@ -1,6 +1,7 @@
 -- Laws of the machine's definitions, which the code's proofs and the theorems cite: single steps computed; words, tests
 -- and devices; two steps side by side; what every step keeps, and the words that it touches.
 pub mod Opened
+pub mod TimerTheorems
 pub mod RuleExamples
 pub mod Mistakes
 pub mod WordLaws

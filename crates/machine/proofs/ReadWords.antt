@@ -18,16 +18,15 @@ use Rattle.machine.specs.Words.{before}
 use Rattle.machine.specs.Psr.{inUserMode}
 use Rattle.machine.specs.Outcome.{Reason, access, privilege, illegal, trap, interrupt, vectorOf}
 use Rattle.machine.specs.Outcome.{Cause, Outcome, plainOutcome, withReads}
-use Rattle.machine.specs.Keys.{afterKeys}
 use Rattle.machine.specs.Interrupts.{pendingInterrupt}
 use Rattle.machine.specs.Protection.{denied}
 use Rattle.machine.specs.Entry.{stackPointerOnEntry, pushed, afterEntry, entry, raised, interrupted}
-use Rattle.machine.specs.Devices.{KBSR, KBDR, DSR, DDR, PSR, isDevice, lentWord, deviceValue, loadedValue}
+use Rattle.machine.specs.Devices.{KBSR, KBDR, DSR, DDR, TSR, TIR, PSR, isDevice, lentWord, deviceValue, loadedValue}
 use Rattle.machine.specs.Devices.{afterLoad, ddrStore, deviceStore, stored}
 use Rattle.machine.specs.Access.{checked, loadTo, storeAt, byPointer}
 use Rattle.machine.specs.Return.{popped, return}
 use Rattle.machine.specs.Plan.{planOf}
-use Rattle.machine.specs.Step.{perform, obeyed, interruptedOrObeyed, ended, stepOf}
+use Rattle.machine.specs.Step.{perform, obeyed, interruptedOrObeyed, ended, afterStart, stepOf}
 use Rattle.machine.specs.Touched.{Each, SameWordAt, SameEffect, StepReads}
 
 -- ---- lists of addresses
@@ -171,7 +170,9 @@ module _ (mem₁ mem₂ : List ℕ) (l : length mem₁ ≡ length mem₂) where
       (either (eqb a KBDR) (plain-follows _)
       (either (eqb a DSR) (plain-follows _)
       (either (eqb a DDR) (λ e. memory-kept refl)
-      (either (eqb a PSR) (plain-follows _) (plain-follows _)))))
+      (either (eqb a TSR) (plain-follows _)
+      (either (eqb a TIR) (plain-follows _)
+      (either (eqb a PSR) (plain-follows _) (plain-follows _)))))))
 
   stored-follows : (v a : ℕ) (m : Machine) → Followed (stored v a m)
   unfolding stored
@@ -253,4 +254,4 @@ module _ (mem₁ mem₂ : List ℕ) (l : length mem₁ ≡ length mem₂) where
 pub step-reads : StepReads
 unfolding stepOf
 step-reads keys m mem₁ mem₂ l =
-    end-follows mem₁ mem₂ l _ _ (either-follows mem₁ mem₂ l (pendingInterrupt (afterKeys keys m)) (afterKeys keys m))
+    end-follows mem₁ mem₂ l _ _ (either-follows mem₁ mem₂ l (pendingInterrupt (afterStart keys m)) (afterStart keys m))

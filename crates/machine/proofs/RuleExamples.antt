@@ -1,7 +1,7 @@
 -- The rules of a step hold in the steps of the table: each of them is computed.
 use mathlib.Core.Path.{refl}
-use Rattle.machine.specs.RuleExamples.{KeysAndInterrupt, Addresses, Instructions, Entries, DeviceRegisters}
-use Rattle.machine.specs.RuleExamples.{RulesHold}
+use Rattle.machine.specs.RuleExamples.{KeysAndInterrupt, Addresses, Instructions, Entries, TimerRules}
+use Rattle.machine.specs.RuleExamples.{DeviceRegisters, RulesHold}
 use Rattle.machine.proofs.Opened.{opened}
 
 keys-and-interrupt : KeysAndInterrupt
@@ -44,6 +44,18 @@ entries = record {
   pushes-and-pops-wrap = refl;
 }
 
+timer-rules : TimerRules
+unfolding opened
+timer-rules = record {
+  count-falls-and-reloads = refl;
+  off-counts-nothing = refl;
+  timer-interrupts-below-6 = refl;
+  timer-goes-first = refl;
+  entered-in-that-very-step = refl;
+  status-register = refl;
+  interval-register = refl;
+}
+
 device-registers : DeviceRegisters
 unfolding opened
 device-registers = record {
@@ -65,5 +77,6 @@ rules-hold = record {
   addresses = addresses;
   instructions = instructions;
   entries = entries;
+  timer-rules = timer-rules;
   device-registers = device-registers;
 }

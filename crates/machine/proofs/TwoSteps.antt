@@ -16,12 +16,13 @@ use Rattle.machine.specs.declared.Pending.the-variants.{Nothing, Interru
 use Rattle.machine.specs.Psr.{inUserMode}
 use Rattle.machine.specs.Outcome.{trap, privilege, illegal, Outcome}
 use Rattle.machine.specs.Keys.{afterKeys}
+use Rattle.machine.specs.Timer.{afterTimer}
 use Rattle.machine.specs.Interrupts.{pendingInterrupt}
 use Rattle.machine.specs.Entry.{entry, interrupted}
 use Rattle.machine.specs.Access.{loadTo, storeAt}
 use Rattle.machine.specs.Return.{return}
 use Rattle.machine.specs.Plan.{planOf}
-use Rattle.machine.specs.Step.{perform, obeyed, interruptedOrObeyed, afterTick, ended, stepOf}
+use Rattle.machine.specs.Step.{perform, obeyed, interruptedOrObeyed, afterTick, ended, afterStart, stepOf}
 use Rattle.machine.specs.Visible.{SameVisible, Hidden, hiddenOf}
 use Rattle.machine.specs.Causes.{takesInterrupt}
 use Rattle.machine.proofs.TwoAccesses.{SameOutcome, both-obey, both-enter, reads-do-not-matter}
@@ -65,11 +66,11 @@ module _ (m₁ m₂ : Machine) (mem₁ mem₂ : List ℕ) (g : SameVisible m₁ 
         ≡ planOf (m₂ .regs) (m₂ .pc) (m₂ .psr) (readOf (getD mem₂ (m₂ .pc) 0)) = cc in
         reads-do-not-matter _ _ _ _ _ _ (rw (← e) (plans-agree p₁)))
 
--- The keys that arrive change nothing that User mode sees.
-keys-leave-visible : (m₁ m₂ : Machine) (mem₁ mem₂ keys₁ keys₂ : List ℕ) → SameVisible m₁ m₂ mem₁ mem₂
-    → SameVisible (afterKeys keys₁ m₁) (afterKeys keys₂ m₂) mem₁ mem₂
-unfolding afterKeys
-keys-leave-visible m₁ m₂ mem₁ mem₂ keys₁ keys₂ g = record
+-- The start of a step, keys and the timer's count, changes nothing that User mode sees.
+start-leaves-visible : (m₁ m₂ : Machine) (mem₁ mem₂ keys₁ keys₂ : List ℕ) → SameVisible m₁ m₂ mem₁ mem₂
+    → SameVisible (afterStart keys₁ m₁) (afterStart keys₂ m₂) mem₁ mem₂
+unfolding afterKeys afterTimer
+start-leaves-visible m₁ m₂ mem₁ mem₂ keys₁ keys₂ g = record
     { regs = g .regs; pc = g .pc; psr = g .psr; mcr = g .mcr; words = g .words }
 
 pub no-interrupt-is-obeyed : (p : Pending) (m : Machine) (mem : List ℕ)
@@ -94,26 +95,26 @@ pub two-steps-agree : (m₁ m₂ : Machine) (mem₁ mem₂ keys₁ keys₂ : Lis
     → inUserMode (m₁ .psr) ≡ true
     → takesInterrupt (stepOf keys₁ m₁ mem₁ .cause) ≡ false → takesInterrupt (stepOf keys₂ m₂ mem₂ .cause) ≡ false
     → SameOutcome (hiddenOf m₁ mem₁) (hiddenOf m₂ mem₂) (stepOf keys₁ m₁ mem₁) (stepOf keys₂ m₂ mem₂)
-unfolding stepOf ended afterKeys
+unfolding stepOf ended afterKeys afterTimer
 two-steps-agree m₁ m₂ mem₁ mem₂ keys₁ keys₂ g u i₁ i₂ =
-    let n₁ : Machine = afterKeys keys₁ m₁ in
-    let n₂ : Machine = afterKeys keys₂ m₂ in
+    let n₁ : Machine = afterStart keys₁ m₁ in
+    let n₂ : Machine = afterStart keys₂ m₂ in
     ticks-do-not-matter _ _ _ _
     (rw (
       no-interrupt-is-obeyed (pendingInterrupt n₁) n₁ mem₁ i₁,
       no-interrupt-is-obeyed (pendingInterrupt n₂) n₂ mem₂
           i₂,
     )
-    (obeyed-instructions-agree n₁ n₂ mem₁ mem₂ (keys-leave-visible m₁ m₂ mem₁ mem₂ keys₁ keys₂ g) u))
+    (obeyed-instructions-agree n₁ n₂ mem₁ mem₂ (start-leaves-visible m₁ m₂ mem₁ mem₂ keys₁ keys₂ g) u))
 
 -- A step in User mode shows nothing, the interrupt included: by two steps from one and the same record.
 pub user-mode-shows-nothing : (m : Machine) (mem keys : List ℕ) → inUserMode (m .psr) ≡ true → stepOf keys m mem .shown
     ≡ []
-unfolding stepOf ended afterKeys interruptedOrObeyed interrupted entry
+unfolding stepOf ended afterKeys afterTimer interruptedOrObeyed interrupted entry
 user-mode-shows-nothing m mem keys u = go (pendingInterrupt n)
   where
     n : Machine
-    n = afterKeys keys m
+    n = afterStart keys m
 
     shown : SameOutcome (hiddenOf n mem) (hiddenOf n mem) (obeyed n mem) (obeyed n mem) → obeyed n mem .shown ≡ []
     shown (both-obey g c₁ c₂) = c₁ .shows-nothing

@@ -5,6 +5,7 @@ pub mod Record
 pub mod Psr
 pub mod Outcome
 pub mod Keys
+pub mod Timer
 pub mod Interrupts
 pub mod Protection
 pub mod Entry
@@ -16,6 +17,7 @@ pub mod Step
 pub mod Touched
 pub mod Causes
 pub mod Visible
+pub mod TimerTheorems
 pub mod Rows
 pub mod RuleExamples
 pub mod Mistakes

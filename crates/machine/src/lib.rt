@@ -3,16 +3,20 @@
 ghost use mathlib.Core.Path.{_≡_};
 ghost use mathlib.Core.List.{List};
 ghost use Prim.Native.Nat.{ℕ, _-_};
-ghost use Rattle.machine.specs.Record.{whole, withDevices, setKeyboard, setMcr, setBusy, freshDevices};
+ghost use Rattle.machine.specs.Record.{whole, withDevices, setKeyboard, setMcr, setBusy, setTimer, freshDevices};
 
-// What the devices keep. Code that touches no device hands it on whole. Defined bits: KBSR xC000, KBDR x00FF, MCR
-// x8000. `busy` counts the steps for which the display is still busy, at most 8.
+// What the devices keep. Code that touches no device hands it on whole. Defined bits: KBSR and the timer's status xC000,
+// KBDR x00FF, MCR x8000. `busy` counts the steps for which the display is still busy, at most 8. The timer's count is at
+// most its interval, and 0 only if that is.
 #[repr(C)]
 pub struct Devices {
     pub kbsr: u16,
     pub kbdr: u16,
     pub mcr: u16,
     pub busy: u16,
+    pub timer_status: u16,
+    pub timer_interval: u16,
+    pub timer_count: u16,
 }
 
 // The record of document 01, as a host keeps it. Defined bits of PSR: x8707.
@@ -84,6 +88,9 @@ pub fn set_keyboard(d: Devices, kbsr: u16, kbdr: u16) -> Devices
         kbdr,
         mcr: d.mcr,
         busy: d.busy,
+        timer_status: d.timer_status,
+        timer_interval: d.timer_interval,
+        timer_count: d.timer_count,
     }
 }
 
@@ -96,6 +103,9 @@ pub fn set_mcr(d: Devices, mcr: u16) -> Devices
         kbdr: d.kbdr,
         mcr,
         busy: d.busy,
+        timer_status: d.timer_status,
+        timer_interval: d.timer_interval,
+        timer_count: d.timer_count,
     }
 }
 
@@ -108,6 +118,24 @@ pub fn set_busy(d: Devices, busy: u16) -> Devices
         kbdr: d.kbdr,
         mcr: d.mcr,
         busy,
+        timer_status: d.timer_status,
+        timer_interval: d.timer_interval,
+        timer_count: d.timer_count,
+    }
+}
+
+// The devices with this timer.
+pub fn set_timer(d: Devices, status: u16, interval: u16, count: u16) -> Devices
+    ensures { λ r. ⌜ r ≡ setTimer (record { status = status; interval = interval; count = count }) d ⌝ }
+{
+    Devices {
+        kbsr: d.kbsr,
+        kbdr: d.kbdr,
+        mcr: d.mcr,
+        busy: d.busy,
+        timer_status: status,
+        timer_interval: interval,
+        timer_count: count,
     }
 }
 
@@ -120,6 +148,9 @@ pub fn fresh_devices() -> Devices
         kbdr: 0,
         mcr: 0x8000,
         busy: 0,
+        timer_status: 0,
+        timer_interval: 0,
+        timer_count: 0,
     }
 }
 

@@ -1,26 +1,28 @@
 -- Symbolic execution: where the run of k steps stands, and what one step more does. Registers, PSR and memory are
 -- whatever they are, and keys may arrive at any step.
-use Prim.Native.Nat.{ℕ, suc, _+_, _*_, _%_, _≤_, _<_}
+use Prim.Native.Nat.{ℕ, zero, suc, _+_, _*_, _%_, _≤_, _<_}
 use native.Mathlib.Numerals.{add-one}
 use native.Mathlib.Decide.{decLe}
 use native.Mathlib.Omega.{arith}
 use mathlib.Core.Path.{_≡_, refl, sym, ap, subst, _∙_}
-use mathlib.Core.Bool.{false, _&&_}
+use mathlib.Core.Bool.{Bool, true, false, cond, _&&_}
 use mathlib.Core.List.{List, [], _∷_, _++_}
 use borrow.Author.Tests.{lt-leb}
 use lib.Dec.{leb}
 use lib.ListN.{length, take}
 use Rattle.machine.specs.declared.Machine.{Machine}
 use Rattle.machine.specs.declared.Devices.{Devices}
-use Rattle.machine.specs.Record.{setKeyboard, setBusy}
+use Rattle.machine.specs.Record.{Timer, timerOf, setKeyboard, setBusy, setTimer}
 use Rattle.machine.specs.Keys.{readyAfter, lastKey, afterKeys}
+use Rattle.machine.specs.Timer.{isOff, expired, oneLess, ticked, afterTimer, tickedBy}
 use Rattle.machine.specs.Outcome.{Outcome}
 use Rattle.machine.specs.Causes.{takesInterrupt}
-use Rattle.machine.specs.Step.{obeyed, busyAfter, afterTick, ended, stepOf}
+use Rattle.machine.specs.Step.{obeyed, busyAfter, afterTick, ended, afterStart, stepOf}
 use Rattle.run.specs.declared.Ending.the-variants.{Done}
 use Rattle.run.specs.Run.{Start, End, arriving, nextStep, withShown, stepMade, isHalted, showsByte, isFull, runOf}
 use Rattle.machine.proofs.InterruptRule.{interrupt-is-taken-by-rule-2, otherwise-the-word-is-obeyed}
 use Rattle.run.proofs.RunLaws.{done-run-goes-on}
+use Rattle.monitor.specs.Out.{NotEnabled}
 use Rattle.monitor.proofs.KeyLaws.{arrived, ready-after-both, last-of-both}
 
 -- What of a run can be foretold without its keys. The PSR is high * 8 + codes: mode and priority, and N, Z, P. `busy` is
@@ -80,6 +82,8 @@ pub record At (s : Start) (k : ℕ) (v : View) : Type 0 where
   -- the keyboard is as the keys that arrived leave it
   pub kbsr : devices .kbsr ≡ readyAfter (take keys (s .bytes)) (s .machine .devices .kbsr)
   pub kbdr : devices .kbdr ≡ lastKey (take keys (s .bytes)) (s .machine .devices .kbdr)
+  -- the timer has counted k steps
+  pub timer : timerOf devices ≡ tickedBy k (timerOf (s .machine .devices))
   pub stands : runOf s k ≡ standingAt v k keys devices clock
   pub quiet : (j : ℕ) → j < k → QuietStep s j
 
@@ -94,7 +98,7 @@ pub record Gives (o : Outcome) (bytes : List ℕ) (busy : ℕ) (v : View) (devic
 
 -- No interrupt is taken: then the word is obeyed.
 uninterrupted-step : (keys : List ℕ) (m : Machine) (mem : List ℕ) → takesInterrupt (stepOf keys m mem .cause) ≡ false
-    → stepOf keys m mem ≡ ended (obeyed (afterKeys keys m) mem)
+    → stepOf keys m mem ≡ ended (obeyed (afterStart keys m) mem)
 uninterrupted-step keys m mem h =
     otherwise-the-word-is-obeyed keys m mem (sym (interrupt-is-taken-by-rule-2 keys m mem) ∙ h)
 
@@ -142,12 +146,12 @@ module _ {s : Start} {k : ℕ} {v : View} (a : At s k v) (quiet : QuietStep s k)
   kbdr′ : ℕ
   kbdr′ = lastKey (arriving s here) (a .devices .kbdr)
 
-  -- The devices with the keys of this step arrived.
+  -- The devices with the keys of this step arrived and the timer's count fallen.
   abbrev devices′ : Devices
-  devices′ = setKeyboard kbsr′ kbdr′ (a .devices)
+  devices′ = setTimer (ticked (timerOf (a .devices))) (setKeyboard kbsr′ kbdr′ (a .devices))
 
   next-is : nextStep s here ≡ ended (obeyed (machineAt v devices′ (a .clock)) (v .memory))
-  unfolding nextStep afterKeys here kbsr′ kbdr′
+  unfolding nextStep afterKeys afterTimer here kbsr′ kbdr′
   next-is = uninterrupted-step (arriving s here) (here .machine) (v .memory) (rw (a .stands) at quiet)
 
   -- The instruction at PC leads from one view to another, whatever the devices and the clock hold.
@@ -177,6 +181,7 @@ module _ {s : Start} {k : ℕ} {v : View} (a : At s k v) (quiet : QuietStep s k)
             rw (arrived s here)
             (rw (last-of-both (take (a .keys) (s .bytes)) (arriving s here) (s .machine .devices .kbdr))
             (rw (← (a .kbdr))));
+        timer = unfold tickedBy in ap ticked (a .timer);
         stands = goes-on s k here (a .stands) refl (not-halted here (a .enabled)) (not-full s here bytes b free)
             ∙ rw (output, shown) (made s here (machineAt v′ devices′ (a .clock + 1)) (v′ .memory) bytes m mem b);
         quiet = one-more-quiet s k (a .quiet) quiet;
@@ -217,15 +222,38 @@ still-not-enabled : (keys more : List ℕ) (kbsr now : ℕ) → now ≡ readyAft
 still-not-enabled keys more kbsr now p h l =
     rw (p, ← (ready-after-both keys more kbsr)) (not-enabled (keys ++ more) kbsr h l)
 
--- Where the keyboard may not interrupt at the start, no step that the run comes to takes an interrupt.
-pub no-interrupt : {s : Start} {k : ℕ} {v : View} → At s k v → s .machine .devices .kbsr % 0x8000 ≡ 0
-    → s .machine .devices .kbsr ≤ 0x8000 → QuietStep s k
-unfolding nextStep afterKeys
-no-interrupt {s} {k} {v} a h l =
+-- Counting leaves a timer that may not interrupt so.
+timer-not-enabled : (k : ℕ) (t : Timer) → t .status % 0x8000 ≡ 0 → t .status ≤ 0x8000
+    → (tickedBy k t .status % 0x8000 ≡ 0) × (tickedBy k t .status ≤ 0x8000)
+unfolding tickedBy
+timer-not-enabled zero t h l = (h, l)
+timer-not-enabled (suc k) t h l =
+    let before = timer-not-enabled k t h l in
+    one-more (tickedBy k t) (before .0) (before .1)
+  where
+    one-more : (t : Timer) → t .status % 0x8000 ≡ 0 → t .status ≤ 0x8000
+        → (ticked t .status % 0x8000 ≡ 0) × (ticked t .status ≤ 0x8000)
+    one-more t h l = unfold ticked in go (isOff t) (leb (t .count) 1)
+      where
+        go : (off last : Bool)
+            → (cond off t (cond last (expired t) (oneLess t)) .status % 0x8000 ≡ 0)
+            × (cond off t (cond last (expired t) (oneLess t)) .status ≤ 0x8000)
+        go true last = (h, l)
+        go false true = (omega (arith, h), omega (arith, h))
+        go false false = (h, l)
+
+-- Where neither device may interrupt at the start, no step that the run comes to takes an interrupt.
+pub no-interrupt : {s : Start} {k : ℕ} {v : View} → At s k v → NotEnabled (s .machine .devices) → QuietStep s k
+unfolding nextStep afterKeys afterTimer
+no-interrupt {s} {k} {v} a off =
     let e : End = standingAt v k (a .keys) (a .devices) (a .clock) in
     let r : readyAfter (arriving s e) (a .devices .kbsr) ≤ 0x8000 =
     still-not-enabled (take (a .keys) (s .bytes)) (arriving s e) (s .machine .devices .kbsr) (a .devices .kbsr)
-    (a .kbsr) h l in
+    (a .kbsr) (off .keyboard) (off .keyboard-word) in
+    let still = timer-not-enabled (suc k) (timerOf (s .machine .devices)) (off .timer) (off .timer-word) in
+    let t : ticked (timerOf (a .devices)) .status ≤ 0x8000 =
+    unfold tickedBy in subst (λ (x : Timer). ticked x .status ≤ 0x8000) (sym (a .timer)) (still .1) in
     subst (λ (x : End). takesInterrupt (nextStep s x .cause) ≡ false) (sym (a .stands))
     (interrupt-is-taken-by-rule-2 (arriving s e) (e .machine) (v .memory)
-    ∙ rw (lt-leb 0xC000 (readyAfter (arriving s e) (a .devices .kbsr)) (omega arith)))
+    ∙ rw (lt-leb 0xC000 (ticked (timerOf (a .devices)) .status) (omega arith))
+    (rw (lt-leb 0xC000 (readyAfter (arriving s e) (a .devices .kbsr)) (omega arith))))

@@ -19,8 +19,8 @@ use Rattle.machine.specs.Psr.{inUserMode, definedPsr, codesOf, recoded}
 use Rattle.machine.specs.Outcome.{withReads, afterInstruction}
 use Rattle.machine.specs.Protection.{denied}
 use Rattle.machine.specs.Entry.{pushed, entry, afterEntry, raised, stackPointerOnEntry, userStackOnEntry}
-use Rattle.machine.specs.Devices.{KBDR, DSR, DDR, isDevice, displayIsReady, displayStatus, deviceValue, loadedValue}
-use Rattle.machine.specs.Devices.{kbsrAfterLoad, afterLoad}
+use Rattle.machine.specs.Devices.{KBDR, DSR, DDR, TSR, isDevice, displayIsReady, displayStatus, deviceValue, loadedValue}
+use Rattle.machine.specs.Devices.{kbsrAfterLoad, timerStatusAfterLoad, afterLoad}
 use Rattle.machine.specs.Devices.{ddrStore, deviceStore, stored}
 use Rattle.machine.specs.Access.{loadTo, storeAt, byPointer}
 use Rattle.machine.specs.Return.{afterReturn, popped, return}
@@ -163,7 +163,17 @@ all-allowed v above below a = rw (supervisor (v .high) (v .codes) above below)
 recodes : (q c x : ℕ) → c < 8 → (q * 8 + c) / 8 * 8 + x ≡ q * 8 + x
 recodes q c x h = omega arith
 
--- A load of a plain word leaves the keyboard alone.
+-- A load of a plain word leaves keyboard and timer alone.
+plain-load-keeps-timer : (b status : ℕ) → isDevice b ≡ false → timerStatusAfterLoad b status ≡ status
+unfolding timerStatusAfterLoad isDevice
+plain-load-keeps-timer b status plain = go (eqb b TSR) refl
+  where
+    go : (same : Bool) → eqb b TSR ≡ same → cond same (status % 0x8000) status ≡ status
+    go false e = refl
+    go true e =
+        let z : b ≡ TSR = eqb-true b TSR e in
+        absurd (true≢false (rw z at plain))
+
 plain-load-keeps : (b kbsr : ℕ) → isDevice b ≡ false → kbsrAfterLoad b kbsr ≡ kbsr
 unfolding kbsrAfterLoad isDevice
 plain-load-keeps b kbsr plain = go (eqb b KBDR) refl
@@ -204,7 +214,7 @@ module _ {s : Start} {bound : ℕ} (quiet : Quiet s bound) {v : View} (above : v
       (changed v (withRegister (v .regs) r x) (next (v .pc)) (codesOf x) (v .memory)) refl refl refl
       (λ d t. record {
         machine = rw
-            (allowed b, plain, w, plain-load-keeps b (d .kbsr) plain, recodes (v .high) (v .codes) (codesOf x) below);
+            (allowed b, plain, w, plain-load-keeps b (d .kbsr) plain, plain-load-keeps-timer b (d .«timer_status») plain, recodes (v .high) (v .codes) (codesOf x) below);
         memory = rw (allowed b);
         shown = rw (allowed b);
       })
@@ -227,14 +237,14 @@ module _ {s : Start} {bound : ℕ} (quiet : Quiet s bound) {v : View} (above : v
   pub polls : (r b x codes : ℕ) → Plans v (LoadBy r b) → isDevice b ≡ false → getD (v .memory) b 0 ≡ DSR
       → cond (eqb (v .busy) 0) 0x8000 0 ≡ x → codesOf x ≡ codes
       → Leads s bound v 1 (changed v (withRegister (v .regs) r x) (next (v .pc)) codes (v .memory))
-  unfolding perform byPointer withReads loadTo afterInstruction recoded afterLoad loadedValue isDevice kbsrAfterLoad
+  unfolding perform byPointer withReads loadTo afterInstruction recoded afterLoad loadedValue isDevice kbsrAfterLoad timerStatusAfterLoad
       deviceValue displayStatus displayIsReady
   polls r b x codes p plain w status set =
       let allowed = all-allowed v above below in
       silently quiet (allowed (v .pc)) (LoadBy r b) p
       (changed v (withRegister (v .regs) r x) (next (v .pc)) codes (v .memory)) refl refl refl
       (λ d t. record {
-        machine = rw (allowed b, plain, w, plain-load-keeps b (d .kbsr) plain, allowed DSR)
+        machine = rw (allowed b, plain, w, plain-load-keeps b (d .kbsr) plain, plain-load-keeps-timer b (d .«timer_status») plain, allowed DSR)
             (rw (status, set, recodes (v .high) (v .codes) codes below));
         memory = rw (allowed b, plain, w, allowed DSR);
         shown = rw (allowed b, plain, w, allowed DSR);
@@ -243,13 +253,13 @@ module _ {s : Start} {bound : ℕ} (quiet : Quiet s bound) {v : View} (above : v
   -- STI by a plain word that holds DDR, while the display is ready
   pub shows : (x b : ℕ) → Plans v (StoreBy x b) → isDevice b ≡ false → getD (v .memory) b 0 ≡ DDR → v .busy ≡ 0
       → v .shown < length (v .output) → Leads s bound v 1 (showing v (x % 256))
-  unfolding perform byPointer withReads storeAt afterInstruction recoded afterLoad loadedValue isDevice kbsrAfterLoad
+  unfolding perform byPointer withReads storeAt afterInstruction recoded afterLoad loadedValue isDevice kbsrAfterLoad timerStatusAfterLoad
       stored deviceStore ddrStore displayIsReady
   shows x b p plain w ready free =
       let allowed = all-allowed v above below in
       shows-byte quiet (allowed (v .pc)) (StoreBy x b) p (showing v (x % 256)) (x % 256) free refl refl refl
       (λ d t. record {
-        machine = rw (allowed b, plain, w, plain-load-keeps b (d .kbsr) plain, allowed DDR);
+        machine = rw (allowed b, plain, w, plain-load-keeps b (d .kbsr) plain, plain-load-keeps-timer b (d .«timer_status») plain, allowed DDR);
         memory = rw (allowed b, plain, w, allowed DDR);
         shown = rw (allowed b, plain, w, allowed DDR, eq-eqb (v .busy) 0 ready);
       })

@@ -17,6 +17,8 @@ use Rattle.machine.specs.declared.Plan.the-variants.{Jump, Call}
 use Rattle.machine.specs.Words.{next, andBits}
 use Rattle.machine.specs.Psr.{inUserMode, definedPsr, codesOf, isTaken}
 use Rattle.machine.specs.Keys.{readyAfter, lastKey}
+use Rattle.machine.specs.Record.{timerOf}
+use Rattle.machine.specs.Timer.{tickedBy}
 use Rattle.machine.specs.Protection.{privileged, denied}
 use Rattle.machine.specs.Devices.{DSR, DDR, isDevice}
 use Rattle.machine.specs.Entry.{pushed}
@@ -374,6 +376,7 @@ module _ (s : Start) (n : ℕ) (c : CallsOut s n) (quiet : Quiet s (outStepsOf s
     enabled = c .mcr;
     kbsr = unfold readyAfter in refl;
     kbdr = unfold lastKey in refl;
+    timer = unfold tickedBy in refl;
     stands = run-of-none s
         ∙ ap
         (λ (m : Machine). record {
@@ -428,10 +431,11 @@ module _ (s : Start) (n : ℕ) (c : CallsOut s n) (quiet : Quiet s (outStepsOf s
   out-resumes : (e : End) (keys : ℕ) (devices : Devices) (clock : ℕ) → clock ≡ s .machine .clock + outStepsOf s
       → devices .kbsr ≡ readyAfter (take keys (s .bytes)) (s .machine .devices .kbsr)
       → devices .kbdr ≡ lastKey (take keys (s .bytes)) (s .machine .devices .kbdr) → devices .mcr ≡ 0x8000
+      → timerOf devices ≡ tickedBy (outStepsOf s) (timerOf (s .machine .devices))
       → e ≡ standingAt after (outStepsOf s) keys devices clock → outStepsOf s ≤ callOf s n .steps
       → Resumed s n (outStepsOf s) e
   unfolding stack
-  out-resumes e keys devices clock ticks kbsr kbdr mcr q makes =
+  out-resumes e keys devices clock ticks kbsr kbdr mcr timer q makes =
       rw q
       (record {
         made = makes;
@@ -448,6 +452,7 @@ module _ (s : Start) (n : ℕ) (c : CallsOut s n) (quiet : Quiet s (outStepsOf s
         kbdr = kbdr;
         mcr = mcr ∙ sym (c .mcr);
         busy = refl;
+        timer = timer;
         clock = ticks;
         words-below = below-kept (s .memory) psr (next (s .machine .pc)) (x .r₁);
         words-above = above-kept (s .memory) psr (next (s .machine .pc)) (x .r₁);
@@ -462,7 +467,7 @@ module _ (s : Start) (n : ℕ) (c : CallsOut s n) (quiet : Quiet s (outStepsOf s
   shows-and-resumes : Resumed s n (outStepsOf s) (callOf s (outStepsOf s))
   shows-and-resumes =
       out-resumes (callOf s (outStepsOf s)) (at-end .keys) (at-end .devices) (at-end .clock) (at-end .ticks)
-      (at-end .kbsr) (at-end .kbdr) (at-end .enabled)
+      (at-end .kbsr) (at-end .kbdr) (at-end .enabled) (at-end .timer)
       (call-is-run s n (outStepsOf s) (c .accepted) (omega (arith, c .steps, few s n c)) ∙ at-end .stands) makes-them
 
   uninterrupted : Uninterrupted s (outStepsOf s)
@@ -486,6 +491,6 @@ out-shows = record {
   within = few-steps;
   resumes = λ s n c u.
       shows-and-resumes s n c (uninterrupted-is-quiet s n c u) (eight (s .machine .regs) (c .registers));
-  not-enabled = λ s n c h l.
-      uninterrupted s n c (record { at = λ a b. no-interrupt a h l }) (eight (s .machine .regs) (c .registers));
+  not-enabled = λ s n c off.
+      uninterrupted s n c (record { at = λ a b. no-interrupt a off }) (eight (s .machine .regs) (c .registers));
 }

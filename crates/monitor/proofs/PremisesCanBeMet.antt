@@ -5,8 +5,8 @@ use Rattle.word.specs.Reading.{readOf}
 use Rattle.machine.specs.Psr.{inUserMode, definedPsr}
 use Rattle.machine.specs.Protection.{privileged}
 use Rattle.run.specs.Fresh.{freshOf}
-use Rattle.run.specs.Refusals.{wrongSize, undefinedDevices, undefinedRecord, tooManySteps, unequalLists}
-use Rattle.run.specs.Refusals.{timesAdmission, admissionOf}
+use Rattle.run.specs.Refusals.{wrongSize, undefinedTimer, undefinedDevices, undefinedRecord, tooManySteps}
+use Rattle.run.specs.Refusals.{unequalLists, timesAdmission, admissionOf}
 use Rattle.monitor.specs.Vectors.{vectorWord, vectorsFrom, vectorTable}
 use Rattle.monitor.specs.Routines.{routineWords, monitorWords}
 use Rattle.monitor.specs.Install.{installOf}
@@ -14,7 +14,7 @@ use Rattle.monitor.specs.Out.{CallsOut, outCalled, PremisesCanBeMet}
 use Rattle.monitor.proofs.Out.{out-shows}
 
 called : CallsOut outCalled 32
-unfolding outCalled freshOf readOf inUserMode definedPsr privileged wrongSize undefinedDevices undefinedRecord tooManySteps
+unfolding outCalled freshOf readOf inUserMode definedPsr privileged wrongSize undefinedTimer undefinedDevices undefinedRecord tooManySteps
     unequalLists timesAdmission admissionOf vectorWord vectorsFrom vectorTable routineWords monitorWords installOf
 called = record {
   accepted = refl;
@@ -33,5 +33,6 @@ pub premises-can-be-met : PremisesCanBeMet
 unfolding outCalled freshOf
 premises-can-be-met = record {
   calls-out = called;
-  uninterrupted = out-shows .not-enabled outCalled 32 called refl (omega arith);
+  uninterrupted = out-shows .not-enabled outCalled 32 called
+      (record { keyboard = refl; keyboard-word = omega arith; timer = refl; timer-word = omega arith });
 }

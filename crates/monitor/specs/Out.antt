@@ -8,10 +8,13 @@ use mathlib.Core.List.{List, [], _∷_}
 use lib.ListN.{length, getD, set, take, drop, replicate}
 use Rattle.word.specs.Reading.{readOf}
 use Rattle.word.specs.declared.Instruction.the-variants.{Trap}
+use Rattle.machine.specs.declared.Devices.{Devices}
 use Rattle.machine.specs.Words.{next}
+use Rattle.machine.specs.Record.{timerOf}
 use Rattle.machine.specs.Psr.{inUserMode}
 use Rattle.machine.specs.Protection.{privileged}
 use Rattle.machine.specs.Keys.{readyAfter, lastKey}
+use Rattle.machine.specs.Timer.{tickedBy}
 use Rattle.machine.specs.Causes.{takesInterrupt}
 use Rattle.run.specs.declared.Admission.the-variants.{Accepted}
 use Rattle.run.specs.declared.Ending.the-variants.{Done}
@@ -44,6 +47,13 @@ pub record CallsOut (s : Start) (n : ℕ) : Type 0 where
 pub record Uninterrupted (s : Start) (k : ℕ) : Type 0 where
   pub none : (j : ℕ) → j < k → takesInterrupt (causeAt s j) ≡ false
 
+-- The interrupt enable, bit 14, of keyboard and timer is clear.
+pub record NotEnabled (d : Devices) : Type 0 where
+  pub keyboard : d .kbsr % 0x8000 ≡ 0
+  pub keyboard-word : d .kbsr ≤ 0x8000
+  pub timer : d .«timer_status» % 0x8000 ≡ 0
+  pub timer-word : d .«timer_status» ≤ 0x8000
+
 -- The call of n steps makes k of them, and e, what the call of k answers and leaves, is this.
 pub record Resumed (s : Start) (n k : ℕ) (e : End) : Type 0 where
   pub made : k ≤ callOf s n .steps
@@ -64,6 +74,8 @@ pub record Resumed (s : Start) (n k : ℕ) (e : End) : Type 0 where
   pub mcr : e .machine .devices .mcr ≡ s .machine .devices .mcr
   -- the byte was shown four steps before the end: LDR, ADD and RTI have followed
   pub busy : e .machine .devices .busy ≡ 5
+  -- the timer has counted k steps
+  pub timer : timerOf (e .machine .devices) ≡ tickedBy k (timerOf (s .machine .devices))
   pub clock : e .machine .clock ≡ s .machine .clock + k
   -- "and no word but x2FF8 to x2FFF changed"
   pub words-below : take 0x2FF8 (e .memory) ≡ take 0x2FF8 (s .memory)
@@ -90,9 +102,8 @@ pub record OutShows : Type 0 where
   pub within : (busy : ℕ) → busy ≤ 8 → outSteps busy ≤ 32
   pub resumes : (s : Start) (n : ℕ) → CallsOut s n → Uninterrupted s (outStepsOf s)
       → Resumed s n (outStepsOf s) (callOf s (outStepsOf s))
-  -- where the keyboard's interrupt enable, bit 14, is clear, no step is interrupted, whatever keys arrive
-  pub not-enabled : (s : Start) (n : ℕ) → CallsOut s n → s .machine .devices .kbsr % 0x8000 ≡ 0
-      → s .machine .devices .kbsr ≤ 0x8000 → Uninterrupted s (outStepsOf s)
+  -- where no device is enabled, no step is interrupted, whatever keys arrive
+  pub not-enabled : (s : Start) (n : ℕ) → CallsOut s n → NotEnabled (s .machine .devices) → Uninterrupted s (outStepsOf s)
 
 -- ---- the premises can be met
 

@@ -20,4 +20,8 @@ call-examples-hold = record {
   full-once-ready = refl;
   shown-once-ready = refl;
   display-takes-its-time = refl;
+  interval-1 = refl;
+  interval-2 = refl;
+  interval-3 = refl;
+  interval-0 = refl;
 }

@@ -7,7 +7,7 @@ use mathlib.Core.List.{List, [], _∷_, map}
 use lib.ListN.{length, getD, replicate}
 use Rattle.machine.specs.declared.Machine.{Machine}
 use Rattle.machine.specs.declared.Devices.{Devices}
-use Rattle.machine.specs.Record.{withRegisters}
+use Rattle.machine.specs.Record.{Timer, withRegisters}
 use Rattle.machine.specs.Rows.{withWord}
 use Rattle.run.specs.declared.Refusal.the-variants.{MemorySize}
 use Rattle.run.specs.declared.Admission.{Admission}
@@ -25,7 +25,7 @@ use Rattle.run.specs.Call.{startOf}
 abbrev pub recordWith : ℕ → Devices → ℕ → Machine
 recordWith psr devices clock = record {
   regs = 1 ∷ 2 ∷ 3 ∷ 4 ∷ 5 ∷ 6 ∷ 0xFFFF ∷ 8 ∷ [];
-  pc = 0x0400;
+  pc = 0x4000;
   psr = psr;
   «saved_ssp» = 0xFFFF;
   «saved_usp» = 0xFFFF;
@@ -33,9 +33,24 @@ recordWith psr devices clock = record {
   clock = clock;
 }
 
--- Devices with this KBSR, KBDR, MCR and busy count.
-abbrev pub devicesWith : ℕ → ℕ → ℕ → ℕ → Devices
-devicesWith kbsr kbdr mcr busy = record { kbsr = kbsr; kbdr = kbdr; mcr = mcr; busy = busy }
+-- A timer with this status, interval and count; and devices with this KBSR, KBDR, MCR, busy count and timer.
+abbrev pub timerWith : ℕ → ℕ → ℕ → Timer
+timerWith status interval count = record { status = status; interval = interval; count = count }
+
+abbrev pub devicesWith : ℕ → ℕ → ℕ → ℕ → Timer → Devices
+devicesWith kbsr kbdr mcr busy t = record {
+  kbsr = kbsr;
+  kbdr = kbdr;
+  mcr = mcr;
+  busy = busy;
+  «timer_status» = t .status;
+  «timer_interval» = t .interval;
+  «timer_count» = t .count;
+}
+
+-- Devices with this KBSR, KBDR and MCR, and nothing else to tell of.
+abbrev pub withRegistersOf : ℕ → ℕ → ℕ → Devices
+withRegistersOf kbsr kbdr mcr = devicesWith kbsr kbdr mcr 0 (timerWith 0 0 0)
 
 -- The record, n, the key times, how many bytes there are, the refusal and its index: 0 where the call is accepted.
 pub data Asked : Type 0 where
@@ -44,7 +59,7 @@ pub data Asked : Type 0 where
 -- A record with this PSR, KBSR, KBDR, MCR and clock, and index 0; the rest as above.
 abbrev pub withBits : ℕ → ℕ → ℕ → ℕ → ℕ → ℕ → List ℕ → ℕ → ℕ → Asked
 withBits psr kbsr kbdr mcr clock n times bytes refusal =
-    asked (recordWith psr (devicesWith kbsr kbdr mcr 0) clock) n times bytes refusal 0
+    asked (recordWith psr (withRegistersOf kbsr kbdr mcr) clock) n times bytes refusal 0
 
 -- A record without a fault, at this clock; the rest as above.
 abbrev pub atClock : ℕ → ℕ → List ℕ → ℕ → ℕ → Asked
@@ -52,15 +67,20 @@ atClock clock n times bytes refusal = withBits 0x8002 0 0 0x8000 clock n times b
 
 -- This busy count of the display, and the refusal.
 abbrev pub withBusy : ℕ → ℕ → Asked
-withBusy busy refusal = asked (recordWith 0x8002 (devicesWith 0 0 0x8000 busy) 1000) 5 [] 0 refusal 0
+withBusy busy refusal = asked (recordWith 0x8002 (devicesWith 0 0 0x8000 busy (timerWith 0 0 0)) 1000) 5 [] 0 refusal 0
+
+-- A timer with this status, interval and count, and the refusal.
+abbrev pub withTimerOf : ℕ → ℕ → ℕ → ℕ → Asked
+withTimerOf status interval count refusal =
+    asked (recordWith 0x8002 (devicesWith 0 0 0x8000 0 (timerWith status interval count)) 1000) 5 [] 0 refusal 0
 
 -- These times at clock 1000, a byte for each, and the refusal with its index.
 abbrev pub withTimes : List ℕ → ℕ → ℕ → Asked
 withTimes times refusal index =
-    asked (recordWith 0x8002 (devicesWith 0 0 0x8000 0) 1000) 5 times (length times) refusal index
+    asked (recordWith 0x8002 (withRegistersOf 0 0 0x8000) 1000) 5 times (length times) refusal index
 
--- withBits PSR KBSR KBDR MCR clock n times bytes refusal; withBusy busy refusal; atClock clock n times bytes refusal;
--- withTimes times refusal index.
+-- withBits PSR KBSR KBDR MCR clock n times bytes refusal; withBusy busy refusal; withTimerOf status interval count refusal;
+-- atClock clock n times bytes refusal; withTimes times refusal index.
 abbrev pub calls : List Asked
 calls =
     -- every defined bit set, and none
@@ -80,6 +100,14 @@ calls =
     -- "refusal 12 covers a count above 8"
     ∷ withBusy 8 0
     ∷ withBusy 9 12
+    -- "12 covers undefined bits and a count above the interval, or zero with an interval set"
+    ∷ withTimerOf 0xC000 7 7 0
+    ∷ withTimerOf 0x0000 0xFFFF 1 0
+    ∷ withTimerOf 0x2000 7 7 12
+    ∷ withTimerOf 0x8001 7 7 12
+    ∷ withTimerOf 0x0000 7 8 12
+    ∷ withTimerOf 0x0000 0 1 12
+    ∷ withTimerOf 0x0000 7 0 12
     -- "or a clock above 2^48"
     ∷ atClock (2 ^ 48) 0 [] 0 0
     ∷ atClock (2 ^ 48 + 1) 0 [] 0 12
@@ -136,7 +164,7 @@ storing mcr = record {
   psr = 0x0002;
   «saved_ssp» = 0x3000;
   «saved_usp» = 0xFDFF;
-  devices = devicesWith 0 0 mcr 0;
+  devices = withRegistersOf 0 0 mcr;
   clock = 41;
 }
 
@@ -171,6 +199,19 @@ polled n =
     let e = runOf (startOf polling (withWord (replicate 65536 0x64C0) 0x0400 0x7040) [] [] (0 ∷ 0 ∷ [])) n in
     polls (e .steps) (getD (e .machine .regs) 2 0) (e .machine .devices .busy)
 
+-- ---- the timer
+
+-- How many steps were made, and the timer's status and count after them.
+pub data Timed : Type 0 where
+  times : ℕ → ℕ → ℕ → Timed
+
+-- n steps of BR, which stands everywhere, from a new interval i; the timer is not enabled.
+abbrev pub timed : ℕ → ℕ → Timed
+timed i n =
+    let m = recordWith 0x8002 (devicesWith 0 0 0x8000 0 (timerWith 0 i i)) 41 in
+    let e = runOf (startOf m (replicate 65536 0x0000) [] [] []) n in
+    times (e .steps) (e .machine .devices .«timer_status») (e .machine .devices .«timer_count»)
+
 -- ---- the table
 
 pub record CallExamplesHold : Type 0 where
@@ -184,7 +225,7 @@ pub record CallExamplesHold : Type 0 where
         psr = 0x8002;
         «saved_ssp» = 0x3000;
         «saved_usp» = 0;
-        devices = record { kbsr = 0; kbdr = 0; mcr = 0x8000; busy = 0 };
+        devices = withRegistersOf 0 0 0x8000;
         clock = 0;
       }
   pub fresh-in-supervisor-mode :
@@ -195,7 +236,7 @@ pub record CallExamplesHold : Type 0 where
         psr = 0x0002;
         «saved_ssp» = 0;
         «saved_usp» = 0x5678;
-        devices = record { kbsr = 0; kbdr = 0; mcr = 0x8000; busy = 0 };
+        devices = withRegistersOf 0 0 0x8000;
         clock = 0;
       }
   -- The refusals of the rows above, with any memory of 65,536 words; and with any other memory all of them are 11.
@@ -219,3 +260,10 @@ pub record CallExamplesHold : Type 0 where
   pub display-takes-its-time : map polled (1 ∷ 2 ∷ 3 ∷ 4 ∷ 5 ∷ 6 ∷ 7 ∷ 8 ∷ 9 ∷ 10 ∷ [])
       ≡ polls 1 3 8 ∷ polls 2 0 7 ∷ polls 3 0 6 ∷ polls 4 0 5 ∷ polls 5 0 4 ∷ polls 6 0 3 ∷ polls 7 0 2 ∷ polls 8 0 1
       ∷ polls 9 0 0 ∷ polls 10 0x8000 0 ∷ []
+  -- The timer, step by step: ready is set at every interval, 1, 2 and 3 steps; and never where the interval is 0.
+  pub interval-1 : map (timed 1) (0 ∷ 1 ∷ 2 ∷ []) ≡ times 0 0 1 ∷ times 1 0x8000 1 ∷ times 2 0x8000 1 ∷ []
+  pub interval-2 : map (timed 2) (1 ∷ 2 ∷ 3 ∷ 4 ∷ [])
+      ≡ times 1 0 1 ∷ times 2 0x8000 2 ∷ times 3 0x8000 1 ∷ times 4 0x8000 2 ∷ []
+  pub interval-3 : map (timed 3) (1 ∷ 2 ∷ 3 ∷ 4 ∷ 5 ∷ 6 ∷ [])
+      ≡ times 1 0 2 ∷ times 2 0 1 ∷ times 3 0x8000 3 ∷ times 4 0x8000 2 ∷ times 5 0x8000 1 ∷ times 6 0x8000 3 ∷ []
+  pub interval-0 : map (timed 0) (1 ∷ 2 ∷ []) ≡ times 1 0 0 ∷ times 2 0 0 ∷ []

@@ -10,11 +10,27 @@ ghost use mathlib.Core.Path.{_≡_};
 ghost use mathlib.Core.List.{List};
 ghost use Prim.Native.Nat.{ℕ};
 ghost use Rattle.run.specs.Run.{begin, endedBy};
-ghost use Rattle.run.specs.Refusals.{undefinedDevices, undefinedRecord, timesAdmission, admissionOf};
+ghost use Rattle.run.specs.Refusals.{undefinedTimer, undefinedDevices, undefinedRecord, timesAdmission, admissionOf};
 ghost use Rattle.run.specs.Call.{startOf, endOf};
 ghost use Rattle.run.specs.declared.Ending.the-variants.{Refused};
 
-// 12: an undefined bit of a device register, or a busy count above 8.
+// 12: an undefined bit of the timer's status, a count above the interval, or a count of zero with an interval set.
+fn undefined_timer(status: u16, interval: u16, count: u16) -> bool
+    ensures { λ r. ⌜ r ≡ undefinedTimer (record { status = status; interval = interval; count = count }) ⌝ }
+{
+    if status % 0x4000 != 0 {
+        return true;
+    }
+    if interval < count {
+        return true;
+    }
+    if count != 0 {
+        return false;
+    }
+    interval != 0
+}
+
+// 12: an undefined bit of a device register, a busy count above 8, or a timer that no step leaves.
 fn undefined_devices(d: Devices) -> bool
     ensures { λ r. ⌜ r ≡ undefinedDevices d ⌝ }
 {
@@ -27,7 +43,10 @@ fn undefined_devices(d: Devices) -> bool
     if d.mcr % 0x8000 != 0 {
         return true;
     }
-    8 < d.busy
+    if 8 < d.busy {
+        return true;
+    }
+    undefined_timer(d.timer_status, d.timer_interval, d.timer_count)
 }
 
 // 12: an undefined bit, a busy count above 8, or a clock above 2^48.

@@ -1,9 +1,9 @@
 // The accesses of LD, LDR, LDI, ST, STR, STI: each address is checked first, then the access is made.
 use crate::Obeyed;
+use crate::devices::after_load;
 use crate::devices::load;
 use crate::devices::store;
 use crate::devices::unshown;
-use crate::devices::with_kbsr;
 use crate::entry::raise;
 use crate::protection::is_denied;
 use crate::psr::with_codes;
@@ -18,8 +18,7 @@ ghost use Rattle.machine.specs.Words.{withRegister};
 ghost use Rattle.machine.specs.Record.{whole};
 ghost use Rattle.machine.specs.Psr.{Codes, kept, setFrom, recoded};
 ghost use Rattle.machine.specs.Outcome.{afterInstruction};
-ghost use Rattle.machine.specs.Devices.{kbsrAfterLoad, afterLoad};
-ghost use Rattle.machine.specs.Access.{loadTo, storeAt, byPointer};
+ghost use Rattle.machine.specs.Access.{loadedTo, loadTo, storeAt, byPointer};
 ghost use Rattle.step.specs.Delivery.{effect, quiet, after, delivered};
 
 // The record after an instruction. Every field is written out, here and wherever a `Control` is made anew: a copy that
@@ -65,12 +64,15 @@ pub fn go_on_at(c: Control, pc: u16) -> Control
     after_instruction(c, pc, c.psr)
 }
 
-// The record after a load, by its KBSR.
-fn after_load(c: Control, kbsr: u16) -> Control
-    ensures { λ n. ⌜ ((a clock : ℕ) (regs : List ℕ) → kbsr ≡ kbsrAfterLoad a (c .devices .kbsr) → whole regs clock n
-        ≡ afterLoad a (whole regs clock c)) ⌝ }
+// A load to a register from an address that is not denied.
+fn load_allowed(c: Control, regs: &mut [u16; 8], memory: &[u16], r: u8, a: u16) -> Control
+    requires { ⌜ length (now memory) ≡ 65536 ⌝ }
+    ensures { λ n. ⌜ ((clock : ℕ) → whole (now (regs .exit)) clock n
+        ≡ loadedTo r a (whole (now (regs .entry)) clock c) (now (memory .entry))) ⌝ }
 {
-    with_kbsr(c, kbsr)
+    let v = load(c, memory, a);
+    let n = after_load(c, a);
+    move_to(n, regs, r, v, next(c.pc))
 }
 
 pub fn load_to(c: Control, regs: &mut [u16; 8], memory: &mut [u16], r: u8, a: u16) -> Control
@@ -81,9 +83,7 @@ pub fn load_to(c: Control, regs: &mut [u16; 8], memory: &mut [u16], r: u8, a: u1
     if is_denied(c.psr, a) {
         return raise(c, regs, memory, 0x0102, c.pc);
     }
-    let l = load(c, memory, a);
-    let n = after_load(c, l.kbsr);
-    move_to(n, regs, r, l.value, next(c.pc))
+    load_allowed(c, regs, memory, r, a)
 }
 
 pub fn store_at(
@@ -115,9 +115,12 @@ pub fn load_by(c: Control, regs: &mut [u16; 8], memory: &mut [u16], r: u8, a: u1
     if is_denied(c.psr, a) {
         return raise(c, regs, memory, 0x0102, c.pc);
     }
-    let l = load(c, memory, a);
-    let n = after_load(c, l.kbsr);
-    load_to(n, regs, memory, r, l.value)
+    let p = load(c, memory, a);
+    let n = after_load(c, a);
+    if is_denied(n.psr, p) {
+        return raise(n, regs, memory, 0x0102, n.pc);
+    }
+    load_allowed(n, regs, memory, r, p)
 }
 
 // STI: the pointer is loaded, then the value is stored where it points.
@@ -137,7 +140,7 @@ pub fn store_by(
     if is_denied(c.psr, a) {
         return unshown(raise(c, regs, memory, 0x0102, c.pc));
     }
-    let l = load(c, memory, a);
-    let n = after_load(c, l.kbsr);
-    store_at(n, regs, memory, output, v, l.value)
+    let p = load(c, memory, a);
+    let n = after_load(c, a);
+    store_at(n, regs, memory, output, v, p)
 }

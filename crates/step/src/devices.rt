@@ -1,6 +1,5 @@
 // Loads and stores: the device registers at their addresses, plain words everywhere else.
 use crate::Display;
-use crate::Loaded;
 use crate::Obeyed;
 use crate::memory::set_word;
 use crate::memory::word_at;
@@ -8,6 +7,7 @@ use machine::Control;
 use machine::set_busy;
 use machine::set_keyboard;
 use machine::set_mcr;
+use machine::set_timer;
 use machine::with_devices;
 ghost use mathlib.Core.Path.{_≡_};
 ghost use mathlib.Core.Bool.{cond};
@@ -15,12 +15,12 @@ ghost use mathlib.Core.List.{List, []};
 ghost use Prim.Native.Nat.{ℕ, _+_};
 ghost use lib.Dec.{eqb};
 ghost use lib.ListN.{length};
-ghost use Rattle.machine.specs.Record.{whole, withPsr, withKbsr, withMcr, withBusy};
-ghost use Rattle.machine.specs.Devices.{ddrStore, stored};
+ghost use Rattle.machine.specs.Record.{whole, withPsr, withKbsr, withMcr, withBusy, withTimer};
+ghost use Rattle.machine.specs.Devices.{loadedValue, afterLoad, withEnable, ddrStore, stored};
 ghost use Rattle.machine.specs.Step.{afterTick};
 ghost use Rattle.machine.specs.declared.Control.{Control};
 ghost use Rattle.step.specs.declared.Display.the-variants.{Unchanged};
-ghost use Rattle.step.specs.Delivery.{loadOf, effect, after, delivered, shownBy};
+ghost use Rattle.step.specs.Delivery.{effect, after, delivered, shownBy};
 
 // DSR: x8000, or 0 while the display is busy.
 fn display_status(busy: u16) -> u16
@@ -29,31 +29,37 @@ fn display_status(busy: u16) -> u16
     if busy == 0 { 0x8000 } else { 0 }
 }
 
-pub fn load(c: Control, memory: &[u16], a: u16) -> Loaded
+// The value that a load gives.
+pub fn load(c: Control, memory: &[u16], a: u16) -> u16
     requires { ⌜ length (now memory) ≡ 65536 ⌝ }
-    ensures { λ r. ⌜ ((regs : List ℕ) (clock : ℕ) → r ≡ loadOf a (whole regs clock c) (now (memory .entry))) ⌝ }
+    ensures { λ r. ⌜ ((regs : List ℕ) (clock : ℕ) → r ≡ loadedValue a (whole regs clock c) (now (memory .entry))) ⌝ }
 {
-    let kbsr = c.devices.kbsr;
     match a {
-        0xFE00 => Loaded { value: kbsr, kbsr },
-        0xFE02 => Loaded {
-            value: c.devices.kbdr,
-            kbsr: kbsr % 0x8000,
-        },
-        0xFE04 => Loaded {
-            value: display_status(c.devices.busy),
-            kbsr,
-        },
-        0xFE06 => Loaded { value: 0, kbsr },
-        0xFFFC => Loaded { value: c.psr, kbsr },
-        0xFFFE => Loaded {
-            value: c.devices.mcr,
-            kbsr,
-        },
-        _ => {
-            let value = word_at(memory, a);
-            Loaded { value, kbsr }
-        }
+        0xFE00 => c.devices.kbsr,
+        0xFE02 => c.devices.kbdr,
+        0xFE04 => display_status(c.devices.busy),
+        0xFE06 => 0,
+        0xFE08 => c.devices.timer_status,
+        0xFE0A => c.devices.timer_interval,
+        0xFFFC => c.psr,
+        0xFFFE => c.devices.mcr,
+        _ => word_at(memory, a),
+    }
+}
+
+// The record after a load: KBDR's clears ready of the keyboard, and that of the timer's status its own.
+pub fn after_load(c: Control, a: u16) -> Control
+    ensures { λ n. ⌜ ((regs : List ℕ) (clock : ℕ) → whole regs clock n ≡ afterLoad a (whole regs clock c)) ⌝ }
+{
+    match a {
+        0xFE02 => with_kbsr(c, c.devices.kbsr % 0x8000),
+        0xFE08 => with_timer(
+            c,
+            c.devices.timer_status % 0x8000,
+            c.devices.timer_interval,
+            c.devices.timer_count,
+        ),
+        _ => c,
     }
 }
 
@@ -90,6 +96,21 @@ pub fn with_kbsr(c: Control, kbsr: u16) -> Control
     ensures { λ n. ⌜ ((regs : List ℕ) (clock : ℕ) → whole regs clock n ≡ withKbsr kbsr (whole regs clock c)) ⌝ }
 {
     with_devices(c, set_keyboard(c.devices, kbsr, c.devices.kbdr))
+}
+
+// A status register that a value is stored to: bit 14, enable, is copied, and ready stays.
+fn with_enable(status: u16, v: u16) -> u16
+    ensures { λ r. ⌜ r ≡ withEnable v status ⌝ }
+{
+    status / 0x8000 * 0x8000 + v / 0x4000 % 2 * 0x4000
+}
+
+// The record with this timer.
+pub fn with_timer(c: Control, status: u16, interval: u16, count: u16) -> Control
+    ensures { λ n. ⌜ ((regs : List ℕ) (clock : ℕ) → whole regs clock n
+        ≡ withTimer (record { status = status; interval = interval; count = count }) (whole regs clock c)) ⌝ }
+{
+    with_devices(c, set_timer(c.devices, status, interval, count))
 }
 
 fn with_mcr(c: Control, mcr: u16) -> Control
@@ -149,10 +170,7 @@ pub fn store(c: Control, memory: &mut [u16], output: &mut [u8], v: u16, a: u16) 
         (effect (stored v a (whole regs clock c) (now (memory .entry))))) ⌝ }
 {
     match a {
-        0xFE00 => {
-            let kbsr = c.devices.kbsr / 0x8000 * 0x8000 + v / 0x4000 % 2 * 0x4000;
-            unshown(with_kbsr(c, kbsr))
-        }
+        0xFE00 => unshown(with_kbsr(c, with_enable(c.devices.kbsr, v))),
         0xFE02 | 0xFE04 => unshown(c),
         0xFE06 => {
             let display = show(c.devices.busy, output, v);
@@ -161,6 +179,11 @@ pub fn store(c: Control, memory: &mut [u16], output: &mut [u8], v: u16, a: u16) 
                 display,
             }
         }
+        0xFE08 => {
+            let status = with_enable(c.devices.timer_status, v);
+            unshown(with_timer(c, status, c.devices.timer_interval, c.devices.timer_count))
+        }
+        0xFE0A => unshown(with_timer(c, c.devices.timer_status, v, v)),
         0xFFFC => {
             let psr = c.psr / 0x8000 * 0x8000 + v / 256 % 8 * 256 + v % 8;
             unshown(with_psr(c, psr))

@@ -1,7 +1,7 @@
 //! The constants of `lc3.h`, under its names.
 
 /// The version of the interface.
-pub const LC3_VERSION: u32 = 5;
+pub const LC3_VERSION: u32 = 6;
 
 /// Words of memory: no other number is accepted.
 pub const LC3_MEMORY_WORDS: usize = 65_536;
@@ -37,6 +37,10 @@ pub const LC3_KBSR_INTERRUPT: u16 = 0x4000;
 pub const LC3_KBDR_BYTE: u16 = 0x00FF;
 /// Bit of MCR: clock enable; a machine with this bit clear is halted.
 pub const LC3_MCR_CLOCK: u16 = 0x8000;
+/// Bit of TSR: the interval has passed, and TSR has not been loaded since.
+pub const LC3_TSR_READY: u16 = 0x8000;
+/// Bit of TSR: interrupt enable.
+pub const LC3_TSR_INTERRUPT: u16 = 0x4000;
 
 /// Address of the keyboard's status.
 pub const LC3_ADDRESS_KBSR: u16 = 0xFE00;
@@ -46,6 +50,10 @@ pub const LC3_ADDRESS_KBDR: u16 = 0xFE02;
 pub const LC3_ADDRESS_DSR: u16 = 0xFE04;
 /// Address of the display's data.
 pub const LC3_ADDRESS_DDR: u16 = 0xFE06;
+/// Address of the timer's status.
+pub const LC3_ADDRESS_TSR: u16 = 0xFE08;
+/// Address of the timer's interval.
+pub const LC3_ADDRESS_TIR: u16 = 0xFE0A;
 /// Address of the processor status.
 pub const LC3_ADDRESS_PSR: u16 = 0xFFFC;
 /// Address of the machine control.
@@ -61,8 +69,8 @@ pub const LC3_REFUSED_FIELD: u32 = 2;
 pub const LC3_REFUSED_MASK: u32 = 3;
 /// Refusal: memory is not [`LC3_MEMORY_WORDS`] words.
 pub const LC3_REFUSED_MEMORY: u32 = 11;
-/// Refusal: the record has an undefined bit, a busy count above [`LC3_MAX_BUSY`], or a clock above
-/// [`LC3_MAX_CLOCK`].
+/// Refusal: the record has an undefined bit, a busy count above [`LC3_MAX_BUSY`], a timer count above
+/// the interval, or 0 with an interval set, or a clock above [`LC3_MAX_CLOCK`].
 pub const LC3_REFUSED_RECORD: u32 = 12;
 /// Refusal: more than [`LC3_MAX_STEPS`] steps, or a clock that would pass [`LC3_MAX_CLOCK`].
 pub const LC3_REFUSED_STEPS: u32 = 13;

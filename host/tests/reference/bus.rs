@@ -1,11 +1,13 @@
 //! The bus: lent words, and the devices that stand before some of them.
 
 /// The addresses of the device registers, in the order in which tallies count them.
-pub const REGISTERS: [u16; 6] = [KBSR, KBDR, DSR, DDR, PSR, MCR];
+pub const REGISTERS: [u16; 8] = [KBSR, KBDR, DSR, DDR, TSR, TIR, PSR, MCR];
 pub const KBSR: u16 = 0xFE00;
 pub const KBDR: u16 = 0xFE02;
 pub const DSR: u16 = 0xFE04;
 pub const DDR: u16 = 0xFE06;
+pub const TSR: u16 = 0xFE08;
+pub const TIR: u16 = 0xFE0A;
 pub const PSR: u16 = 0xFFFC;
 pub const MCR: u16 = 0xFFFE;
 
@@ -122,6 +124,80 @@ impl Device for Display<'_> {
     }
 }
 
+/// TSR and TIR.
+#[derive(Clone, Copy, Debug)]
+pub struct Timer {
+    ready: bool,
+    enable: bool,
+    interval: u16,
+    /// The steps that are left of the interval, unless that is 0.
+    left: u16,
+}
+
+impl Timer {
+    pub fn new(status: u16, interval: u16, left: u16) -> Self {
+        Timer { ready: bit(status, 15), enable: bit(status, 14), interval, left }
+    }
+
+    pub fn status(&self) -> u16 {
+        u16::from(self.ready) << 15 | u16::from(self.enable) << 14
+    }
+
+    pub fn interval(&self) -> u16 {
+        self.interval
+    }
+
+    pub fn left(&self) -> u16 {
+        self.left
+    }
+
+    /// Whether some steps of the interval are left, and no more than it has.
+    pub fn is_within_interval(&self) -> bool {
+        match self.interval {
+            0 => self.left == 0,
+            interval => (1..=interval).contains(&self.left),
+        }
+    }
+
+    /// Takes a step off, and tells whether the interval has passed.
+    pub fn count(&mut self) -> bool {
+        if self.interval == 0 {
+            return false;
+        }
+        self.left -= 1;
+        let passed = self.left == 0;
+        if passed {
+            self.ready = true;
+            self.left = self.interval;
+        }
+        passed
+    }
+
+    pub fn wants_service(&self) -> bool {
+        self.ready && self.enable
+    }
+}
+
+impl Device for Timer {
+    fn load(&mut self, at: u16) -> u16 {
+        if at == TIR {
+            return self.interval;
+        }
+        let status = self.status();
+        self.ready = false;
+        status
+    }
+
+    fn store(&mut self, at: u16, value: u16) -> Result<(), NoRoom> {
+        if at == TIR {
+            (self.interval, self.left) = (value, value);
+        } else {
+            self.enable = bit(value, 14);
+        }
+        Ok(())
+    }
+}
+
 /// PSR. Unpacking a word drops the bits that are not defined.
 #[derive(Clone, Copy, Debug)]
 pub struct Status {
@@ -209,6 +285,7 @@ pub struct Reached {
 #[derive(Clone, Copy, Debug)]
 pub struct Devices {
     pub keyboard: Keyboard,
+    pub timer: Timer,
     pub status: Status,
     pub control: Control,
 }
@@ -231,6 +308,7 @@ impl Bus<'_> {
         match at {
             KBSR | KBDR => Some(&mut self.devices.keyboard),
             DSR | DDR => Some(&mut self.display),
+            TSR | TIR => Some(&mut self.devices.timer),
             PSR => Some(&mut self.devices.status),
             MCR => Some(&mut self.devices.control),
             _ => None,

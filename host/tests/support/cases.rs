@@ -26,6 +26,7 @@ pub enum Family {
     Devices,
     Display,
     Keyboard,
+    Timer,
     Stacks,
     Borders,
     Rewriting,
@@ -34,11 +35,12 @@ pub enum Family {
     Refusals,
 }
 
-pub const FAMILIES: [Family; 9] = [
+pub const FAMILIES: [Family; 10] = [
     Family::Anything,
     Family::Devices,
     Family::Display,
     Family::Keyboard,
+    Family::Timer,
     Family::Stacks,
     Family::Borders,
     Family::Rewriting,
@@ -47,17 +49,17 @@ pub const FAMILIES: [Family; 9] = [
 ];
 
 /// The first and last addresses of the regions, with their neighbours.
-const BORDERS: [u16; 14] = [
+const BORDERS: [u16; 16] = [
     0x0000, 0x0001, 0x0002, 0x2FFE, 0x2FFF, 0x3000, 0x3001, 0xFDFE, 0xFDFF, 0xFE00, 0xFE01, 0xFE07,
-    0xFFFD, 0xFFFF,
+    0xFE09, 0xFE0B, 0xFFFD, 0xFFFF,
 ];
 
 /// Stack pointers from which the two pushes of an entry reach a vector word, and the words.
-const VECTORS: [u16; 10] =
-    [0x0025, 0x0026, 0x0027, 0x0100, 0x0102, 0x0103, 0x0104, 0x0180, 0x0181, 0x0182];
+const VECTORS: [u16; 11] =
+    [0x0025, 0x0026, 0x0027, 0x0100, 0x0102, 0x0103, 0x0104, 0x0180, 0x0181, 0x0182, 0x0183];
 
 /// The vector words that get a service routine.
-const SERVED: [u16; 5] = [0x0025, 0x0100, 0x0101, 0x0102, 0x0180];
+const SERVED: [u16; 6] = [0x0025, 0x0100, 0x0101, 0x0102, 0x0180, 0x0181];
 
 /// The instructions of a program, beside the branch back to the first.
 const LENGTH: i32 = 24;
@@ -87,9 +89,12 @@ struct Generator<'a> {
     patches: Vec<(u16, u16)>,
 }
 
-/// A random case of the family, in either mode; the display is out of User mode's reach.
+/// A random case of the family, in either mode; devices are out of User mode's reach.
 pub fn case(rng: &mut Rng, family: Family) -> Case {
-    let user = rng.once_in(if family == Family::Display { 8 } else { 2 });
+    let user = rng.once_in(match family {
+        Family::Display | Family::Timer => 8,
+        _ => 2,
+    });
     case_in_mode(rng, family, user)
 }
 
@@ -138,6 +143,7 @@ impl Generator<'_> {
         match (self.family, any) {
             (Family::Display, false) => self.rng.pick(&[bus::DDR, bus::DDR, bus::DSR]),
             (Family::Keyboard, false) => self.rng.pick(&[bus::KBSR, bus::KBDR]),
+            (Family::Timer, false) => self.rng.pick(&[bus::TSR, bus::TIR]),
             (Family::Devices, false) => self.rng.pick(&bus::REGISTERS),
             (Family::Stacks, false) => self.rng.pick(&VECTORS),
             (Family::Borders, false) => self.rng.pick(&BORDERS),
@@ -252,6 +258,7 @@ impl Generator<'_> {
             Family::Keyboard => self.rng.below(5) as u16,
             _ => self.rng.below(8) as u16,
         };
+        let (timer_interval, timer_count) = self.timer();
         Record {
             regs,
             pc: self.pc,
@@ -262,8 +269,37 @@ impl Generator<'_> {
             kbdr: self.rng.below(256) as u16,
             mcr: if self.rng.once_in(40) { 0 } else { 0x8000 },
             busy: if self.rng.once_in(2) { 0 } else { self.rng.below(9) as u16 },
+            timer_status: self.timer_status(),
+            timer_interval,
+            timer_count,
             clock: 0,
         }
+    }
+
+    /// A timer that interrupts is more than most families are about: there it is seldom enabled.
+    fn timer_status(&mut self) -> u16 {
+        let ready = self.rng.pick(&[0x0000, 0x8000]);
+        let enabled = match self.family {
+            Family::Timer => self.rng.once_in(2),
+            _ => self.rng.once_in(8),
+        };
+        ready | u16::from(enabled) << 14
+    }
+
+    /// An interval, most often short, and what may be left of it.
+    fn timer(&mut self) -> (u16, u16) {
+        let off = match self.family {
+            Family::Timer => self.rng.once_in(8),
+            _ => self.rng.once_in(2),
+        };
+        let interval = match self.rng.below(8) {
+            _ if off => return (0, 0),
+            0 => self.rng.pick(&[u16::MAX, 0x8000, 1000]),
+            1 => 1 + self.rng.below(u16::MAX.into()) as u16,
+            2 | 3 => 1 + self.rng.below(40) as u16,
+            _ => 1 + self.rng.below(4) as u16,
+        };
+        (interval, 1 + self.rng.below(u64::from(interval).min(60)) as u16)
     }
 
     /// A stack pointer: sound, about to wrap, or over a vector, the code or a border.
@@ -329,12 +365,15 @@ fn spoil_memory(rng: &mut Rng, case: &mut Case) {
 
 fn spoil_record(rng: &mut Rng, case: &mut Case) {
     let bit = 1 << rng.below(16);
-    match rng.below(6) {
+    let interval = case.record.timer_interval;
+    match rng.below(8) {
         0 => case.record.psr |= bit,
         1 => case.record.kbsr |= bit,
         2 => case.record.kbdr |= bit,
         3 => case.record.mcr |= bit,
         4 => case.record.busy = rng.pick(&[8, 9, 0x8000, u16::MAX]),
+        5 => case.record.timer_status |= bit,
+        6 => case.record.timer_count = rng.pick(&[0, interval, interval.saturating_add(1)]),
         _ => case.record.clock = rng.pick(&[CLOCK_LIMIT, CLOCK_LIMIT + 1, u64::MAX]),
     }
 }

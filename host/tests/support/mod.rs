@@ -4,6 +4,7 @@
 #![allow(dead_code)]
 
 pub mod cases;
+pub mod program;
 
 use crate::reference::machine;
 use cases::Case;

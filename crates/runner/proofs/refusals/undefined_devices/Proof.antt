@@ -1,5 +1,5 @@
 -- `runner::refusals::undefined_devices` meets its contract: each test is the definition's.
-use borrow.Author.Tests.{eq-eqb, ne-eqb, le-leb, lt-leb}
+use borrow.Author.Tests.{eq-eqb, ne-eqb, le-leb, lt-leb, lt-ltb, le-ltb}
 use Rattle.run.specs.Refusals.{undefinedDevices}
 use borrow.Author.Needs.{needs}
 use Rattle.runner.proofs.refusals.undefined_devices.Statement.{statement}
@@ -28,10 +28,24 @@ returns-4 : tie.Need-returns-4
 unfolding undefinedDevices
 returns-4 c =
     rw (
-      eq-eqb _ _ (c .before .before .before .before .before .if1 .left),
-      lt-leb _ _ (c .before .before .before .if2 .left),
-      eq-eqb _ _ (c .before .if3 .left),
+      eq-eqb _ _ (c .before .before .before .before .before .before .if1 .left),
+      lt-leb _ _ (c .before .before .before .before .if2 .left),
+      eq-eqb _ _ (c .before .before .if3 .left),
+      lt-ltb _ _ (c .if4 .taken),
+    )
+
+returns-5 : tie.Need-returns-5
+unfolding undefinedDevices
+returns-5 c =
+    rw (
+      eq-eqb _ _ (c .before .before .before .before .before .before .before .if1 .left),
+      lt-leb _ _ (c .before .before .before .before .before .if2 .left),
+      eq-eqb _ _ (c .before .before .before .if3 .left),
+      le-ltb _ _ (c .before .if4 .left),
+      c .undefined-timer .ensures,
     )
 
 pub undefined-devices-spec : {M : Type 1} → statement M
-undefined-devices-spec = tie.close (tie.spec returns returns-2 returns-3 returns-4)
+undefined-devices-spec =
+    tie.close
+    (tie.spec returns returns-2 returns-3 returns-4 (λ c κs. search needs) returns-5)

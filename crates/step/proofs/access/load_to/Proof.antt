@@ -5,7 +5,6 @@ use borrow.Author.Needs.{needs}
 use Rattle.machine.specs.declared.Machine.{Machine}
 use Rattle.machine.specs.Outcome.{access}
 use Rattle.machine.specs.Access.{loadTo}
-use Rattle.step.specs.declared.Loaded.{Loaded}
 use Rattle.step.specs.Delivery.{quiet}
 use Rattle.step.proofs.access.load_to.Statement.{statement}
 use Rattle.step.proofs.access.load_to.Tie as tie
@@ -22,22 +21,12 @@ returns-2 : tie.Need-returns-2
 unfolding loadTo
 returns-2 c =
     λ clock.
-    let a = c .before .before .before .before .before .before .before .before .before .args in
-    let l = c .before .before .before .before .load .ensures (a .regs .now) clock in
-    rw (
-      ← c .before .before .before .before .before .before .before .is-denied .ensures,
-      c .before .before .before .before .before .before .if1 .left,
-    )
-    (ap (λ (m : Machine). quiet m (a .memory .now)) (c .move-to .ensures clock)
-    ∙ rw (
-      c .before .next .ensures,
-      c .before .before .before .after-load .ensures (a .a) clock (a .regs .now)
-          (ap (λ (x : Loaded). x .kbsr) l),
-      ap (λ (x : Loaded). x .value) l,
-    ))
+    let a = c .before .before .before .before .before .before .args in
+    rw (← c .before .before .before .before .is-denied .ensures, c .before .before .before .if1 .left)
+    (ap (λ (m : Machine). quiet m (a .memory .now)) (c .load-allowed .ensures clock))
 
 pub load-to-spec : {M : Type 1} → statement M
 load-to-spec =
     tie.close
     (tie.spec (λ c κs. search needs) (λ c κs. search needs) (λ c. search needs) returns (λ c κs. search needs)
-    (λ c κs. search needs) (λ c κs. search needs) (λ c κs. search needs) (λ c. search needs) returns-2)
+    (λ c. search needs) returns-2)

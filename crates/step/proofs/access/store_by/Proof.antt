@@ -4,7 +4,6 @@ use mathlib.Core.Path.{refl, ap, _∙_}
 use borrow.Author.Needs.{needs}
 use Rattle.machine.specs.Outcome.{access, withReads}
 use Rattle.machine.specs.Access.{byPointer}
-use Rattle.step.specs.declared.Loaded.{Loaded}
 use Rattle.step.specs.Delivery.{delivered}
 use Rattle.step.proofs.access.store_by.Statement.{statement}
 use Rattle.step.proofs.access.store_by.Tie as tie
@@ -28,19 +27,15 @@ returns-2 c =
     λ clock.
     let a = c .before .before .before .before .before .before .before .before .before .before .before .before .before
     .before .before .args in
-    let l = c .before .before .before .before .before .before .before .before .before .load .ensures (a .regs .now)
-    clock in
+    let after-load = c .before .before .before .before .before .before .before .before .after-load in
+    let load = c .before .before .before .before .before .before .before .before .before .load in
     rw (
       ← c .before .before .before .before .before .before .before .before .before .before .before .before .is-denied
           .ensures,
       c .before .before .before .before .before .before .before .before .before .before .before .if1 .left,
     )
     (c .before .before .before .before .store-at .ensures clock
-    ∙ rw (
-      c .before .before .before .before .before .before .before .before .after-load .ensures (a .a) clock
-          (a .regs .now) (ap (λ (x : Loaded). x .kbsr) l),
-      ap (λ (x : Loaded). x .value) l,
-    ))
+    ∙ rw (after-load .ensures (a .regs .now) clock, load .ensures (a .regs .now) clock))
 
 pub store-by-spec : {M : Type 1} → statement M
 store-by-spec =

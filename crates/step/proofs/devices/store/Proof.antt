@@ -3,7 +3,8 @@
 use mathlib.Core.Path.{refl, ap}
 use mathlib.Core.Logic.{⊎-elim, inl, inr}
 use Rattle.machine.specs.declared.Machine.{Machine}
-use Rattle.machine.specs.Devices.{isDevice, kbsrStore, psrStore, mcrStore, deviceStore, stored}
+use Rattle.machine.specs.Devices.{isDevice, kbsrStore, timerStatusStore, timerIntervalStore, psrStore, mcrStore}
+use Rattle.machine.specs.Devices.{deviceStore, stored}
 use Rattle.machine.proofs.DeviceLaws.{no-device}
 use Rattle.step.specs.Delivery.{quiet, delivered}
 use borrow.Author.Needs.{needs}
@@ -15,7 +16,7 @@ unfolding stored isDevice deviceStore kbsrStore
 returns c =
     λ regs clock.
     let a = c .before .before .before .before .before .before .args in
-    rw (c .before .before .before .match .keys1, c .unshown .ensures)
+    rw (c .before .before .before .match .keys1, c .unshown .ensures, ← c .before .before .with-enable .ensures)
     (ap (λ (m : Machine). delivered regs (a .memory .now) (a .output .now) (quiet m (a .memory .now)))
     (c .before .with-kbsr .ensures regs clock))
 
@@ -32,38 +33,60 @@ returns-3 c =
     (c .before .before .before .before .before .before .before .args .memory .now) clock refl)
 
 returns-4 : tie.Need-returns-4
-unfolding stored isDevice deviceStore psrStore
+unfolding stored isDevice deviceStore timerStatusStore
 returns-4 c =
     λ regs clock.
     let a = c .before .before .before .before .before .before .args in
-    rw (c .before .before .before .match .keys4, c .unshown3 .ensures)
+    rw (c .before .before .before .match .keys4, c .unshown3 .ensures, ← c .before .before .with-enable2 .ensures)
     (ap (λ (m : Machine). delivered regs (a .memory .now) (a .output .now) (quiet m (a .memory .now)))
-    (c .before .with-psr .ensures regs clock))
+    (c .before .with-timer .ensures regs clock))
 
 returns-5 : tie.Need-returns-5
-unfolding stored isDevice deviceStore mcrStore
+unfolding stored isDevice deviceStore timerIntervalStore
 returns-5 c =
     λ regs clock.
     let a = c .before .before .before .before .before .args in
     rw (c .before .before .match .keys5, c .unshown4 .ensures)
     (ap (λ (m : Machine). delivered regs (a .memory .now) (a .output .now) (quiet m (a .memory .now)))
-    (c .before .with-mcr .ensures regs clock))
+    (c .before .with-timer2 .ensures regs clock))
 
 returns-6 : tie.Need-returns-6
-unfolding stored
+unfolding stored isDevice deviceStore psrStore
 returns-6 c =
+    λ regs clock.
+    let a = c .before .before .before .before .before .before .args in
+    rw (c .before .before .before .match .keys6, c .unshown5 .ensures)
+    (ap (λ (m : Machine). delivered regs (a .memory .now) (a .output .now) (quiet m (a .memory .now)))
+    (c .before .with-psr .ensures regs clock))
+
+returns-7 : tie.Need-returns-7
+unfolding stored isDevice deviceStore mcrStore
+returns-7 c =
+    λ regs clock.
+    let a = c .before .before .before .before .before .args in
+    rw (c .before .before .match .keys7, c .unshown6 .ensures)
+    (ap (λ (m : Machine). delivered regs (a .memory .now) (a .output .now) (quiet m (a .memory .now)))
+    (c .before .with-mcr .ensures regs clock))
+
+returns-8 : tie.Need-returns-8
+unfolding stored
+returns-8 c =
     λ regs clock.
     let r = c .before .before .before .before .before .match .rest in
     rw (
-      no-device (c .before .before .before .before .before .before .before .before .args .a) (r .0 .0 .0 .0 .1)
-          (λ h. r .0 .0 .0 .1 (inl h)) (λ h. r .0 .0 .0 .1 (inr h)) (r .0 .0 .1) (r .0 .1) (r .1),
-      c .unshown5 .ensures,
+      no-device (c .before .before .before .before .before .before .before .before .args .a) (r .0 .0 .0 .0 .0 .0 .1)
+          (λ h. r .0 .0 .0 .0 .0 .1 (inl h)) (λ h. r .0 .0 .0 .0 .0 .1 (inr h)) (r .0 .0 .0 .0 .1) (r .0 .0 .0 .1)
+          (r .0 .0 .1) (r .0 .1) (r .1),
+      c .unshown7 .ensures,
       c .before .before .before .set-word .ensures,
     )
 
 pub store-spec : {M : Type 1} → statement M
-store-spec = tie.close (tie.spec (λ c. search needs) (λ c. search needs) (λ c. search needs) (λ c κs. search needs)
-    (λ c κs. search needs) (λ c κs. search needs) (λ c κs. search needs) (λ c. search needs) (λ c. search needs)
-    (λ c. search needs) (λ c. search needs) (λ c κs. search needs) (λ c κs. search needs) (λ c. search needs)
-    (λ c κs. search needs) (λ c κs. search needs) (λ c κs. search needs) (λ c κs. search needs) returns returns-2
-    (λ c. search needs) returns-3 returns-4 returns-5 (λ c. search needs) returns-6)
+store-spec =
+    tie.close
+    (tie.spec (λ c κs. search needs) (λ c κs. search needs) (λ c κs. search needs) (λ c κs. search needs)
+    (λ c κs. search needs) (λ c κs. search needs) (λ c κs. search needs) (λ c κs. search needs)
+    (λ c κs. search needs) (λ c κs. search needs) (λ c. search needs) (λ c. search needs) (λ c. search needs)
+    (λ c. search needs) (λ c κs. search needs) (λ c κs. search needs) (λ c. search needs) (λ c κs. search needs)
+    (λ c κs. search needs) (λ c κs. search needs) (λ c κs. search needs) returns returns-2 (λ c. search needs)
+    returns-3 returns-4 returns-5 returns-6 returns-7 (λ c. search needs) returns-8)
