@@ -3,14 +3,14 @@
  * C++. For x86-64 with the System V calling convention.
  *
  *   lc3_version  the version of the interface that the library was built for
- *   lc3_fresh    makes the record of a machine that has not run yet
+ *   lc3_start    loads an object file into lent memory, and makes the record of a machine that is
+ *                to run it
  *   lc3_run      runs up to n steps over lent memory
  *   lc3_step     runs one step and alters the host's own record
  *   lc3_read     reads a word as an instruction, and tells which fixed bits are wrong
  *   lc3_write    writes an instruction as a word
  *   lc3_line     writes a word as a line of text; lc3_line_length counts its bytes
  *   lc3_page     writes the words of a range of lent memory as lines of text
- *   lc3_load     reads an object file into lent memory
  *   lc3_save     writes an object file from a range of lent memory
  *   lc3_monitor  puts the ready-made monitor into lent memory; lc3_monitor_routines says where
  *                its routines are
@@ -25,8 +25,8 @@
  *   aligned pointer but NULL. Memory, times, bytes, output, file and the record lent to lc3_step
  *   may not overlap.
  * - Several threads may call at once. What a call only reads they may share while nobody writes
- *   it: times and bytes of lc3_run and lc3_step, file of lc3_load, memory of lc3_page and
- *   lc3_save. What a call writes is that call's alone: memory of lc3_run, lc3_step, lc3_load and
+ *   it: times and bytes of lc3_run and lc3_step, file of lc3_start, memory of lc3_page and
+ *   lc3_save. What a call writes is that call's alone: memory of lc3_run, lc3_step, lc3_start and
  *   lc3_monitor, every output, and the record lent to lc3_step.
  * - Every call is answered. One that cannot be obeyed is refused with a number that says why, and
  *   a refused call leaves every field of the record and every buffer as it was.
@@ -52,7 +52,7 @@ extern "C" {
  * call changes. The name that the shared library is loaded by (its SONAME) ends in it, as in
  * liblc3.so.3, so that no host meets another version than it was built for.
  */
-#define LC3_VERSION 6
+#define LC3_VERSION 7
 
 /* Sizes and limits. */
 #define LC3_MEMORY_WORDS 65536            /* words of memory: no other number is accepted */
@@ -110,7 +110,7 @@ extern "C" {
  *   lc3_run, lc3_step   11, 12, 13, 14, then 15 and 19 together, entry by entry
  *   lc3_line            16
  *   lc3_page            11, 20, 16
- *   lc3_load            11, 17, 18
+ *   lc3_start           11, 17, 18
  *   lc3_save            11, 18, 16
  *   lc3_monitor         11
  *   lc3_vectors         16
@@ -254,12 +254,12 @@ typedef struct {
     uint32_t refusal; /* LC3_ACCEPTED, or LC3_REFUSED_REGISTER to LC3_REFUSED_MASK */
 } lc3_written;
 
-/* What lc3_load answers; zeros where refused. */
+/* What lc3_start answers. Where refused, every field of the record and the words are 0. */
 typedef struct {
-    uint32_t words;   /* words of the file, its origin not counted */
-    uint16_t origin;  /* address of the first */
-    uint32_t refusal; /* LC3_ACCEPTED, LC3_REFUSED_MEMORY, LC3_REFUSED_FILE or LC3_REFUSED_RANGE */
-} lc3_loaded;
+    lc3_record record; /* a fresh machine at the file's origin */
+    uint32_t words;    /* words of the file, its origin not counted */
+    uint32_t refusal;  /* LC3_ACCEPTED, LC3_REFUSED_MEMORY, LC3_REFUSED_FILE or LC3_REFUSED_RANGE */
+} lc3_started;
 
 /* What lc3_line, lc3_page and lc3_save answer, which write bytes to a lent output. */
 typedef struct {
@@ -282,12 +282,22 @@ typedef struct {
 uint32_t lc3_version(void);
 
 /*
- * Makes the record of a machine that has not run yet. It stands at pc, in User mode if user holds
- * and in Supervisor mode if not, with condition code Z, priority 0, clock 0 and the clock enabled.
- * The supervisor stack begins at x3000 and the user stack at user_stack: R6 is the current mode's
- * pointer, the other one is saved. All else is 0.
+ * Loads an object file into memory and makes the record of a machine that is to run it.
+ *
+ * The file's first word is the origin, and the others are stored from there on; each is two bytes,
+ * the high byte first. No other word of memory changes.
+ *
+ * The record stands at the origin, in User mode if user holds and in Supervisor mode if not, with
+ * condition code Z, priority 0, clock 0 and the clock enabled. The supervisor stack begins at x3000
+ * and the user stack at user_stack: R6 is the current mode's pointer, the other one is saved. All
+ * else is 0. No run is refused for such a record, or for such a memory.
+ *
+ * A host with several files, such as a monitor, answers and a candidate's program, starts each, the
+ * one that is to run last, and keeps the last record. A file of two bytes, an origin alone, starts
+ * a machine at that address with nothing loaded.
  */
-lc3_record lc3_fresh(uint16_t pc, bool user, uint16_t user_stack);
+lc3_started lc3_start(const uint8_t *file, size_t file_len, uint16_t *memory, size_t memory_len,
+                      bool user, uint16_t user_stack);
 
 /*
  * Runs a machine for up to n steps. It stops earlier where the machine is halted or the output is
@@ -358,13 +368,6 @@ lc3_counted lc3_page(const uint16_t *memory, size_t memory_len, uint16_t first, 
                      uint8_t *output, size_t output_len);
 
 /*
- * Reads an object file into memory. The file's first word is the origin, and the others are stored
- * from there on; each is two bytes, the high byte first. No other word of memory changes. A file of
- * two bytes has no words and is accepted.
- */
-lc3_loaded lc3_load(const uint8_t *file, size_t file_len, uint16_t *memory, size_t memory_len);
-
-/*
  * Writes a range of memory as an object file. The range is that of the given number of words from
  * origin on; the file takes 2 + 2 * words bytes from the start of output, and what lies after them
  * is left as lent. A range of no words is a file of two bytes.
@@ -378,8 +381,8 @@ lc3_counted lc3_save(const uint16_t *memory, size_t memory_len, uint16_t origin,
  * the three exceptions halt and show nothing; interrupts return at once. docs/MONITOR.md describes
  * them, docs/monitor.lst lists them. Answers the refusal.
  *
- * A candidate's program then starts in User mode, by lc3_fresh(origin, true, user_stack). The
- * routines use the supervisor stack from x2FFF down to x2FF8.
+ * A candidate's program is then started in User mode, by lc3_start. The routines use the supervisor
+ * stack from x2FFF down to x2FF8.
  */
 uint32_t lc3_monitor(uint16_t *memory, size_t memory_len);
 
@@ -452,10 +455,10 @@ LC3_LAYOUT(sizeof(lc3_written) == 8);
 LC3_LAYOUT(offsetof(lc3_written, word) == 0);
 LC3_LAYOUT(offsetof(lc3_written, refusal) == 4);
 
-LC3_LAYOUT(sizeof(lc3_loaded) == 12);
-LC3_LAYOUT(offsetof(lc3_loaded, words) == 0);
-LC3_LAYOUT(offsetof(lc3_loaded, origin) == 4);
-LC3_LAYOUT(offsetof(lc3_loaded, refusal) == 8);
+LC3_LAYOUT(sizeof(lc3_started) == 56);
+LC3_LAYOUT(offsetof(lc3_started, record) == 0);
+LC3_LAYOUT(offsetof(lc3_started, words) == 48);
+LC3_LAYOUT(offsetof(lc3_started, refusal) == 52);
 
 LC3_LAYOUT(sizeof(lc3_counted) == 16);
 LC3_LAYOUT(offsetof(lc3_counted, count) == 0);

@@ -173,7 +173,7 @@ static double now(void) {
 /* Nanoseconds per step of a program, over calls of the full length for about the given time. */
 static double time_steps(run_function *run, const program *p, double ns) {
     static uint8_t output[MOST_SHOWN];
-    lc3_record record = load_program(lent, p);
+    lc3_record record = start_program(lent, p);
     uint64_t steps = 0;
     double start = now(), end = start;
     while (end - start < ns) {
@@ -246,7 +246,7 @@ static void write_words(void) {
 /* Nanoseconds per call. */
 static double time_calls(void (*batch)(void), unsigned repeats, double ns) {
     double best = 1e9;
-    single = load_program(lent, &programs[0]);
+    single = start_program(lent, &programs[0]);
     for (unsigned i = 0; i < repeats; i++) {
         double start = now(), end = start;
         unsigned calls = 0;

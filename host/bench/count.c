@@ -20,7 +20,7 @@ int main(int argc, char **argv) {
     uint8_t byte = 0;
     for (int p = 0; p < PROGRAMS; p++) {
         if (strcmp(argv[2], programs[p].name)) continue;
-        lc3_record record = load_program(memory, &programs[p]);
+        lc3_record record = start_program(memory, &programs[p]);
         lc3_answer a =
             run(record, memory, LC3_MEMORY_WORDS, &time, 0, &byte, 0, output, sizeof output, steps);
         return a.steps != steps;

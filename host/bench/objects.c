@@ -1,5 +1,5 @@
 /*
- * Times the reading and writing of an object file of 65,535 words against a copy that swaps the
+ * Times the starting and writing of an object file of 65,535 words against a copy that swaps the
  * bytes of as many words, and prints for each a line of nanoseconds: library, copy.
  *
  *   objects REPEATS CALLS   the best of so many repeats, each of so many calls
@@ -22,8 +22,8 @@ __attribute__((noinline)) static void swap_copy(uint16_t *restrict to,
     for (size_t i = 0; i < words; i++) to[i] = (uint16_t)(from[i] << 8 | from[i] >> 8);
 }
 
-static void load(void) {
-    if (lc3_load(file, BYTES, memory, LC3_MEMORY_WORDS).words != WORDS) abort();
+static void start(void) {
+    if (lc3_start(file, BYTES, memory, LC3_MEMORY_WORDS, true, 0).words != WORDS) abort();
 }
 
 static void save(void) {
@@ -42,12 +42,12 @@ static double now(void) {
 
 /* Nanoseconds a call. */
 static double timed(void (*call)(void), int calls) {
-    double start = now();
+    double began = now();
     for (int i = 0; i < calls; i++) {
         call();
         __asm__ volatile("" ::: "memory");
     }
-    return (now() - start) / calls;
+    return (now() - began) / calls;
 }
 
 /* The two are timed in turn, so that both meet the same load of the machine. */
@@ -67,10 +67,10 @@ int main(int argc, char **argv) {
     for (int i = 0; i < BYTES; i++) file[i] = (uint8_t)(i * 7 + i / 256);
     file[0] = 0;
     file[1] = 1;
-    load();
+    start();
     save();
     if (memcmp(file, written, BYTES) != 0) abort();
-    compare("lc3_load", load, copy_in, repeats, calls);
+    compare("lc3_start", start, copy_in, repeats, calls);
     compare("lc3_save", save, copy_out, repeats, calls);
     return 0;
 }

@@ -1,5 +1,5 @@
 #!/bin/sh
-# Times the reading and writing of an object file against a byte-swapping copy in C, and prints a
+# Times the starting and writing of an object file against a byte-swapping copy in C, and prints a
 # table. Exits 1 where the library takes more than OBJECTS_LIMIT of the copy's time.
 #
 #   LC3_LIB_DIR       where liblc3.a is         build

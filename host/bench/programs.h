@@ -154,12 +154,16 @@ static const program programs[] = {
 enum { PROGRAMS = sizeof programs / sizeof *programs };
 
 /*
- * Loads a program, and the vectors and routines of traps and timer, into cleared memory. Answers the
- * record to start with.
+ * Starts a program as the object file of its words, over the vectors and routines of traps and timer
+ * in memory that is otherwise cleared. Answers the record to start with.
  */
-static inline lc3_record load_program(uint16_t *memory, const program *p) {
+static inline lc3_record start_program(uint16_t *memory, const program *p) {
+    uint8_t file[2 + 2 * 64] = {0x30, 0x00};
+    for (size_t i = 0; i < p->length; i++) {
+        file[2 + 2 * i] = p->words[i] >> 8;
+        file[3 + 2 * i] = p->words[i] & 0xFF;
+    }
     memset(memory, 0, LC3_MEMORY_WORDS * sizeof *memory);
-    memcpy(memory + 0x3000, p->words, p->length * sizeof *memory);
     memory[0x0025] = 0x0200;
     memory[0x0200] = 0x8000; /* RTI */
     memory[0x0020] = 0x0210;
@@ -168,7 +172,8 @@ static inline lc3_record load_program(uint16_t *memory, const program *p) {
     memcpy(memory + 0x0220, out_words, sizeof out_words);
     memory[0x0181] = 0x0230;
     memcpy(memory + 0x0230, timer_words, sizeof timer_words);
-    lc3_record record = lc3_fresh(0x3000, true, 0xFDFF);
+    lc3_record record =
+        lc3_start(file, 2 + 2 * p->length, memory, LC3_MEMORY_WORDS, true, 0xFDFF).record;
     record.timer_interval = record.timer_count = p->interval;
     if (p->interval) record.timer_status = LC3_TSR_INTERRUPT;
     return record;

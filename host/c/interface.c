@@ -92,8 +92,14 @@ typedef struct {
     uint64_t n;
 } arguments;
 
+/* A machine at an address, with nothing loaded: a file of two bytes. */
+static lc3_started start_at(uint16_t origin, bool user) {
+    uint8_t file[2] = {origin >> 8, origin & 0xFF};
+    return lc3_start(file, sizeof file, memory, WORDS, user, 0xFDFF);
+}
+
 static arguments usual(void) {
-    return (arguments){.record = lc3_fresh(0x3000, true, 0xFDFF),
+    return (arguments){.record = start_at(0x3000, true).record,
                        .memory_len = WORDS,
                        .output_len = OUTPUT,
                        .n = 1};
@@ -133,24 +139,6 @@ static void check_answer(const lc3_answer *got, const lc3_answer *wanted) {
 static void test_version(void) {
     part = "version";
     CHECK(lc3_version(), LC3_VERSION);
-}
-
-/* ---- A fresh record ---- */
-
-static void test_fresh(void) {
-    part = "fresh record";
-    lc3_record user = lc3_fresh(0x3000, true, 0xFDFF);
-    check_record(&user, &(lc3_record){.regs = {[6] = 0xFDFF},
-                                      .pc = 0x3000,
-                                      .psr = LC3_PSR_USER | LC3_PSR_Z,
-                                      .saved_ssp = 0x3000,
-                                      .mcr = LC3_MCR_CLOCK});
-    lc3_record supervisor = lc3_fresh(0x0200, false, 0xFDFF);
-    check_record(&supervisor, &(lc3_record){.regs = {[6] = 0x3000},
-                                            .pc = 0x0200,
-                                            .psr = LC3_PSR_Z,
-                                            .saved_usp = 0xFDFF,
-                                            .mcr = LC3_MCR_CLOCK});
 }
 
 /* ---- The fourteen examples ---- */
@@ -390,7 +378,7 @@ static void test_refused_steps(void) {
     check_refusal("clock 2^48 - 1, n = 1", &c, LC3_ACCEPTED);
     c.n = 2;
     check_refusal("clock 2^48 - 1, n = 2", &c, LC3_REFUSED_STEPS);
-    c.record = lc3_fresh(0x3000, true, 0xFDFF);
+    c.record = start_at(0x3000, true).record;
     c.record.mcr = 0;
     c.n = LC3_MAX_STEPS;
     check_refusal("halted, n = 1,048,576", &c, LC3_ACCEPTED);
@@ -491,7 +479,7 @@ static void test_halted(void) {
     clear_buffers();
     part = "halted by a store to the MCR";
     arguments c = usual();
-    c.record = lc3_fresh(0x0200, false, 0xFDFF);
+    c.record = start_at(0x0200, false).record;
     c.n = 5;
     memory[0x0200] = 0xB001; /* STI R0, x0202 */
     memory[0x0202] = LC3_ADDRESS_MCR;
@@ -528,7 +516,7 @@ static void test_output_full(void) {
     write_cells(memory, alphabet, sizeof alphabet / sizeof *alphabet);
     part = "output full";
     arguments c = usual();
-    c.record = lc3_fresh(0x0200, false, 0xFDFF);
+    c.record = start_at(0x0200, false).record;
     c.record.regs[0] = 'A';
     c.n = 100;
     c.output_len = 3;
@@ -554,7 +542,7 @@ static void test_output_full(void) {
 static void test_room_again(void) {
     part = "room again";
     arguments c = usual();
-    c.record = lc3_fresh(0x0200, false, 0xFDFF);
+    c.record = start_at(0x0200, false).record;
     c.record.regs[0] = 'J';
     c.record.clock = 27;
     c.output_len = 1;
@@ -582,7 +570,7 @@ static void test_busy(void) {
     static const cell stores[] = {{0x0200, 0xB001}, {0x0202, LC3_ADDRESS_DDR}}; /* STI R0, x0202 */
     for (uint16_t busy = 0; busy <= LC3_MAX_BUSY; busy++) {
         arguments c = usual();
-        c.record = lc3_fresh(0x0200, false, 0xFDFF);
+        c.record = start_at(0x0200, false).record;
         c.record.busy = busy;
         c.output_len = 0;
         lc3_record after = c.record;
@@ -918,12 +906,14 @@ static void test_write(void) {
 
 /* ---- Object files ---- */
 
-static void check_load(const char *name, const uint8_t *file, size_t length, size_t memory_len,
-                       lc3_loaded wanted) {
+static const lc3_record no_record; /* all zero */
+
+static void check_start(const char *name, const uint8_t *file, size_t length, size_t memory_len,
+                        bool user, lc3_started wanted) {
     part = name;
-    lc3_loaded got = lc3_load(file, length, memory, memory_len);
+    lc3_started got = lc3_start(file, length, memory, memory_len, user, 0xFDFF);
+    check_record(&got.record, &wanted.record);
     CHECK(got.words, wanted.words);
-    CHECK(got.origin, wanted.origin);
     CHECK(got.refusal, wanted.refusal);
     check_buffers();
 }
@@ -937,17 +927,43 @@ static void check_save(const char *name, size_t memory_len, uint16_t origin, siz
     check_buffers();
 }
 
-static void test_load(void) {
+static void test_refused_start(void) {
     static const uint8_t file[] = {0xFF, 0xFF, 0x12, 0x34, 0x56, 0x78};
-    clear_buffers();
+    fill_memory();
     keep_buffers();
-    check_load("memory too long", file, 3, WORDS + 1, (lc3_loaded){0, 0, LC3_REFUSED_MEMORY});
-    check_load("no origin", file, 1, WORDS, (lc3_loaded){0, 0, LC3_REFUSED_FILE});
-    check_load("odd file", file, 5, WORDS, (lc3_loaded){0, 0, LC3_REFUSED_FILE});
-    check_load("beyond memory", file, 6, WORDS, (lc3_loaded){0, 0, LC3_REFUSED_RANGE});
-    check_load("file without words", file, 2, WORDS, (lc3_loaded){0, 0xFFFF, LC3_ACCEPTED});
+    for (int user = 0; user < 2; user++) {
+        check_start("memory too long", file, 3, WORDS + 1, user,
+                    (lc3_started){no_record, 0, LC3_REFUSED_MEMORY});
+        check_start("no origin", file, 1, WORDS, user,
+                    (lc3_started){no_record, 0, LC3_REFUSED_FILE});
+        check_start("odd file", file, 5, WORDS, user,
+                    (lc3_started){no_record, 0, LC3_REFUSED_FILE});
+        check_start("beyond memory", file, 6, WORDS, user,
+                    (lc3_started){no_record, 0, LC3_REFUSED_RANGE});
+    }
+}
+
+static void test_start(void) {
+    static const uint8_t file[] = {0xFF, 0xFF, 0x12, 0x34};
+    const lc3_record user = {.regs = {[6] = 0xFDFF},
+                             .pc = 0xFFFF,
+                             .psr = LC3_PSR_USER | LC3_PSR_Z,
+                             .saved_ssp = 0x3000,
+                             .mcr = LC3_MCR_CLOCK};
+    const lc3_record supervisor = {.regs = {[6] = 0x3000},
+                                   .pc = 0xFFFF,
+                                   .psr = LC3_PSR_Z,
+                                   .saved_usp = 0xFDFF,
+                                   .mcr = LC3_MCR_CLOCK};
+    fill_memory();
+    keep_buffers();
+    check_start("without words, User mode", file, 2, WORDS, true, (lc3_started){user, 0, 0});
+    check_start("without words, Supervisor mode", file, 2, WORDS, false,
+                (lc3_started){supervisor, 0, 0});
     wanted_memory[0xFFFF] = 0x1234;
-    check_load("last word of memory", file, 4, WORDS, (lc3_loaded){1, 0xFFFF, LC3_ACCEPTED});
+    check_start("last word of memory, User mode", file, 4, WORDS, true, (lc3_started){user, 1, 0});
+    check_start("last word of memory, Supervisor mode", file, 4, WORDS, false,
+                (lc3_started){supervisor, 1, 0});
 }
 
 static void test_save(void) {
@@ -1081,8 +1097,9 @@ static void test_halt(void) {
     part = "halt";
     clear_buffers();
     CHECK(lc3_monitor(memory, WORDS), LC3_ACCEPTED);
-    memory[0x3000] = 0xF025;
+    static const uint8_t file[] = {0x30, 0x00, 0xF0, 0x25};
     arguments c = usual();
+    c.record = lc3_start(file, sizeof file, memory, WORDS, true, 0xFDFF).record;
     c.n = 1000;
     lc3_answer a = run(&c);
     CHECK(a.stop, LC3_HALTED);
@@ -1092,7 +1109,6 @@ static void test_halt(void) {
 
 int main(void) {
     test_version();
-    test_fresh();
     test_examples();
     test_refusals();
     test_done();
@@ -1108,7 +1124,8 @@ int main(void) {
     test_write();
     test_line();
     test_page();
-    test_load();
+    test_refused_start();
+    test_start();
     test_save();
     test_vectors();
     test_monitor();

@@ -79,34 +79,45 @@ const TASK: [u16; 9] = [
 /// The names of the tasks, and where they stand.
 const TASKS: [(&str, u16); 2] = [("letters", 0x3000), ("digits", 0x4000)];
 
-/// Puts a task into memory, and on its supervisor stack what SWITCH would have left there: R0 to R5
-/// and R7, the PC, and the PSR of User mode. Answers R6.
-fn install(memory: &mut [u16], task: &[u16], at: u16, supervisor_stack: u16) -> u16 {
-    memory[usize::from(at)..][..task.len()].copy_from_slice(task);
-    let frame = [0, 0, 0, 0, 0, 0, 0, at, 0x8002];
-    let r6 = supervisor_stack - frame.len() as u16;
-    memory[usize::from(r6)..][..frame.len()].copy_from_slice(&frame);
-    r6
+/// The object file of words from an origin on.
+fn file(origin: u16, words: &[u16]) -> Vec<u8> {
+    [&[origin], words].concat().into_iter().flat_map(u16::to_be_bytes).collect()
 }
 
-/// The memory of the whole: monitor, routines, and both tasks.
-fn memory() -> Result<Vec<u16>, lc3::Error> {
+/// Puts a task into memory, and on its supervisor stack what SWITCH would have left there: R0 to R5
+/// and R7, and PC and PSR of a start in User mode. Answers R6.
+fn install(
+    memory: &mut [u16],
+    task: &[u16],
+    at: u16,
+    supervisor_stack: u16,
+) -> Result<u16, lc3::Error> {
+    let Record { pc, psr, .. } = lc3::start(&file(at, task), memory, Mode::User, 0xFDFF)?.record;
+    let frame = [0, 0, 0, 0, 0, 0, 0, pc, psr];
+    let r6 = supervisor_stack - frame.len() as u16;
+    memory[usize::from(r6)..][..frame.len()].copy_from_slice(&frame);
+    Ok(r6)
+}
+
+/// The memory of the whole: monitor, both tasks, and routines. These are started last, and theirs is
+/// the record to begin with.
+fn machine() -> Result<(Record, Vec<u16>), lc3::Error> {
     let mut memory = vec![0; WORDS];
     lc3::install_monitor(&mut memory)?;
-    memory[usize::from(START)..][..ROUTINES.len()].copy_from_slice(&ROUTINES);
     memory[TIMER_VECTOR] = SWITCH;
     let mut digits = TASK;
     (digits[7], digits[8]) = (u16::from(b'0'), u16::from(b'9' + 1).wrapping_neg());
-    let first = install(&mut memory, &TASK, TASKS[0].1, 0x3000);
-    let other = install(&mut memory, &digits, TASKS[1].1, 0x2F00);
+    let first = install(&mut memory, &TASK, TASKS[0].1, 0x3000)?;
+    let other = install(&mut memory, &digits, TASKS[1].1, 0x2F00)?;
     assert_eq!([first, other], ROUTINES[31..], "FIRST and OTHER");
-    Ok(memory)
+    let routines = file(START, &ROUTINES);
+    let record = lc3::start(&routines, &mut memory, Mode::Supervisor, 0xFDFF)?.record;
+    Ok((record, memory))
 }
 
 /// Runs so many turns, and tells of each when and where it ended and what it showed.
 fn report(turns: usize) -> Result<String, lc3::Error> {
-    let mut memory = memory()?;
-    let mut record = Record::fresh(START, Mode::Supervisor, 0xFDFF);
+    let (mut record, mut memory) = machine()?;
     let (mut display, mut text) = (String::new(), String::new());
     text.push_str("turn  task     ended at step  interrupted at  showed\n");
     for turn in 1..=turns {

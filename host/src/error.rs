@@ -7,11 +7,13 @@ use std::fmt;
 /// Why a call was refused, whichever call it was: every refusal converts into it.
 ///
 /// ```
+/// use lc3::Mode;
+///
 /// fn first_line(file: &[u8]) -> Result<String, lc3::Error> {
 ///     let mut memory = vec![0; lc3::WORDS];
-///     let loaded = lc3::load(file, &mut memory)?;
+///     let started = lc3::start(file, &mut memory, Mode::User, 0xFDFF)?;
 ///     let mut output = [0; lc3::LINE_LIMIT];
-///     let count = lc3::line(memory[usize::from(loaded.origin)], &mut output)?;
+///     let count = lc3::line(memory[usize::from(started.record.pc)], &mut output)?;
 ///     Ok(String::from_utf8_lossy(&output[..count]).into_owned())
 /// }
 ///
@@ -31,7 +33,7 @@ pub enum Error {
     Line(LineRefusal),
     /// A page was not written.
     Page(PageRefusal),
-    /// An object file was not read or not written.
+    /// An object file was not started or not written.
     Object(ObjectRefusal),
     /// The monitor was not put into memory.
     Monitor(MonitorRefusal),

@@ -84,14 +84,14 @@ pub struct Written {
     pub refusal: u32,
 }
 
-/// What reading an object file answers: `lc3_loaded`.
+/// What starting an object file answers: `lc3_started`.
 #[repr(C)]
 #[derive(Clone, Copy, Debug, PartialEq, Eq)]
-pub struct Loaded {
-    /// The words of the file, its origin not counted.
+pub struct Started {
+    /// A fresh record at the file's origin, or all 0 if refused.
+    pub record: Record,
+    /// The words of the file, its origin not counted, or 0 if refused.
     pub words: u32,
-    /// The address of the first.
-    pub origin: u16,
     /// 0, or the number of the refusal: 11, 17 or 18.
     pub refusal: u32,
 }
@@ -156,9 +156,9 @@ const _: () = assert!(size_of::<Reading>() == 12 && align_of::<Reading>() == 4);
 const _: () = assert!(offset_of!(Reading, instruction) == 0 && offset_of!(Reading, mask) == 8);
 const _: () = assert!(size_of::<Written>() == 8 && align_of::<Written>() == 4);
 const _: () = assert!(offset_of!(Written, word) == 0 && offset_of!(Written, refusal) == 4);
-const _: () = assert!(size_of::<Loaded>() == 12 && align_of::<Loaded>() == 4);
-const _: () = assert!(offset_of!(Loaded, words) == 0 && offset_of!(Loaded, origin) == 4);
-const _: () = assert!(offset_of!(Loaded, refusal) == 8);
+const _: () = assert!(size_of::<Started>() == 56 && align_of::<Started>() == 8);
+const _: () = assert!(offset_of!(Started, record) == 0 && offset_of!(Started, words) == 48);
+const _: () = assert!(offset_of!(Started, refusal) == 52);
 const _: () = assert!(size_of::<Counted>() == 16 && align_of::<Counted>() == 8);
 const _: () = assert!(offset_of!(Counted, count) == 0 && offset_of!(Counted, refusal) == 8);
 const _: () = assert!(size_of::<Routines>() == 18 && align_of::<Routines>() == 2);
@@ -171,9 +171,6 @@ const _: () = assert!(offset_of!(Routines, interrupt) == 16);
 unsafe extern "C" {
     /// The version of the interface that the library was built for.
     pub safe fn lc3_version() -> u32;
-
-    /// Makes a fresh record.
-    pub safe fn lc3_fresh(pc: u16, user: bool, user_stack: u16) -> Record;
 
     /// Reads a word as an instruction.
     pub safe fn lc3_read(word: u16) -> Reading;
@@ -243,18 +240,20 @@ unsafe extern "C" {
         output_len: usize,
     ) -> Report;
 
-    /// Reads an object file into memory.
+    /// Loads an object file into memory, and makes a fresh record at its origin.
     ///
     /// # Safety
     ///
     /// Each pointer must be valid for its number of elements, `memory` also for writing, and the
     /// two buffers may not overlap.
-    pub fn lc3_load(
+    pub fn lc3_start(
         file: *const u8,
         file_len: usize,
         memory: *mut u16,
         memory_len: usize,
-    ) -> Loaded;
+        user: bool,
+        user_stack: u16,
+    ) -> Started;
 
     /// Writes an object file from a range of memory.
     ///

@@ -1,14 +1,14 @@
 //! The LC-3 with privilege, interrupts, a console and a timer.
 //!
-//! This crate is a safe wrapper of the static library `liblc3.a`. It has the library's fourteen calls:
+//! This crate is a safe wrapper of the static library `liblc3.a`. It has the library's thirteen calls:
 //!
 //! - [`version()`], the version of the interface;
-//! - [`Record::fresh`] for a machine that has not run yet, [`run`](run()) for a number of steps over
-//!   lent memory, and [`step`] for one step, which alters the record that it is lent;
+//! - [`start`] for an object file and a machine that is to run it, [`run`](run()) for a number of
+//!   steps over lent memory, and [`step`] for one step, which alters the record that it is lent;
 //! - [`read`] for a word as an instruction, [`write`](write()) for an instruction as a word;
 //! - [`line`](line()) for a word as a line of text, [`line_length`] for the bytes of that line, and
 //!   [`page`] for a range of memory as lines;
-//! - [`load`] and [`save`] for object files;
+//! - [`save`] for a range of memory as an object file;
 //! - [`install_monitor`] for the ready-made monitor, [`Routines::of_monitor`] for the addresses of its
 //!   routines, and [`vectors`] for the vector words of any monitor.
 //!
@@ -22,20 +22,21 @@
 //! A program in Supervisor mode that shows one byte and then clears bit 15 of MCR:
 //!
 //! ```
-//! use lc3::{Keys, Mode, Record, Stop};
+//! use lc3::{Keys, Mode, Stop};
 //!
+//! let file = [
+//!     0x30, 0x00, // the origin
+//!     0x20, 0x03, // LD R0, x3004
+//!     0xB0, 0x03, // STI R0, x3005
+//!     0x50, 0x20, // AND R0, R0, #0
+//!     0xB0, 0x02, // STI R0, x3006
+//!     0x00, 0x41, // the letter A
+//!     0xFE, 0x06, // DDR
+//!     0xFF, 0xFE, // MCR
+//! ];
 //! let mut memory = vec![0; lc3::WORDS];
-//! memory[0x3000..0x3007].copy_from_slice(&[
-//!     0x2003, // LD R0, x3004
-//!     0xB003, // STI R0, x3005
-//!     0x5020, // AND R0, R0, #0
-//!     0xB002, // STI R0, x3006
-//!     0x0041, // the letter A
-//!     0xFE06, // DDR
-//!     0xFFFE, // MCR
-//! ]);
 //! let mut output = [0; 8];
-//! let record = Record::fresh(0x3000, Mode::Supervisor, 0xFDFF);
+//! let record = lc3::start(&file, &mut memory, Mode::Supervisor, 0xFDFF)?.record;
 //! let run = lc3::run(record, &mut memory, Keys::NONE, &mut output, 1000)?;
 //! assert_eq!(run.stop, Stop::Halted);
 //! assert_eq!((run.steps, run.shown), (4, 1));
@@ -60,7 +61,7 @@ pub use line::{line, line_length, line_string, page, LineRefusal, PageRefusal, L
 pub use monitor::{
     install_monitor, vectors, MonitorRefusal, Routines, MONITOR_WORDS, VECTOR_WORDS,
 };
-pub use object::{load, save, Loaded, ObjectRefusal};
+pub use object::{save, start, ObjectRefusal, Started};
 pub use record::{Mode, Record};
 pub use run::{run, step, Keys, Refusal, Run, StepReport, Stop, CLOCK_LIMIT, STEP_LIMIT, WORDS};
 

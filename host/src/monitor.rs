@@ -64,13 +64,13 @@ impl std::error::Error for MonitorRefusal {}
 /// A refused call alters nothing.
 ///
 /// ```
-/// use lc3::{Keys, Mode, Record, Stop};
+/// use lc3::{Keys, Mode, Stop};
 ///
 /// let mut memory = vec![0; lc3::WORDS];
 /// lc3::install_monitor(&mut memory)?;
-/// memory[0x3000] = 0xF025; // TRAP x25: HALT
+/// let file = [0x30, 0x00, 0xF0, 0x25]; // at x3000, TRAP x25: HALT
+/// let record = lc3::start(&file, &mut memory, Mode::User, 0xFDFF)?.record;
 /// let mut output = [0; 80];
-/// let record = Record::fresh(0x3000, Mode::User, 0xFDFF);
 /// let run = lc3::run(record, &mut memory, Keys::NONE, &mut output, 1000)?;
 /// assert_eq!(run.stop, Stop::Halted);
 /// assert_eq!(&output[..run.shown], b"Halted\n");

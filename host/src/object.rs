@@ -1,20 +1,20 @@
 //! Object files.
 
 use crate::error::accepted;
-use crate::ffi;
+use crate::{ffi, Mode, Record};
 use std::fmt;
 
-/// What reading a file answers.
+/// What starting a file answers.
 #[derive(Clone, Copy, Debug, PartialEq, Eq)]
-pub struct Loaded {
-    /// The address of the first word.
-    pub origin: u16,
-    /// The words read, from the origin on.
+pub struct Started {
+    /// A machine that has not run yet, at the file's origin.
+    pub record: Record,
+    /// The words loaded, from the origin on.
     pub words: usize,
 }
 
-/// Why an object file was not read or not written. Where several apply, the first is answered, in
-/// the order memory, file, range for [`load`] and memory, range, output for [`save`].
+/// Why an object file was not started or not written. Where several apply, the first is answered,
+/// in the order memory, file, range for [`start`] and memory, range, output for [`save`].
 #[derive(Clone, Copy, Debug, PartialEq, Eq, Hash)]
 #[non_exhaustive]
 pub enum ObjectRefusal {
@@ -60,28 +60,58 @@ impl fmt::Display for ObjectRefusal {
 
 impl std::error::Error for ObjectRefusal {}
 
-/// Reads an object file into memory: the first word of the file is the origin, and the others are
-/// stored from there on, each with its high byte first. No other word of memory changes.
+/// Loads an object file into memory, and answers the record of a machine that is to run it.
+///
+/// The first word of the file is the origin, and the others are stored from there on, each with its
+/// high byte first. No other word of memory changes.
+///
+/// The record stands at the origin in the given mode, with the code Z and priority 0. The
+/// supervisor's stack begins at x3000. R6 is the stack pointer of the mode, and that of the other
+/// mode is saved. No run is refused for this record.
+///
+/// A host with several files starts each, the one that is to run last, and keeps the last record. A
+/// file of two bytes starts a machine at an address, with nothing loaded.
 ///
 /// A refused call alters nothing.
 ///
 /// ```
-/// use lc3::{Loaded, ObjectRefusal};
+/// use lc3::{Mode, ObjectRefusal};
 ///
 /// let mut memory = vec![0; lc3::WORDS];
 /// let file = [0x30, 0x00, 0x14, 0xE7, 0xF0, 0x25];
-/// assert_eq!(lc3::load(&file, &mut memory), Ok(Loaded { origin: 0x3000, words: 2 }));
+/// let started = lc3::start(&file, &mut memory, Mode::User, 0xFDFF)?;
 /// assert_eq!(memory[0x3000..0x3003], [0x14E7, 0xF025, 0]);
+/// assert_eq!(started.words, 2);
 ///
-/// assert_eq!(lc3::load(&file[..5], &mut memory), Err(ObjectRefusal::File));
+/// let record = started.record;
+/// assert_eq!((record.pc, record.psr, record.mcr), (0x3000, 0x8002, 0x8000));
+/// assert_eq!((record.regs[6], record.saved_ssp), (0xFDFF, 0x3000));
+/// assert_eq!(record.mode(), Mode::User);
+///
+/// let refused = lc3::start(&file[..5], &mut memory, Mode::User, 0xFDFF);
+/// assert_eq!(refused, Err(ObjectRefusal::File));
+/// # Ok::<(), lc3::Error>(())
 /// ```
-pub fn load(file: &[u8], memory: &mut [u16]) -> Result<Loaded, ObjectRefusal> {
+pub fn start(
+    file: &[u8],
+    memory: &mut [u16],
+    mode: Mode,
+    user_stack: u16,
+) -> Result<Started, ObjectRefusal> {
     // SAFETY: each pointer and length come from one slice, and the borrow keeps memory apart from
     // the file.
-    let answer =
-        unsafe { ffi::lc3_load(file.as_ptr(), file.len(), memory.as_mut_ptr(), memory.len()) };
+    let answer = unsafe {
+        ffi::lc3_start(
+            file.as_ptr(),
+            file.len(),
+            memory.as_mut_ptr(),
+            memory.len(),
+            mode == Mode::User,
+            user_stack,
+        )
+    };
     accepted(answer.refusal, &ObjectRefusal::ALL, ObjectRefusal::code)?;
-    Ok(Loaded { origin: answer.origin, words: answer.words as usize })
+    Ok(Started { record: answer.record, words: answer.words as usize })
 }
 
 /// Writes the object file of `words` words of memory from `origin` on to the start of `output`, and

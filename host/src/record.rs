@@ -1,6 +1,6 @@
 //! The machine's record.
 
-use crate::ffi::{self, LC3_MCR_CLOCK, LC3_PSR_USER};
+use crate::ffi::{LC3_MCR_CLOCK, LC3_PSR_USER};
 
 /// The two modes of privilege.
 #[derive(Clone, Copy, Debug, PartialEq, Eq, Hash)]
@@ -11,7 +11,7 @@ pub enum Mode {
     User,
 }
 
-/// The whole state of the machine beside its memory.
+/// The whole state of the machine beside its memory. [`start`](crate::start()) makes a fresh one.
 ///
 /// It has the layout of `lc3_record` in C.
 #[repr(C)]
@@ -49,23 +49,6 @@ pub struct Record {
 }
 
 impl Record {
-    /// A machine at `pc` in the given mode, with the code Z and priority 0.
-    ///
-    /// The supervisor's stack begins at x3000. R6 is the stack pointer of the mode, and that of
-    /// the other mode is saved.
-    ///
-    /// ```
-    /// use lc3::{Mode, Record};
-    ///
-    /// let record = Record::fresh(0x3000, Mode::User, 0xFDFF);
-    /// assert_eq!((record.pc, record.psr, record.mcr), (0x3000, 0x8002, 0x8000));
-    /// assert_eq!((record.regs[6], record.saved_ssp), (0xFDFF, 0x3000));
-    /// assert_eq!(record.mode(), Mode::User);
-    /// ```
-    pub fn fresh(pc: u16, mode: Mode, user_stack: u16) -> Record {
-        ffi::lc3_fresh(pc, mode == Mode::User, user_stack)
-    }
-
     /// The mode in bit 15 of PSR.
     pub fn mode(&self) -> Mode {
         if self.psr & LC3_PSR_USER == 0 {
@@ -81,12 +64,11 @@ impl Record {
     /// [`Stop::Done`](crate::Stop::Done), so this is what a host asks at its own limit of steps.
     ///
     /// ```
-    /// use lc3::{Keys, Mode, Record, Stop};
+    /// use lc3::{Keys, Mode, Stop};
     ///
     /// let mut memory = vec![0; lc3::WORDS];
-    /// memory[0x3000] = 0xB001; // STI R0, x3002
-    /// memory[0x3002] = lc3::ffi::LC3_ADDRESS_MCR;
-    /// let record = Record::fresh(0x3000, Mode::Supervisor, 0xFDFF);
+    /// let file = [0x30, 0x00, 0xB0, 0x01, 0x00, 0x00, 0xFF, 0xFE]; // STI R0, x3002; x3002 is xFFFE
+    /// let record = lc3::start(&file, &mut memory, Mode::Supervisor, 0xFDFF)?.record;
     /// let run = lc3::run(record, &mut memory, Keys::NONE, &mut [], 1)?;
     /// assert_eq!(run.stop, Stop::Done);
     /// assert!(run.record.is_halted() && !record.is_halted());

@@ -197,11 +197,11 @@ fn count(number: u64) -> usize {
 /// A refused run alters no buffer.
 ///
 /// ```
-/// use lc3::{Keys, Mode, Record, Refusal, Stop};
+/// use lc3::{Keys, Mode, Refusal, Stop};
 ///
 /// let mut memory = vec![0; lc3::WORDS];
-/// memory[0x3000] = 0x1021; // ADD R0, R0, #1
-/// let record = Record::fresh(0x3000, Mode::User, 0xFDFF);
+/// let file = [0x30, 0x00, 0x10, 0x21]; // at x3000, ADD R0, R0, #1
+/// let record = lc3::start(&file, &mut memory, Mode::User, 0xFDFF)?.record;
 /// let run = lc3::run(record, &mut memory, Keys::NONE, &mut [], 1)?;
 /// assert_eq!((run.stop, run.record.regs[0], run.record.pc), (Stop::Done, 1, 0x3001));
 ///
@@ -212,7 +212,7 @@ fn count(number: u64) -> usize {
 /// let refused = lc3::run(record, &mut memory, keys, &mut [], 1).unwrap_err();
 /// assert_eq!((refused, refused.code()), (Refusal::KeyOrder(2), 19));
 /// assert_eq!(refused.to_string(), "times[2] is below the time before it");
-/// # Ok::<(), Refusal>(())
+/// # Ok::<(), lc3::Error>(())
 /// ```
 pub fn run(
     record: Record,
@@ -252,17 +252,17 @@ pub fn run(
 /// A refused step alters neither the record nor a buffer.
 ///
 /// ```
-/// use lc3::{Keys, Mode, Record};
+/// use lc3::{Keys, Mode};
 ///
 /// let mut memory = vec![0; lc3::WORDS];
 /// memory[0x0025] = 0x0400; // where TRAP x25 goes
-/// memory[0x3000] = 0xF025; // TRAP x25
-/// let mut record = Record::fresh(0x3000, Mode::User, 0xFDFF);
+/// let file = [0x30, 0x00, 0xF0, 0x25]; // at x3000, TRAP x25
+/// let mut record = lc3::start(&file, &mut memory, Mode::User, 0xFDFF)?.record;
 /// let report = lc3::step(&mut record, &mut memory, Keys::NONE, &mut [])?;
 /// assert_eq!(report.steps, 1);
 /// assert_eq!((record.pc, record.mode()), (0x0400, Mode::Supervisor));
 /// assert_eq!(memory[0x2FFE..0x3000], [0x3001, 0x8002]);
-/// # Ok::<(), lc3::Refusal>(())
+/// # Ok::<(), lc3::Error>(())
 /// ```
 pub fn step(
     record: &mut Record,

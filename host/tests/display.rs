@@ -4,7 +4,7 @@
 mod reference;
 mod support;
 
-use lc3::{Mode, Record, Stop};
+use lc3::{Mode, Stop};
 use support::program::{Program, LOAD_DSR, START, STORE_DDR};
 
 /// The steps for which a display is busy after a byte.
@@ -95,9 +95,8 @@ fn the_count_falls_in_every_kind_of_step() {
 fn user_mode_meets_the_access_exception_whatever_the_count() {
     for word in [LOAD_DSR, STORE_DDR] {
         for busy in 0..=BUSY {
-            let mut program = program(&[word], 0);
-            let regs = program.record.regs;
-            program.record = Record { regs, busy, ..Record::fresh(START, Mode::User, 0xFDFF) };
+            let mut program = Program::in_mode(Mode::User, &[word], 0);
+            program.record.busy = busy;
             program.memory[0x0102] = 0x1102;
             assert_eq!((program.step().shown, program.record.pc), (0, 0x1102));
         }

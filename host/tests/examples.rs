@@ -2,7 +2,7 @@
 
 mod reference;
 
-use lc3::ffi::{self, Answer};
+use lc3::ffi::Answer;
 use lc3::{Instruction, Keys, Record};
 use reference::figure::{self, Fields, Kind};
 use reference::machine::{self, Call};
@@ -159,14 +159,4 @@ fn example_14_interrupts_below_priority_4() {
     assert_eq!((record.psr, record.pc, record.kbsr), (0x0402, KEYBOARD, 0xC000));
     let record = interrupted(0x8402);
     assert_eq!((record.psr, record.pc), (0x8402, 0x3001));
-}
-
-#[test]
-fn fresh_records_are_as_defined_for_every_pc_and_stack() {
-    for word in 0..=u16::MAX {
-        for user in [false, true] {
-            let (pc, stack) = (word, word.wrapping_mul(0x9E37).rotate_left(5));
-            assert_eq!(ffi::lc3_fresh(pc, user, stack), machine::fresh(pc, user, stack));
-        }
-    }
 }

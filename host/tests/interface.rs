@@ -2,8 +2,8 @@
 //! that every refusal and stop has its number and a text of its own.
 
 use lc3::{
-    ffi, Error, LineRefusal, Mode, MonitorRefusal, ObjectRefusal, PageRefusal, Record, Refusal,
-    Stop, WriteRefusal,
+    ffi, Error, LineRefusal, Mode, MonitorRefusal, ObjectRefusal, PageRefusal, Refusal, Stop,
+    WriteRefusal,
 };
 use std::collections::{BTreeMap, HashSet};
 use std::fs;
@@ -129,7 +129,9 @@ fn every_stop_has_its_number_and_text() {
 
 #[test]
 fn a_machine_is_halted_exactly_if_its_clock_is_disabled() {
-    let mut record = Record::fresh(0x3000, Mode::User, 0xFDFF);
+    let mut memory = vec![0; lc3::WORDS];
+    let started = lc3::start(&[0x30, 0x00], &mut memory, Mode::User, 0xFDFF);
+    let mut record = started.expect("accepted").record;
     assert!(!record.is_halted());
     record.mcr = 0;
     assert!(record.is_halted());

@@ -33,11 +33,16 @@ fn for_lists(mut check: impl FnMut(&[u64])) {
     }
 }
 
+/// A machine at x3000 with nothing loaded.
+fn start(memory: &mut [u16]) -> Record {
+    lc3::start(&[0x30, 0x00], memory, Mode::User, 0xFDFF).expect("accepted").record
+}
+
 #[test]
 fn the_first_entry_at_fault_is_named_in_every_list() {
     let mut memory = vec![0; WORDS];
     // A halted machine, so that an accepted call alters nothing.
-    let mut record = Record::fresh(0x3000, Mode::User, 0xFDFF);
+    let mut record = start(&mut memory);
     (record.clock, record.mcr) = (CLOCK, 0);
     let (mut lists, mut below_clock, mut out_of_order) = (0, 0, 0);
     for_lists(|times| {
@@ -64,7 +69,7 @@ fn the_first_entry_at_fault_is_named_in_every_list() {
 fn an_entry_far_into_a_list_is_named() {
     const KEYS: usize = 10_000;
     let mut memory = vec![0; WORDS];
-    let mut record = Record::fresh(0x3000, Mode::User, 0xFDFF);
+    let mut record = start(&mut memory);
     record.clock = CLOCK;
     let bytes = vec![0; KEYS];
     for at in [1, 2, 4095, 4096, KEYS - 1] {

@@ -59,8 +59,8 @@ impl Caller {
         } as u16;
         let mut memory: Vec<u16> = (0..WORDS).map(|_| rng.word()).collect();
         lc3::install_monitor(&mut memory).expect("a whole memory");
-        memory[usize::from(pc)] = word;
-        let mut record = Record::fresh(pc, mode, rng.word());
+        let file = [pc.to_be_bytes(), word.to_be_bytes()].concat();
+        let mut record = lc3::start(&file, &mut memory, mode, rng.word()).expect("accepted").record;
         for number in [0, 1, 2, 3, 4, 5, 7] {
             record.regs[number] = rng.word();
         }

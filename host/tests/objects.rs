@@ -1,10 +1,12 @@
-//! Object files, held against a reader and a writer of this file.
+//! Object files, held against a reader and a writer of this file, and the records that they are
+//! started with, held against the reference simulator's.
 
 mod reference;
 mod support;
 
-use lc3::ffi::{self, Counted, Loaded};
-use lc3::WORDS;
+use lc3::ffi::{self, Counted, Started};
+use lc3::{Keys, Mode, Record, Stop, STEP_LIMIT, WORDS};
+use reference::machine;
 use std::fs;
 use std::path::Path;
 use support::Rng;
@@ -13,6 +15,23 @@ use support::Rng;
 const GUARD: usize = 32;
 const BYTE: u8 = 0xA5;
 const WORD: u16 = 0xA5A5;
+
+/// The record that a refusal answers.
+const NO_RECORD: Record = Record {
+    regs: [0; 8],
+    pc: 0,
+    psr: 0,
+    saved_ssp: 0,
+    saved_usp: 0,
+    kbsr: 0,
+    kbdr: 0,
+    mcr: 0,
+    busy: 0,
+    timer_status: 0,
+    timer_interval: 0,
+    timer_count: 0,
+    clock: 0,
+};
 
 /// Reads a file by the rules of the format: the refusal, or the origin and the words.
 fn read(file: &[u8], memory_len: usize) -> Result<(u16, Vec<u16>), u32> {
@@ -51,8 +70,8 @@ fn write(memory: &[u16], origin: u16, words: usize, room: usize) -> Result<Vec<u
 }
 
 /// Lends copies of the file and of memory, each between guards, and panics unless the answer and
-/// all that was lent are as the reader above has them.
-fn check_load(file: &[u8], memory: &[u16]) -> Loaded {
+/// all that was lent are as the reader above and the reference simulator have them.
+fn check_start_in(file: &[u8], memory: &[u16], user: bool, stack: u16) -> Started {
     let mut lent_file = vec![BYTE; GUARD];
     lent_file.extend_from_slice(file);
     lent_file.extend([BYTE; GUARD]);
@@ -64,23 +83,33 @@ fn check_load(file: &[u8], memory: &[u16]) -> Loaded {
         Ok((origin, words)) => {
             let start = GUARD + usize::from(origin);
             wanted[start..start + words.len()].copy_from_slice(&words);
-            Loaded { words: words.len() as u32, origin, refusal: 0 }
+            let record = machine::fresh(origin, user, stack);
+            Started { record, words: words.len() as u32, refusal: 0 }
         }
-        Err(refusal) => Loaded { words: 0, origin: 0, refusal },
+        Err(refusal) => Started { record: NO_RECORD, words: 0, refusal },
     };
     // SAFETY: both ranges lie within their vectors.
     let answer = unsafe {
-        ffi::lc3_load(
+        ffi::lc3_start(
             lent_file.as_ptr().add(GUARD),
             file.len(),
             lent.as_mut_ptr().add(GUARD),
             memory.len(),
+            user,
+            stack,
         )
     };
     assert_eq!(answer, expected, "a file of {} bytes", file.len());
     assert!(lent_file == file_before, "the file changed");
     assert!(lent == wanted, "memory is not as expected after a file of {} bytes", file.len());
     answer
+}
+
+/// The same in both modes, with a user stack that differs from file to file.
+fn check_start(file: &[u8], memory: &[u16]) -> Started {
+    let stack = (file.len() as u16).wrapping_mul(0x9E37);
+    check_start_in(file, memory, false, stack);
+    check_start_in(file, memory, true, stack)
 }
 
 /// The same for writing to an output of `room` bytes; answers the file.
@@ -144,12 +173,13 @@ fn every_short_length() {
             for (byte, value) in file.iter_mut().zip(origin.to_be_bytes()) {
                 *byte = value;
             }
-            check_load(&file, &memory);
+            check_start(&file, &memory);
         }
     }
-    assert_eq!(check_load(&[], &memory).refusal, 17);
-    assert_eq!(check_load(&[0xFF], &memory).refusal, 17);
-    assert_eq!(check_load(&[0xFF, 0xFF], &memory), Loaded { words: 0, origin: 0xFFFF, refusal: 0 });
+    assert_eq!(check_start(&[], &memory).refusal, 17);
+    assert_eq!(check_start(&[0xFF], &memory).refusal, 17);
+    let started = check_start(&[0xFF, 0xFF], &memory);
+    assert_eq!((started.record.pc, started.words, started.refusal), (0xFFFF, 0, 0));
 }
 
 #[test]
@@ -160,7 +190,7 @@ fn every_truncation() {
         let mut file = origin.to_be_bytes().to_vec();
         file.extend(random_bytes(&mut rng, 62));
         for length in 0..=file.len() {
-            check_load(&file[..length], &memory);
+            check_start(&file[..length], &memory);
         }
     }
 }
@@ -173,13 +203,13 @@ fn lengths_around_a_whole_memory() {
     for origin in [0x0000, 0x0001, 0x0002, 0x8000, 0xFFFF_u16] {
         file[..2].copy_from_slice(&origin.to_be_bytes());
         for length in (131_060..=131_082).chain([196_608, 262_144, 262_146, 262_200]) {
-            check_load(&file[..length], &memory);
+            check_start(&file[..length], &memory);
         }
     }
     file[..2].copy_from_slice(&[0, 0]);
-    let whole = Loaded { words: 65_536, origin: 0, refusal: 0 };
-    assert_eq!(check_load(&file[..131_074], &memory), whole);
-    assert_eq!(check_load(&file[..131_076], &memory).refusal, 18);
+    let whole = check_start(&file[..131_074], &memory);
+    assert_eq!((whole.record.pc, whole.words, whole.refusal), (0, 65_536, 0));
+    assert_eq!(check_start(&file[..131_076], &memory).refusal, 18);
 }
 
 #[test]
@@ -191,14 +221,14 @@ fn the_end_of_memory() {
             for room in [0, 1, 2, 2 * words, 2 * words + 1, 2 * words + 2, 2 * words + 3] {
                 if let Some(file) = check_save(&memory, origin, words, room) {
                     let other = random_words(&mut rng, WORDS);
-                    let loaded = check_load(&file, &other);
-                    assert_eq!((loaded.origin, loaded.words as usize), (origin, words));
+                    let started = check_start(&file, &other);
+                    assert_eq!((started.record.pc, started.words as usize), (origin, words));
                 }
             }
         }
     }
     let whole = check_save(&memory, 0, WORDS, 131_074).expect("a whole memory fits a file");
-    assert_eq!(check_load(&whole, &vec![0; WORDS]).words, 65_536);
+    assert_eq!(check_start(&whole, &vec![0; WORDS]).words, 65_536);
 }
 
 #[test]
@@ -209,9 +239,9 @@ fn refusals_in_their_order() {
     for words in [0, 1, WORDS - 1, WORDS, WORDS + 1] {
         let lent = &memory[..words];
         let refusal = |number| if words == WORDS { number } else { 11 };
-        assert_eq!(check_load(&beyond[..5], lent).refusal, refusal(17));
-        assert_eq!(check_load(&beyond, lent).refusal, refusal(18));
-        assert_eq!(check_load(&beyond[..4], lent).refusal, refusal(0));
+        assert_eq!(check_start(&beyond[..5], lent).refusal, refusal(17));
+        assert_eq!(check_start(&beyond, lent).refusal, refusal(18));
+        assert_eq!(check_start(&beyond[..4], lent).refusal, refusal(0));
         // Each of the three refusals with all that come after it.
         for count in [65_537, 1 << 20, 1 << 63, (1 << 63) - 1, usize::MAX - 1, usize::MAX] {
             assert!(check_save(lent, 0, count, 0).is_none());
@@ -236,15 +266,18 @@ fn random_files() {
             let origin = (last + rng.below(3) as usize).saturating_sub(1).min(0xFFFF);
             file[..2].copy_from_slice(&(origin as u16).to_be_bytes());
         }
-        let loaded = check_load(&file, &memory);
-        if loaded.refusal != 0 {
+        if check_start(&file, &memory).refusal != 0 {
             continue;
         }
-        // What was read is written again, from the memory that it was read into.
+        // What was loaded is written again, from the memory that it was loaded into.
         let mut lent = memory.clone();
-        assert_eq!(lc3::load(&file, &mut lent).map(|answer| answer.origin), Ok(loaded.origin));
-        let again = check_save(&lent, loaded.origin, loaded.words as usize, file.len() + 3);
+        let started = lc3::start(&file, &mut lent, Mode::User, rng.word()).expect("accepted");
+        let again = check_save(&lent, started.record.pc, started.words, file.len() + 3);
         assert_eq!(again, Some(file));
+        // And no run is refused for what it was started with.
+        let halted = Record { mcr: 0, ..started.record };
+        let run = lc3::run(halted, &mut lent, Keys::NONE, &mut [], STEP_LIMIT);
+        assert_eq!(run.map(|run| run.stop), Ok(Stop::Halted));
     }
 }
 
@@ -268,8 +301,50 @@ fn random_ranges() {
         let mut wanted = other.clone();
         let range = usize::from(origin)..usize::from(origin) + words;
         wanted[range.clone()].copy_from_slice(&memory[range]);
-        assert_eq!(lc3::load(&file, &mut other), Ok(lc3::Loaded { origin, words }));
+        let started = lc3::start(&file, &mut other, Mode::Supervisor, 0xFDFF).expect("accepted");
+        assert_eq!((started.record.pc, started.words), (origin, words));
         assert!(other == wanted, "x{origin:04X}, {words} words");
+    }
+}
+
+#[test]
+fn records_are_fresh_at_every_origin_and_stack() {
+    let mut memory = random_words(&mut Rng::of_case(8, 0), WORDS);
+    let before = memory.clone();
+    for origin in 0..=u16::MAX {
+        for (mode, user) in [(Mode::Supervisor, false), (Mode::User, true)] {
+            let stack = origin.wrapping_mul(0x9E37).rotate_left(5);
+            // A file of two bytes loads nothing.
+            let started = lc3::start(&origin.to_be_bytes(), &mut memory, mode, stack);
+            let record = machine::fresh(origin, user, stack);
+            assert_eq!(started, Ok(lc3::Started { record, words: 0 }));
+        }
+    }
+    assert!(memory == before);
+}
+
+#[test]
+fn a_started_program_runs_to_the_limit() {
+    for mode in [Mode::Supervisor, Mode::User] {
+        let mut memory = vec![0; WORDS];
+        // At x3000, BRnzp #-1.
+        let started = lc3::start(&[0x30, 0x00, 0x0F, 0xFF], &mut memory, mode, 0xFDFF);
+        let record = started.expect("accepted").record;
+        let run = lc3::run(record, &mut memory, Keys::NONE, &mut [], STEP_LIMIT).expect("accepted");
+        assert_eq!((run.stop, run.steps, run.record.pc), (Stop::Done, STEP_LIMIT, 0x3000));
+    }
+}
+
+#[test]
+fn of_several_files_the_last_one_runs() {
+    let answers = [0x20, 0x00, 0x12, 0x34];
+    let candidate = [0x30, 0x00, 0x10, 0x21];
+    for files in [[&answers, &candidate], [&candidate, &answers]] {
+        let mut memory = vec![0; WORDS];
+        let mut start = |file| lc3::start(file, &mut memory, Mode::Supervisor, 0xFDFF);
+        let [first, last] = files.map(|file| start(file).expect("accepted").record.pc);
+        assert_eq!([first, last], files.map(|file| u16::from_be_bytes([file[0], file[1]])));
+        assert_eq!((memory[0x2000], memory[0x3000]), (0x1234, 0x1021));
     }
 }
 
@@ -292,7 +367,7 @@ fn the_demonstration_has_the_words_of_its_listings() {
         let listed = listed(&listing);
         assert_eq!(listed.len(), words, "{name}");
         let (mut memory, mut wanted) = (vec![0; WORDS], vec![0; WORDS]);
-        lc3::load(&file, &mut memory).expect("an accepted file");
+        lc3::start(&file, &mut memory, Mode::User, 0xFDFF).expect("an accepted file");
         for (address, word) in listed {
             wanted[address] = word;
         }

@@ -204,9 +204,7 @@ fn a_full_output_gives_way_to_the_interrupt() {
 #[test]
 fn user_mode_meets_the_access_exception() {
     for word in [LOAD_TSR, STORE_TSR, LOAD_TIR, STORE_TIR] {
-        let mut program = program(&[word]);
-        let regs = program.record.regs;
-        program.record = Record { regs, ..Record::fresh(START, Mode::User, 0xFDFF) };
+        let mut program = Program::in_mode(Mode::User, &[word], 1);
         set_timer(&mut program, READY, 5, 5);
         program.memory[0x0102] = 0x1102;
         program.step();

@@ -133,6 +133,7 @@ fn print_compared(steps: u64, same: u64) {
 // Makes the two sittings, and answers the last record of the first.
 pub(crate) fn sit_beside(
     first: Machine,
+    second: Machine,
     memory: &mut [u16],
     other: &mut [u16],
     times: &[u64],
@@ -141,7 +142,7 @@ pub(crate) fn sit_beside(
     requires { ⌜ length (now times) ≡ length (now bytes) ⌝ }
 {
     let mut m = first;
-    let mut o = first;
+    let mut o = second;
     let mut at = 0;
     let mut same = 0;
     let mut steps = 0;

@@ -2,16 +2,16 @@
 // The gate compares what is printed with the file stdout.
 use beside::same_record;
 use beside::sit_beside;
-use loading::load;
-use loading::load_and_tell;
 use machine::Machine;
 use printing::print;
 use sitting::sit;
+use starting::start_and_tell;
+use starting::start_file;
 
 mod beside;
-mod loading;
 mod printing;
 mod sitting;
+mod starting;
 
 // When the candidate types the keys.
 const TIMES: [u64; 6] = [300, 400, 500, 600, 700, 800];
@@ -36,17 +36,20 @@ fn introduce() {
     print(b"Recorded keys: A d a space 7 Enter, at clocks 300, 400, 500, 600, 700, 800.\n\n");
 }
 
-fn load_all(memory: &mut [u16]) {
+// Starts the answers and then the candidate's program, whose record is the one to run.
+fn start_all(memory: &mut [u16]) -> Machine {
     monitor::install(memory);
-    print(b"Object files:\n");
-    load_and_tell(&CANDIDATE, memory);
-    load_and_tell(&ANSWERS, memory);
+    print(b"Object files, of which the last is run:\n");
+    start_and_tell(&ANSWERS, memory);
+    start_and_tell(&CANDIDATE, memory)
 }
 
-fn load_sitting(memory: &mut [u16], answers: &[u8]) {
+// The same with these answers, and nothing said.
+fn start_sitting(memory: &mut [u16], answers: &[u8]) -> Machine {
     monitor::install(memory);
-    load(&CANDIDATE, memory);
-    load(answers, memory);
+    start_file(answers, memory);
+    let started = start_file(&CANDIDATE, memory);
+    started.machine
 }
 
 fn print_heading() {
@@ -55,9 +58,9 @@ fn print_heading() {
 }
 
 // The sitting in calls, and its display. Answers the last record.
-fn in_calls(m: Machine) -> Machine {
+fn in_calls() -> Machine {
     let mut memory = [0u16; 65536];
-    load_all(&mut memory);
+    let m = start_all(&mut memory);
     print_heading();
     let mut display = [0u8; 64];
     let sat = sit(m, &mut memory, &TIMES, &KEYS, &mut display);
@@ -68,22 +71,21 @@ fn in_calls(m: Machine) -> Machine {
 }
 
 // The sitting one step a call, beside one with other answers. Answers the last record of the first.
-fn in_steps(m: Machine) -> Machine {
+fn in_steps() -> Machine {
     let mut memory = [0u16; 65536];
-    load_sitting(&mut memory, &ANSWERS);
+    let m = start_sitting(&mut memory, &ANSWERS);
     let mut other = [0u16; 65536];
-    load_sitting(&mut other, &OTHER_ANSWERS);
+    let o = start_sitting(&mut other, &OTHER_ANSWERS);
     print(b"\nThe same in single steps, beside a sitting whose answers are other words.\n");
     print(b"The candidate's program leaves User mode at these steps:\n\n");
     print(b"clock  PC     R0 before  R0 after  to\n");
-    sit_beside(m, &mut memory, &mut other, &TIMES, &KEYS)
+    sit_beside(m, o, &mut memory, &mut other, &TIMES, &KEYS)
 }
 
 fn main() {
     introduce();
-    let m = runner::fresh(0x3000, true, 0xFDFF);
-    let a = in_calls(m);
-    let b = in_steps(m);
+    let a = in_calls();
+    let b = in_steps();
     if same_record(a, b) {
         print(
             b"In calls of 200 steps and in single steps the sitting ends with the same record.\n",

@@ -1,12 +1,11 @@
-// The machine for hosts in C and Rust: document 01's fresh record, run and single step. They are those of `runner`, but
-// for refusals and stops, which are answered by their numbers, since an enum can't cross to C. Nothing is required of a
+// The machine for hosts in C and Rust: document 01's run and single step. They are those of `runner`, but for
+// refusals and stops, which are answered by their numbers, since an enum can't cross to C. Nothing is required of a
 // caller.
 use machine::Machine;
 use run::Ending;
 use run::Refusal;
 use run::Report;
 ghost use mathlib.Core.Path.{_≡_};
-ghost use Rattle.run.specs.Fresh.{freshOf};
 ghost use Rattle.run.specs.Call.{startOf, callOf};
 ghost use Rattle.run.specs.Refusals.{refusalNumber, refusalIndex, endingRefusal, endingIndex, endingStop};
 ghost use Rattle.lc3_machine.specs.Answer.{answerOf, reportOf, reported, answered};
@@ -112,14 +111,6 @@ fn report_of(report: Report) -> Lc3Report
         refusal: ending_refusal(ending),
         stop: ending_stop(ending),
     }
-}
-
-// A fresh record from PC, mode and user stack pointer.
-#[no_mangle]
-pub extern "C" fn lc3_fresh(pc: u16, user: bool, stack: u16) -> Machine
-    ensures { λ r. ⌜ r ≡ freshOf pc user stack ⌝ }
-{
-    runner::fresh(pc, user, stack)
 }
 
 // The run of n steps. A call that is turned down answers its number and leaves everything as it was handed in.

@@ -1,14 +1,17 @@
-// Object files for hosts in C and Rust: reading a file into lent memory, and writing one from a range of it. Both calls
-// accept every argument; the refusals are those of include/lc3.h.
+// Object files for hosts in C and Rust: a file loaded into lent memory and started, and one written from a range of
+// memory. Both calls accept every argument; the refusals are those of include/lc3.h.
+use machine::Machine;
 ghost use mathlib.Core.Path.{_≡_};
-ghost use Rattle.object.specs.Calls.{loadOf, saveOf};
-ghost use Rattle.lc3_objects.specs.Answers.{hostLoading, hostSaving};
+ghost use Rattle.object.specs.Calls.{saveOf};
+ghost use Rattle.start.specs.Start.{startedOf};
+ghost use Rattle.lc3_objects.specs.Answers.{hostStarting, hostSaving};
 
-// The number of words read and their origin, with 0; or zeros, with the number of the refusal.
+// A fresh record at the file's origin and the number of words loaded, with 0; or both all zero, with the number of the
+// refusal. 48 bytes.
 #[repr(C)]
-pub struct Lc3Loaded {
+pub struct Lc3Started {
+    pub machine: Machine,
     pub words: u32,
-    pub origin: u16,
     pub refusal: u32,
 }
 
@@ -20,14 +23,16 @@ pub struct Lc3Counted {
 }
 
 #[no_mangle]
-pub extern "C" fn lc3_load(file: &[u8], memory: &mut [u16]) -> Lc3Loaded
-    ensures { λ r. ⌜ hostLoading r (now (memory .exit)) ≡ loadOf (now (file .entry)) (now (memory .entry)) ⌝ }
+pub extern "C" fn lc3_start(file: &[u8], memory: &mut [u16], user: bool, stack: u16) -> Lc3Started
+    ensures { λ r. ⌜ hostStarting r (now (memory .exit))
+        ≡ startedOf (now (file .entry)) (now (memory .entry)) user stack ⌝ }
 {
-    let loaded = object::load(file, memory);
-    Lc3Loaded {
-        words: loaded.words,
-        origin: loaded.origin,
-        refusal: loaded.refusal as u32,
+    let started = start::start(file, memory, user, stack);
+    let machine = started.machine;
+    Lc3Started {
+        machine,
+        words: started.words,
+        refusal: started.refusal as u32,
     }
 }
 

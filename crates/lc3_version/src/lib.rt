@@ -2,7 +2,7 @@
 ghost use mathlib.Core.Path.{_≡_};
 ghost use Rattle.lc3_version.specs.Version.{interfaceVersion};
 
-const INTERFACE_VERSION: u32 = 6;
+const INTERFACE_VERSION: u32 = 7;
 
 // The version of include/lc3.h that this library was built for.
 #[no_mangle]

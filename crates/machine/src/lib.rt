@@ -3,7 +3,8 @@
 ghost use mathlib.Core.Path.{_≡_};
 ghost use mathlib.Core.List.{List};
 ghost use Prim.Native.Nat.{ℕ, _-_};
-ghost use Rattle.machine.specs.Record.{whole, withDevices, setKeyboard, setMcr, setBusy, setTimer, freshDevices};
+ghost use Rattle.machine.specs.Record.{whole, withDevices, setKeyboard, setMcr, setBusy, setTimer};
+ghost use Rattle.machine.specs.Record.{freshDevices, zeroDevices};
 
 // What the devices keep. Code that touches no device hands it on whole. Defined bits: KBSR and the timer's status xC000,
 // KBDR x00FF, MCR x8000. `busy` counts the steps for which the display is still busy, at most 8. The timer's count is at
@@ -147,6 +148,21 @@ pub fn fresh_devices() -> Devices
         kbsr: 0,
         kbdr: 0,
         mcr: 0x8000,
+        busy: 0,
+        timer_status: 0,
+        timer_interval: 0,
+        timer_count: 0,
+    }
+}
+
+// Devices that are all zero.
+pub fn zero_devices() -> Devices
+    ensures { λ r. ⌜ r ≡ zeroDevices ⌝ }
+{
+    Devices {
+        kbsr: 0,
+        kbdr: 0,
+        mcr: 0,
         busy: 0,
         timer_status: 0,
         timer_interval: 0,

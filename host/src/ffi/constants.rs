@@ -1,7 +1,7 @@
 //! The constants of `lc3.h`, under its names.
 
 /// The version of the interface.
-pub const LC3_VERSION: u32 = 6;
+pub const LC3_VERSION: u32 = 7;
 
 /// Words of memory: no other number is accepted.
 pub const LC3_MEMORY_WORDS: usize = 65_536;

@@ -1,5 +1,5 @@
-//! A short program in Supervisor mode that reaches devices, made by the library and, at every call,
-//! by the reference simulator too.
+//! A short program that reaches devices, run by the library and, at every call, by the reference
+//! simulator too.
 
 use crate::reference::machine::{self, Call};
 use lc3::{Keys, Mode, Record, Run, WORDS};
@@ -24,11 +24,16 @@ pub struct Program {
 }
 
 impl Program {
-    /// These words, then words 0: BR that tests nothing.
+    /// These words in Supervisor mode, then words 0: BR that tests nothing.
     pub fn new(words: &[u16], room: usize) -> Program {
+        Program::in_mode(Mode::Supervisor, words, room)
+    }
+
+    pub fn in_mode(mode: Mode, words: &[u16], room: usize) -> Program {
+        let file: Vec<u8> =
+            [&[START], words].concat().into_iter().flat_map(u16::to_be_bytes).collect();
         let mut memory = vec![0; WORDS];
-        memory[usize::from(START)..][..words.len()].copy_from_slice(words);
-        let mut record = Record::fresh(START, Mode::Supervisor, 0xFDFF);
+        let mut record = lc3::start(&file, &mut memory, mode, 0xFDFF).expect("accepted").record;
         record.regs[5] = 0xFE00;
         Program { record, memory, output: vec![0; room], shown: 0 }
     }

@@ -1,0 +1,4 @@
+-- The laws of the record that is answered, and the proofs of the theorems.
+pub mod RecordLaws
+pub mod Theorems
+pub mod Examples
