@@ -7,6 +7,7 @@
  *                to run it
  *   lc3_run      runs up to n steps over lent memory
  *   lc3_step     runs one step and alters the host's own record
+ *   lc3_run_second, lc3_step_second   the same by the rules of the book's second edition
  *   lc3_read     reads a word as an instruction, and tells which fixed bits are wrong
  *   lc3_write    writes an instruction as a word
  *   lc3_line     writes a word as a line of text; lc3_line_length counts its bytes
@@ -107,7 +108,8 @@ extern "C" {
  * answered:
  *
  *   lc3_write           1, 2, 3
- *   lc3_run, lc3_step   11, 12, 13, 14, then 15 and 19 together, entry by entry
+ *   lc3_run, lc3_step   11, 12, 13, 14, then 15 and 19 together, entry by entry; lc3_run_second
+ *                       and lc3_step_second likewise
  *   lc3_line            16
  *   lc3_page            11, 20, 16
  *   lc3_start           11, 17, 18
@@ -326,6 +328,29 @@ lc3_answer lc3_run(lc3_record record, uint16_t *memory, size_t memory_len, const
 lc3_report lc3_step(lc3_record *record, uint16_t *memory, size_t memory_len, const uint64_t *times,
                     size_t times_len, const uint8_t *bytes, size_t bytes_len, uint8_t *output,
                     size_t output_len);
+
+/*
+ * The run and the single step for courses on the second edition of the book: as lc3_run and
+ * lc3_step, in every refusal, count, stop and field, but for five rules.
+ *
+ * - LEA sets the condition codes.
+ * - TRAP puts the address of the next instruction in R7 and takes PC from its vector word. It
+ *   pushes nothing and the mode stays.
+ * - No access exception exists: User mode reaches every address, the device registers too.
+ * - xFFFC is a plain word: the PSR has no address.
+ * - JSRR R7 goes on at the next instruction, since R7 is overwritten first.
+ *
+ * A run with none of this (no LEA, TRAP or JSRR R7, no privileged address in User mode, no xFFFC)
+ * ends exactly as lc3_run does. A program in User mode is kept from nothing here: where a
+ * candidate may not see the examiner's words, use lc3_run.
+ */
+lc3_answer lc3_run_second(lc3_record record, uint16_t *memory, size_t memory_len,
+                          const uint64_t *times, size_t times_len, const uint8_t *bytes,
+                          size_t bytes_len, uint8_t *output, size_t output_len, uint64_t n);
+
+lc3_report lc3_step_second(lc3_record *record, uint16_t *memory, size_t memory_len,
+                           const uint64_t *times, size_t times_len, const uint8_t *bytes,
+                           size_t bytes_len, uint8_t *output, size_t output_len);
 
 /*
  * Reads a word as an instruction, with a mask of its wrong bits. Every word is an instruction; bits

@@ -1,20 +1,22 @@
 #!/bin/sh
-# symbols.sh NAME...: prints the local functions of the object that holds lc3_run, and exits 1 if
-# one of them matches none of the names (shell patterns).
+# symbols.sh EXPORT NAME...: prints the local functions of the object that holds EXPORT, and exits 1
+# if one of them matches none of the names (shell patterns).
 #
-# The machine is fast because one step, and the reading of its word, are inlined into the one loop
-# of the run. A second call of either anywhere in that object undoes this without any other sign
-# than a local function more.
+# A run is fast because one step, and the reading of its word, are inlined into its one loop. A
+# second call of either anywhere in that object undoes this without any other sign than a local
+# function more.
 #
 #   LC3_LIB_DIR   where liblc3.a is   build
 set -eu
 cd "$(dirname "$0")/../.."
 
 lib=${LC3_LIB_DIR:-build}/liblc3.a
+export=$1
+shift
 
 # nm -A: archive:member:address type name
-object=$(nm -A --defined-only "$lib" | sed -n 's/^[^:]*:\([^:]*\):[^ ]* T lc3_run$/\1/p')
-[ -n "$object" ] || { echo "host/bench/symbols.sh: no lc3_run in $lib" >&2; exit 2; }
+object=$(nm -A --defined-only "$lib" | sed -n "s/^[^:]*:\([^:]*\):[^ ]* T $export\$/\1/p")
+[ -n "$object" ] || { echo "host/bench/symbols.sh: no $export in $lib" >&2; exit 2; }
 
 allowed() {
     for pattern; do
@@ -25,7 +27,7 @@ allowed() {
 }
 
 status=0
-echo "local functions beside lc3_run in $object:"
+echo "local functions beside $export in $object:"
 for symbol in $(nm -A --defined-only "$lib" |
     sed -n "s/^[^:]*:$object:[^ ]* t \(.*\)\$/\1/p"); do
     if allowed "$@"; then

@@ -745,6 +745,43 @@ static void test_steps_are_run(void) {
     }
 }
 
+/* ---- The second edition ---- */
+
+/* LEA R0, #-1; TRAP x25; at x0400 JSRR R7; in User mode all the way. */
+static void test_second_edition(void) {
+    part = "second edition";
+    clear_buffers();
+    memory[0x0025] = 0x0400;
+    memory[0x0400] = 0x41C0;
+    memory[0x3000] = 0xE1FF;
+    memory[0x3001] = 0xF025;
+    keep_buffers();
+    arguments c = usual();
+    c.n = 3;
+    lc3_record wanted = c.record, record = c.record;
+    wanted.regs[0] = 0x3000;
+    wanted.regs[7] = 0x0401;
+    wanted.pc = 0x0401;
+    wanted.psr = 0x8001;
+    wanted.clock = 3;
+    lc3_answer a =
+        lc3_run_second(c.record, memory, WORDS, c.times, 0, c.bytes, 0, output, OUTPUT, 3);
+    check_record(&a.record, &wanted);
+    CHECK(a.steps, 3);
+    CHECK(a.stop, LC3_DONE);
+    for (int i = 0; i < 3; i++) {
+        lc3_report r =
+            lc3_step_second(&record, memory, WORDS, c.times, 0, c.bytes, 0, output, OUTPUT);
+        CHECK(r.steps, 1);
+        CHECK(r.refusal, LC3_ACCEPTED);
+    }
+    check_record(&record, &wanted);
+    a = lc3_run_second(c.record, memory, WORDS - 1, c.times, 0, c.bytes, 0, output, OUTPUT, 3);
+    check_record(&a.record, &c.record);
+    CHECK(a.refusal, LC3_REFUSED_MEMORY);
+    check_buffers();
+}
+
 /* ---- Instruction words ---- */
 
 /* A format of Figure A.2: what tells it from others, its fixed bits, and where operands stand. */
@@ -1120,6 +1157,7 @@ int main(void) {
     test_keys();
     test_step_is_run();
     test_steps_are_run();
+    test_second_edition();
     test_read();
     test_write();
     test_line();

@@ -240,6 +240,42 @@ unsafe extern "C" {
         output_len: usize,
     ) -> Report;
 
+    /// Runs `n` steps by the rules of the second edition, or fewer if the machine halts or the
+    /// output is full.
+    ///
+    /// # Safety
+    ///
+    /// As for [`lc3_run`].
+    pub fn lc3_run_second(
+        record: Record,
+        memory: *mut u16,
+        memory_len: usize,
+        times: *const u64,
+        times_len: usize,
+        bytes: *const u8,
+        bytes_len: usize,
+        output: *mut u8,
+        output_len: usize,
+        n: u64,
+    ) -> Answer;
+
+    /// Makes a single step by the rules of the second edition, and alters `record` itself.
+    ///
+    /// # Safety
+    ///
+    /// As for [`lc3_step`].
+    pub fn lc3_step_second(
+        record: *mut Record,
+        memory: *mut u16,
+        memory_len: usize,
+        times: *const u64,
+        times_len: usize,
+        bytes: *const u8,
+        bytes_len: usize,
+        output: *mut u8,
+        output_len: usize,
+    ) -> Report;
+
     /// Loads an object file into memory, and makes a fresh record at its origin.
     ///
     /// # Safety

@@ -1,10 +1,11 @@
 //! The LC-3 with privilege, interrupts, a console and a timer.
 //!
-//! This crate is a safe wrapper of the static library `liblc3.a`. It has the library's thirteen calls:
+//! This crate is a safe wrapper of the static library `liblc3.a`. It has the library's fifteen calls:
 //!
 //! - [`version()`], the version of the interface;
 //! - [`start`] for an object file and a machine that is to run it, [`run`](run()) for a number of
 //!   steps over lent memory, and [`step`] for one step, which alters the record that it is lent;
+//! - [`run_second`] and [`step_second`], the same by the rules of the book's second edition;
 //! - [`read`] for a word as an instruction, [`write`](write()) for an instruction as a word;
 //! - [`line`](line()) for a word as a line of text, [`line_length`] for the bytes of that line, and
 //!   [`page`] for a range of memory as lines;
@@ -63,7 +64,8 @@ pub use monitor::{
 };
 pub use object::{save, start, ObjectRefusal, Started};
 pub use record::{Mode, Record};
-pub use run::{run, step, Keys, Refusal, Run, StepReport, Stop, CLOCK_LIMIT, STEP_LIMIT, WORDS};
+pub use run::{run, run_second, step, step_second, Keys, Refusal, Run, StepReport, Stop};
+pub use run::{CLOCK_LIMIT, STEP_LIMIT, WORDS};
 
 /// The version of the interface that the library was built for.
 ///

@@ -192,6 +192,29 @@ fn count(number: u64) -> usize {
     usize::try_from(number).expect("a count within a slice")
 }
 
+/// What an answer says, or why the run was turned down.
+fn made(answer: &ffi::Answer) -> Result<Run, Refusal> {
+    accepted(answer.refusal, &Refusal::all(count(answer.index)), Refusal::code)?;
+    Ok(Run {
+        record: answer.record,
+        steps: answer.steps,
+        keys: count(answer.keys),
+        shown: count(answer.shown),
+        stop: Stop::from_code(answer.stop),
+    })
+}
+
+/// The same of a single step.
+fn reported(report: &ffi::Report) -> Result<StepReport, Refusal> {
+    accepted(report.refusal, &Refusal::all(count(report.index)), Refusal::code)?;
+    Ok(StepReport {
+        steps: report.steps,
+        keys: count(report.keys),
+        shown: count(report.shown),
+        stop: Stop::from_code(report.stop),
+    })
+}
+
 /// Runs `n` steps, or fewer if the machine halts or the output is full.
 ///
 /// A refused run alters no buffer.
@@ -237,14 +260,7 @@ pub fn run(
             n,
         )
     };
-    accepted(answer.refusal, &Refusal::all(count(answer.index)), Refusal::code)?;
-    Ok(Run {
-        record: answer.record,
-        steps: answer.steps,
-        keys: count(answer.keys),
-        shown: count(answer.shown),
-        stop: Stop::from_code(answer.stop),
-    })
+    made(&answer)
 }
 
 /// Makes a single step, and alters `record` itself: otherwise [`run`] with `n` = 1.
@@ -285,11 +301,84 @@ pub fn step(
             output.len(),
         )
     };
-    accepted(report.refusal, &Refusal::all(count(report.index)), Refusal::code)?;
-    Ok(StepReport {
-        steps: report.steps,
-        keys: count(report.keys),
-        shown: count(report.shown),
-        stop: Stop::from_code(report.stop),
-    })
+    reported(&report)
+}
+
+/// Runs `n` steps by the rules of the book's second edition; all else is as in [`run`].
+///
+/// LEA sets the codes; TRAP puts the next address in R7 and takes PC from its vector word, with no
+/// push and no change of mode; there is no access exception; xFFFC is a plain word; JSRR R7 goes on
+/// at the next address. A run that meets none of this ends as [`run`] does. User mode is kept from
+/// nothing here.
+///
+/// ```
+/// use lc3::{Keys, Mode};
+///
+/// let mut memory = vec![0; lc3::WORDS];
+/// memory[0x0025] = 0x0400; // where TRAP x25 goes
+/// let file = [0x30, 0x00, 0xF0, 0x25]; // at x3000, TRAP x25
+/// let record = lc3::start(&file, &mut memory, Mode::User, 0xFDFF)?.record;
+/// let run = lc3::run_second(record, &mut memory, Keys::NONE, &mut [], 1)?;
+/// assert_eq!((run.record.pc, run.record.regs[7], run.record.mode()), (0x0400, 0x3001, Mode::User));
+/// # Ok::<(), lc3::Error>(())
+/// ```
+pub fn run_second(
+    record: Record,
+    memory: &mut [u16],
+    keys: Keys<'_>,
+    output: &mut [u8],
+    n: u64,
+) -> Result<Run, Refusal> {
+    // SAFETY: as in `run`.
+    let answer = unsafe {
+        ffi::lc3_run_second(
+            record,
+            memory.as_mut_ptr(),
+            memory.len(),
+            keys.times.as_ptr(),
+            keys.times.len(),
+            keys.bytes.as_ptr(),
+            keys.bytes.len(),
+            output.as_mut_ptr(),
+            output.len(),
+            n,
+        )
+    };
+    made(&answer)
+}
+
+/// Makes a single step by the rules of the second edition, and alters `record` itself: otherwise
+/// [`run_second`] with `n` = 1.
+///
+/// ```
+/// use lc3::{Keys, Mode};
+///
+/// let mut memory = vec![0; lc3::WORDS];
+/// let file = [0x30, 0x00, 0xE1, 0xFF]; // at x3000, LEA R0, #-1
+/// let mut record = lc3::start(&file, &mut memory, Mode::User, 0xFDFF)?.record;
+/// lc3::step_second(&mut record, &mut memory, Keys::NONE, &mut [])?;
+/// assert_eq!((record.regs[0], record.psr), (0x3000, 0x8001));
+/// # Ok::<(), lc3::Error>(())
+/// ```
+pub fn step_second(
+    record: &mut Record,
+    memory: &mut [u16],
+    keys: Keys<'_>,
+    output: &mut [u8],
+) -> Result<StepReport, Refusal> {
+    // SAFETY: as in `step`.
+    let report = unsafe {
+        ffi::lc3_step_second(
+            record,
+            memory.as_mut_ptr(),
+            memory.len(),
+            keys.times.as_ptr(),
+            keys.times.len(),
+            keys.bytes.as_ptr(),
+            keys.bytes.len(),
+            output.as_mut_ptr(),
+            output.len(),
+        )
+    };
+    reported(&report)
 }

@@ -98,7 +98,7 @@ fn ending_stop(ending: Ending) -> u32
 }
 
 // A report in numbers alone, for the run and the single step alike.
-fn report_of(report: Report) -> Lc3Report
+pub fn report_of(report: Report) -> Lc3Report
     ensures { λ r. ⌜ r ≡ reportOf report ⌝ }
 {
     let ending = report.ending;

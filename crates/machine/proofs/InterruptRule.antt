@@ -21,11 +21,13 @@ use Rattle.machine.specs.Interrupts.{keyboardVector, keyboardPriority, t
 use Rattle.machine.specs.Interrupts.{timerMayInterrupt, keyboardMayInterrupt, pendingInterrupt}
 use Rattle.machine.specs.Protection.{denied}
 use Rattle.machine.specs.Entry.{entry, raised, interrupted}
-use Rattle.machine.specs.Devices.{KBSR, KBDR, DSR, DDR, TSR, TIR, PSR, isDevice, ddrStore, deviceStore, stored}
-use Rattle.machine.specs.Access.{checked, loadTo, storeAt, byPointer}
+use Rattle.machine.specs.Devices.{KBSR, KBDR, DSR, DDR, TSR, TIR, PSR, isDevice, ddrStore, deviceStore, storedBy}
+use Rattle.machine.specs.Devices.{stored}
+use Rattle.machine.specs.Access.{checked, loadToBy, loadTo, storeAtBy, storeAt, byPointerBy, byPointer}
 use Rattle.machine.specs.Return.{popped, return}
 use Rattle.machine.specs.Plan.{planOf}
-use Rattle.machine.specs.Step.{perform, obeyed, interruptedOrObeyed, ended, afterStart, stepOf}
+use Rattle.machine.specs.Step.{performBy, perform, obeyedBy, obeyed, interruptedOrObeyedBy, interruptedOrObeyed}
+use Rattle.machine.specs.Step.{ended, afterStart, stepBy, stepOf}
 use Rattle.machine.specs.Causes.{isTrapOrException, takesInterrupt}
 use Rattle.machine.proofs.Tests.{either-branch}
 use Rattle.machine.proofs.TwoSteps.{no-interrupt-is-obeyed}
@@ -56,23 +58,23 @@ device-store-is-no-interrupt v a m mem =
     (either-branch NoInterruptTaken (eqb a PSR) refl refl))))))
 
 store-is-no-interrupt : (v a : ℕ) (m : Machine) (mem : List ℕ) → NoInterruptTaken (stored v a m mem)
-unfolding stored
+unfolding storedBy
 store-is-no-interrupt v a m mem = either-branch NoInterruptTaken (isDevice a) (device-store-is-no-interrupt v a m mem)
     refl
 
 loadTo-is-no-interrupt : (r a : ℕ) (m : Machine) (mem : List ℕ) → NoInterruptTaken (loadTo r a m mem)
-unfolding loadTo
+unfolding loadToBy
 loadTo-is-no-interrupt r a m mem = checked-is-no-interrupt a m mem _ refl
 
 storeAt-is-no-interrupt : (v a : ℕ) (m : Machine) (mem : List ℕ) → NoInterruptTaken (storeAt v a m mem)
-unfolding storeAt
+unfolding storeAtBy
 storeAt-is-no-interrupt v a m mem =
     checked-is-no-interrupt a m mem _ (store-is-no-interrupt v a (afterInstruction (m .regs) (next (m .pc)) kept m) mem)
 
 byPointer-is-no-interrupt : (a : ℕ) (data-access : ℕ → Machine → List ℕ → Outcome) (m : Machine) (mem : List ℕ)
     → ((b : ℕ) (n : Machine) → NoInterruptTaken (data-access b n mem))
     → NoInterruptTaken (byPointer a data-access m mem)
-unfolding byPointer withReads
+unfolding byPointerBy withReads
 byPointer-is-no-interrupt a data-access m mem h = checked-is-no-interrupt a m mem _ (h _ _)
 
 return-is-no-interrupt : (m : Machine) (mem : List ℕ) → NoInterruptTaken (return m mem)
@@ -82,7 +84,7 @@ return-is-no-interrupt m mem =
     (trap-or-exception-is-no-interrupt privilege (m .pc) m mem refl) refl
 
 plan-is-no-interrupt : (p : Plan) (m : Machine) (mem : List ℕ) → NoInterruptTaken (perform p m mem)
-unfolding perform
+unfolding performBy
 plan-is-no-interrupt (Move r v pc) m mem = refl
 plan-is-no-interrupt (Put r v pc) m mem = refl
 plan-is-no-interrupt (Jump pc) m mem = refl
@@ -97,19 +99,19 @@ plan-is-no-interrupt Illegal m mem = trap-or-exception-is-no-interrupt illegal (
 plan-is-no-interrupt Return m mem = return-is-no-interrupt m mem
 
 instruction-is-no-interrupt : (m : Machine) (mem : List ℕ) → NoInterruptTaken (obeyed m mem)
-unfolding obeyed withReads
+unfolding obeyedBy withReads
 instruction-is-no-interrupt m mem =
     checked-is-no-interrupt (m .pc) m mem _
     (plan-is-no-interrupt (planOf (m .regs) (m .pc) (m .psr) (readOf (getD mem (m .pc) 0))) m mem)
 
 pending-is-taken : (vector priority : ℕ) (m : Machine) (mem : List ℕ)
     → takesInterrupt (interruptedOrObeyed (Interrupt vector priority) m mem .cause) ≡ true
-unfolding interruptedOrObeyed interrupted entry
+unfolding interruptedOrObeyedBy interrupted entry
 pending-is-taken vector priority m mem = refl
 
 none-pending-is-none-taken : (m : Machine) (mem : List ℕ) → takesInterrupt (interruptedOrObeyed Nothing m mem .cause)
     ≡ false
-unfolding interruptedOrObeyed
+unfolding interruptedOrObeyedBy
 none-pending-is-none-taken m mem = instruction-is-no-interrupt m mem
 
 -- A device may interrupt at the start of the step: the timer, or the keyboard.
@@ -118,7 +120,7 @@ interruptIsDue keys m = timerMayInterrupt (afterStart keys m) || keyboardMayInte
 
 pub interrupt-is-taken-by-rule-2 : (keys : List ℕ) (m : Machine) (mem : List ℕ)
     → takesInterrupt (stepOf keys m mem .cause) ≡ interruptIsDue keys m
-unfolding stepOf ended pendingInterrupt
+unfolding stepBy ended pendingInterrupt
 interrupt-is-taken-by-rule-2 keys m mem =
     go (timerMayInterrupt (afterStart keys m)) (keyboardMayInterrupt (afterStart keys m))
   where
@@ -132,7 +134,7 @@ interrupt-is-taken-by-rule-2 keys m mem =
 
 pub otherwise-the-word-is-obeyed : (keys : List ℕ) (m : Machine) (mem : List ℕ) → interruptIsDue keys m ≡ false
     → stepOf keys m mem ≡ ended (obeyed (afterStart keys m) mem)
-unfolding stepOf ended
+unfolding stepBy ended
 otherwise-the-word-is-obeyed keys m mem e =
     let n : Machine = afterStart keys m in
     ap ended (no-interrupt-is-obeyed (pendingInterrupt n) n mem (interrupt-is-taken-by-rule-2 keys m mem ∙ e))

@@ -3,6 +3,7 @@
 pub mod Opened
 pub mod TimerTheorems
 pub mod RuleExamples
+pub mod SecondEditionExamples
 pub mod Mistakes
 pub mod WordLaws
 pub mod Tests
@@ -13,5 +14,6 @@ pub mod TwoSteps
 pub mod StepLaws
 pub mod CheckIsNeeded
 pub mod InterruptRule
+pub mod StepsAlike
 pub mod TouchedWords
 pub mod ReadWords

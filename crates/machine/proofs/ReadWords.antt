@@ -21,12 +21,14 @@ use Rattle.machine.specs.Outcome.{Cause, Outcome, plainOutcome, withRead
 use Rattle.machine.specs.Interrupts.{pendingInterrupt}
 use Rattle.machine.specs.Protection.{denied}
 use Rattle.machine.specs.Entry.{stackPointerOnEntry, pushed, afterEntry, entry, raised, interrupted}
-use Rattle.machine.specs.Devices.{KBSR, KBDR, DSR, DDR, TSR, TIR, PSR, isDevice, lentWord, deviceValue, loadedValue}
-use Rattle.machine.specs.Devices.{afterLoad, ddrStore, deviceStore, stored}
-use Rattle.machine.specs.Access.{checked, loadTo, storeAt, byPointer}
+use Rattle.machine.specs.Devices.{KBSR, KBDR, DSR, DDR, TSR, TIR, PSR, isDevice, lentWordBy, lentWord}
+use Rattle.machine.specs.Devices.{deviceValue, loadedValueBy, loadedValue, afterLoad, ddrStore, deviceStore}
+use Rattle.machine.specs.Devices.{storedBy, stored}
+use Rattle.machine.specs.Access.{checked, loadToBy, loadTo, storeAtBy, storeAt, byPointerBy, byPointer}
 use Rattle.machine.specs.Return.{popped, return}
 use Rattle.machine.specs.Plan.{planOf}
-use Rattle.machine.specs.Step.{perform, obeyed, interruptedOrObeyed, ended, afterStart, stepOf}
+use Rattle.machine.specs.Step.{performBy, perform, obeyedBy, obeyed, interruptedOrObeyedBy, interruptedOrObeyed}
+use Rattle.machine.specs.Step.{ended, afterStart, stepBy}
 use Rattle.machine.specs.Touched.{Each, SameWordAt, SameEffect, StepReads}
 
 -- ---- lists of addresses
@@ -151,7 +153,7 @@ module _ (mem₁ mem₂ : List ℕ) (l : length mem₁ ≡ length mem₂) where
   -- A load gives a device's value, or the lent word that it reads.
   loaded-value-follows : (a : ℕ) (m : Machine) → Each (SameWordAt mem₁ mem₂) (lentWord a)
       → loadedValue a m mem₁ ≡ loadedValue a m mem₂
-  unfolding lentWord loadedValue
+  unfolding lentWordBy loadedValueBy
   loaded-value-follows a m e = go (isDevice a) e
     where
       go : (b : Bool) → Each (SameWordAt mem₁ mem₂) (cond b [] (a ∷ []))
@@ -160,7 +162,7 @@ module _ (mem₁ mem₂ : List ℕ) (l : length mem₁ ≡ length mem₂) where
       go false e = e .0
 
   load-follows : (r a : ℕ) (m : Machine) → Followed (loadTo r a m)
-  unfolding loadTo
+  unfolding loadToBy
   load-follows r a m = checked-follows a m (λ e. memory-kept (rw (loaded-value-follows a m e)))
 
   device-follows : (v a : ℕ) (m : Machine) → Followed (deviceStore v a m)
@@ -175,7 +177,7 @@ module _ (mem₁ mem₂ : List ℕ) (l : length mem₁ ≡ length mem₂) where
       (either (eqb a PSR) (plain-follows _) (plain-follows _)))))))
 
   stored-follows : (v a : ℕ) (m : Machine) → Followed (stored v a m)
-  unfolding stored
+  unfolding storedBy
   stored-follows v a m =
       either (isDevice a) (device-follows v a m)
       (λ e. record {
@@ -190,13 +192,13 @@ module _ (mem₁ mem₂ : List ℕ) (l : length mem₁ ≡ length mem₂) where
       })
 
   store-follows : (v a : ℕ) (m : Machine) → Followed (storeAt v a m)
-  unfolding storeAt
+  unfolding storeAtBy
   store-follows v a m = checked-follows a m (stored-follows v a _)
 
   -- The pointer is the same in both, since its word is read.
   pointer-follows : (a : ℕ) (data-access : ℕ → Machine → List ℕ → Outcome) (m : Machine)
       → ((b : ℕ) (n : Machine) → Followed (data-access b n)) → Followed (byPointer a data-access m)
-  unfolding byPointer
+  unfolding byPointerBy
   pointer-follows a data-access m f =
       checked-follows a m
       (after-reads (lentWord a) _ _
@@ -211,7 +213,7 @@ module _ (mem₁ mem₂ : List ℕ) (l : length mem₁ ≡ length mem₂) where
   return-follows m = either (inUserMode (m .psr)) (raised-follows privilege (m .pc) m) (popped-follows _ m)
 
   plan-follows : (p : Plan) (m : Machine) → Followed (perform p m)
-  unfolding perform
+  unfolding performBy
   plan-follows (Move r v pc) m = plain-follows _
   plan-follows (Put r v pc) m = plain-follows _
   plan-follows (Jump pc) m = plain-follows _
@@ -225,14 +227,14 @@ module _ (mem₁ mem₂ : List ℕ) (l : length mem₁ ≡ length mem₂) where
 
   -- The plan is the same in both, since the word fetched is read.
   obeyed-follows : (m : Machine) → Followed (obeyed m)
-  unfolding obeyed
+  unfolding obeyedBy
   obeyed-follows m =
       checked-follows (m .pc) m
       (after-reads (m .pc ∷ []) _ _
       (λ e. rw (← (e .0)) (plan-follows (planOf (m .regs) (m .pc) (m .psr) (readOf (getD mem₁ (m .pc) 0))) m)))
 
   either-follows : (p : Pending) (m : Machine) → Followed (interruptedOrObeyed p m)
-  unfolding interruptedOrObeyed interrupted
+  unfolding interruptedOrObeyedBy interrupted
   either-follows Nothing m = obeyed-follows m
   either-follows (Interrupt vector priority) m = entry-follows (interrupt vector) (m .pc) _ m
 
@@ -252,6 +254,6 @@ module _ (mem₁ mem₂ : List ℕ) (l : length mem₁ ≡ length mem₂) where
       }
 
 pub step-reads : StepReads
-unfolding stepOf
+unfolding stepBy
 step-reads keys m mem₁ mem₂ l =
     end-follows mem₁ mem₂ l _ _ (either-follows mem₁ mem₂ l (pendingInterrupt (afterStart keys m)) (afterStart keys m))

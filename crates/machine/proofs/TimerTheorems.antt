@@ -17,7 +17,7 @@ use Rattle.machine.specs.Keys.{afterKeys}
 use Rattle.machine.specs.Timer.{isOff, expires, expired, oneLess, ticked, afterTimer, tickedBy}
 use Rattle.machine.specs.Interrupts.{timerVector, timerPriority, pendingInterrupt}
 use Rattle.machine.specs.Entry.{interrupted}
-use Rattle.machine.specs.Step.{interruptedOrObeyed, ended, afterStart, stepOf}
+use Rattle.machine.specs.Step.{interruptedOrObeyedBy, ended, afterStart, stepBy, stepOf}
 use Rattle.machine.specs.TimerTheorems.{TimerIsEnteredAtOnce, newInterval, ReadyAtEveryInterval, TimerTheorems}
 
 -- ---- entered at once
@@ -41,7 +41,7 @@ ready-stays t l h = go (isOff t) (leb (t .count) 1)
 module _ (keys : List ℕ) (m : Machine) (mem : List ℕ) where
   once-ready : 0xC000 ≤ afterStart keys m .devices .«timer_status» → priorityOf (m .psr) < timerPriority
       → stepOf keys m mem ≡ ended (interrupted timerVector timerPriority (afterStart keys m) mem)
-  unfolding stepOf interruptedOrObeyed afterKeys afterTimer
+  unfolding stepBy interruptedOrObeyedBy afterKeys afterTimer
   once-ready ready below = rw (timer-is-pending (afterStart keys m) ready below)
 
   ready-before : 0xC000 ≤ m .devices .«timer_status» → m .devices .«timer_status» < 0x10000

@@ -13,10 +13,10 @@ use Rattle.machine.specs.declared.Machine.{Machine}
 use Rattle.machine.specs.Words.{next}
 use Rattle.machine.specs.Psr.{inUserMode, Codes, kept, setFrom, codesOf, recoded}
 use Rattle.machine.specs.Outcome.{Reason, access, instruction, entered, Outcome, withReads, afterInstruction}
-use Rattle.machine.specs.Protection.{privileged, denied}
+use Rattle.machine.specs.Protection.{privileged, deniedBy, denied}
 use Rattle.machine.specs.Entry.{entry, raised}
-use Rattle.machine.specs.Devices.{isDevice, loadedValue, afterLoad, stored}
-use Rattle.machine.specs.Access.{checked, loadTo, storeAt, byPointer}
+use Rattle.machine.specs.Devices.{isDeviceBy, loadedValueBy, loadedValue, afterLoad, storedBy, stored}
+use Rattle.machine.specs.Access.{checked, loadToBy, loadTo, storeAtBy, storeAt, byPointerBy, byPointer}
 use Rattle.machine.specs.Visible.{userWords, SameVisible, Hidden, hiddenOf}
 use Rattle.machine.specs.Causes.{isTrapOrException}
 use Rattle.machine.proofs.Tests.{or-is-false, same-test-same-branch}
@@ -26,7 +26,7 @@ use Rattle.machine.proofs.MemoryParts.{store-leaves-words-below, store-
 -- ---- tests
 
 allowed-in-user-mode : (psr a : ℕ) → inUserMode psr ≡ true → denied psr a ≡ false → UserAddress a
-unfolding denied privileged
+unfolding deniedBy privileged
 allowed-in-user-mode psr a u e =
     let h : (ltb a 0x3000 ≡ false) × (leb 0xFE00 a ≡ false) = or-is-false (ltb a 0x3000) (leb 0xFE00 a) (rw u at e) in
     record { low = ltb-false a 0x3000 (h .0); high = leb-false 0xFE00 a (h .1) }
@@ -95,7 +95,7 @@ module _ (m₁ m₂ : Machine) (mem₁ mem₂ : List ℕ) (g : SameVisible m₁ 
 
     -- No device register is at an address of User mode's.
     pub loaded-values-agree : (a : ℕ) → UserAddress a → loadedValue a m₁ mem₁ ≡ loadedValue a m₂ mem₂
-    unfolding loadedValue isDevice
+    unfolding loadedValueBy isDeviceBy
     loaded-values-agree a w = rw (lt-leb 0xFE00 a (w .high)) (user-words-agree a a refl w)
 
     -- The end of every instruction that stores nothing.
@@ -138,7 +138,7 @@ module _ (m₁ m₂ : Machine) (mem₁ mem₂ : List ℕ) (g : SameVisible m₁ 
 
     pub stores-agree : (v a : ℕ) → UserAddress a
         → SameOutcome (hiddenOf m₁ mem₁) (hiddenOf m₂ mem₂) (stored v a m₁ mem₁) (stored v a m₂ mem₂)
-    unfolding stored isDevice
+    unfolding storedBy isDeviceBy
     stores-agree v a w =
         rw (lt-leb 0xFE00 a (w .high))
         (both-obey
@@ -171,7 +171,7 @@ module _ (m₁ m₂ : Machine) (mem₁ mem₂ : List ℕ) (g : SameVisible m₁ 
 
     pub loads-to-register-agree : (r a₁ a₂ : ℕ) → a₁ ≡ a₂
         → SameOutcome (hiddenOf m₁ mem₁) (hiddenOf m₂ mem₂) (loadTo r a₁ m₁ mem₁) (loadTo r a₂ m₂ mem₂)
-    unfolding loadTo afterLoad
+    unfolding loadToBy afterLoad
     loads-to-register-agree r a₁ a₂ q =
         rw (← q)
         (checks-agree m₁ m₂ mem₁ mem₂ g u a₁ a₁ refl
@@ -183,7 +183,7 @@ module _ (m₁ m₂ : Machine) (mem₁ mem₂ : List ℕ) (g : SameVisible m₁ 
 
     pub stores-of-value-agree : (v a₁ a₂ : ℕ) → a₁ ≡ a₂
         → SameOutcome (hiddenOf m₁ mem₁) (hiddenOf m₂ mem₂) (storeAt v a₁ m₁ mem₁) (storeAt v a₂ m₂ mem₂)
-    unfolding storeAt afterInstruction recoded
+    unfolding storeAtBy afterInstruction recoded
     stores-of-value-agree v a₁ a₂ q =
         rw (← q)
         (checks-agree m₁ m₂ mem₁ mem₂ g u a₁ a₁ refl
@@ -204,7 +204,7 @@ module _ (m₁ m₂ : Machine) (mem₁ mem₂ : List ℕ) (g : SameVisible m₁ 
         → AccessesAgree mem₁ mem₂ data-access
         → SameOutcome (hiddenOf m₁ mem₁) (hiddenOf m₂ mem₂) (byPointer a data-access m₁ mem₁)
         (byPointer a data-access m₂ mem₂)
-    unfolding byPointer afterLoad
+    unfolding byPointerBy afterLoad
     accesses-by-pointer-agree a data-access agree =
         checks-agree m₁ m₂ mem₁ mem₂ g u a a refl
         (λ w.

@@ -22,7 +22,8 @@ use Rattle.machine.specs.Entry.{entry, interrupted}
 use Rattle.machine.specs.Access.{loadTo, storeAt}
 use Rattle.machine.specs.Return.{return}
 use Rattle.machine.specs.Plan.{planOf}
-use Rattle.machine.specs.Step.{perform, obeyed, interruptedOrObeyed, afterTick, ended, afterStart, stepOf}
+use Rattle.machine.specs.Step.{performBy, perform, obeyedBy, obeyed, interruptedOrObeyedBy, interruptedOrObeyed}
+use Rattle.machine.specs.Step.{afterTick, ended, afterStart, stepBy, stepOf}
 use Rattle.machine.specs.Visible.{SameVisible, Hidden, hiddenOf}
 use Rattle.machine.specs.Causes.{takesInterrupt}
 use Rattle.machine.proofs.TwoAccesses.{SameOutcome, both-obey, both-enter, reads-do-not-matter}
@@ -38,7 +39,7 @@ module _ (m₁ m₂ : Machine) (mem₁ mem₂ : List ℕ) (g : SameVisible m₁ 
         (entries-agree m₁ m₂ mem₁ mem₂ g u privilege refl (g .pc))
 
     plans-agree : (p : Plan) → SameOutcome (hiddenOf m₁ mem₁) (hiddenOf m₂ mem₂) (perform p m₁ mem₁) (perform p m₂ mem₂)
-    unfolding perform
+    unfolding performBy
     plans-agree (Move r v pc) = instructions-end-alike m₁ m₂ mem₁ mem₂ g u (cc) refl refl
     plans-agree (Put r v pc) = instructions-end-alike m₁ m₂ mem₁ mem₂ g u (cc) refl refl
     plans-agree (Jump pc) = instructions-end-alike m₁ m₂ mem₁ mem₂ g u (g .regs) refl refl
@@ -55,7 +56,7 @@ module _ (m₁ m₂ : Machine) (mem₁ mem₂ : List ℕ) (g : SameVisible m₁ 
     plans-agree Return = returns-agree
 
     obeyed-instructions-agree : SameOutcome (hiddenOf m₁ mem₁) (hiddenOf m₂ mem₂) (obeyed m₁ mem₁) (obeyed m₂ mem₂)
-    unfolding obeyed
+    unfolding obeyedBy
     obeyed-instructions-agree =
         checks-agree m₁ m₂ mem₁ mem₂ g u (m₁ .pc) (m₂ .pc) (g .pc)
         (λ w.
@@ -76,7 +77,7 @@ start-leaves-visible m₁ m₂ mem₁ mem₂ keys₁ keys₂ g = record
 pub no-interrupt-is-obeyed : (p : Pending) (m : Machine) (mem : List ℕ)
     → takesInterrupt (interruptedOrObeyed p m mem .cause) ≡ false
     → interruptedOrObeyed p m mem ≡ obeyed m mem
-unfolding interruptedOrObeyed interrupted entry
+unfolding interruptedOrObeyedBy interrupted entry
 no-interrupt-is-obeyed Nothing m mem h = refl
 no-interrupt-is-obeyed (Interrupt vector priority) m mem h = absurd (true≢false h)
 
@@ -95,7 +96,7 @@ pub two-steps-agree : (m₁ m₂ : Machine) (mem₁ mem₂ keys₁ keys₂ : Lis
     → inUserMode (m₁ .psr) ≡ true
     → takesInterrupt (stepOf keys₁ m₁ mem₁ .cause) ≡ false → takesInterrupt (stepOf keys₂ m₂ mem₂ .cause) ≡ false
     → SameOutcome (hiddenOf m₁ mem₁) (hiddenOf m₂ mem₂) (stepOf keys₁ m₁ mem₁) (stepOf keys₂ m₂ mem₂)
-unfolding stepOf ended afterKeys afterTimer
+unfolding stepBy ended afterKeys afterTimer
 two-steps-agree m₁ m₂ mem₁ mem₂ keys₁ keys₂ g u i₁ i₂ =
     let n₁ : Machine = afterStart keys₁ m₁ in
     let n₂ : Machine = afterStart keys₂ m₂ in
@@ -110,7 +111,7 @@ two-steps-agree m₁ m₂ mem₁ mem₂ keys₁ keys₂ g u i₁ i₂ =
 -- A step in User mode shows nothing, the interrupt included: by two steps from one and the same record.
 pub user-mode-shows-nothing : (m : Machine) (mem keys : List ℕ) → inUserMode (m .psr) ≡ true → stepOf keys m mem .shown
     ≡ []
-unfolding stepOf ended afterKeys afterTimer interruptedOrObeyed interrupted entry
+unfolding stepBy ended afterKeys afterTimer interruptedOrObeyedBy interrupted entry
 user-mode-shows-nothing m mem keys u = go (pendingInterrupt n)
   where
     n : Machine

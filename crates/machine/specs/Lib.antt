@@ -1,5 +1,5 @@
 -- The machine of document 01, one concept a file, in the paper's order; then what the theorems say of a step, and the
--- worked steps.
+-- worked steps. What the two editions differ in stands in Edition.
 pub mod Words
 pub mod Record
 pub mod Psr
@@ -9,6 +9,7 @@ pub mod Timer
 pub mod Interrupts
 pub mod Protection
 pub mod Entry
+pub mod Edition
 pub mod Devices
 pub mod Access
 pub mod Return
@@ -18,6 +19,8 @@ pub mod Touched
 pub mod Causes
 pub mod Visible
 pub mod TimerTheorems
+pub mod Exclusions
 pub mod Rows
 pub mod RuleExamples
+pub mod SecondEditionExamples
 pub mod Mistakes

@@ -4,8 +4,9 @@ use mathlib.Core.Path.{_≡_}
 use mathlib.Core.List.{List, [], _∷_}
 use lib.ListN.{length, getD}
 use Rattle.machine.specs.declared.Machine.{Machine}
+use Rattle.machine.specs.Edition.{Edition, third}
 use Rattle.machine.specs.Outcome.{Outcome}
-use Rattle.machine.specs.Step.{stepOf}
+use Rattle.machine.specs.Step.{stepBy, stepOf}
 
 -- What holds of each address in a list.
 abbrev pub Each : (ℕ → Type 0) → List ℕ → Type 0
@@ -25,8 +26,8 @@ pub record LeavesOtherWords (mem : List ℕ) (o : Outcome) : Type 0 where
   pub size : length (o .memory) ≡ length mem
   pub others : (a : ℕ) → NoneOf a (o .writes) → SameWordAt (o .memory) mem a
 
-abbrev pub StepWrites : Type 0
-StepWrites = (keys : List ℕ) (m : Machine) (mem : List ℕ) → LeavesOtherWords mem (stepOf keys m mem)
+abbrev pub StepWritesBy : Edition → Type 0
+StepWritesBy e = (keys : List ℕ) (m : Machine) (mem : List ℕ) → LeavesOtherWords mem (stepBy e keys m mem)
 
 -- Two outcomes are the same, but for words of memory that differed before and are not written.
 pub record SameEffect (mem₁ mem₂ : List ℕ) (o₁ o₂ : Outcome) : Type 0 where
@@ -48,5 +49,13 @@ StepReads = (keys : List ℕ) (m : Machine) (mem₁ mem₂ : List ℕ) → lengt
 
 -- `StepReads` would stay true of a step that claimed to read more. None claims more than the word fetched and two
 -- others: a pointer and a datum, a pointer and a vector, or two pops.
+abbrev pub StepReadsAtMostThreeBy : Edition → Type 0
+StepReadsAtMostThreeBy e = (keys : List ℕ) (m : Machine) (mem : List ℕ) → length (stepBy e keys m mem .reads) ≤ 3
+
+-- ---- by the third edition
+
+abbrev pub StepWrites : Type 0
+StepWrites = StepWritesBy third
+
 abbrev pub StepReadsAtMostThree : Type 0
-StepReadsAtMostThree = (keys : List ℕ) (m : Machine) (mem : List ℕ) → length (stepOf keys m mem .reads) ≤ 3
+StepReadsAtMostThree = StepReadsAtMostThreeBy third

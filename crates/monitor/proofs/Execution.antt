@@ -19,7 +19,8 @@ use Rattle.machine.specs.Outcome.{Outcome}
 use Rattle.machine.specs.Causes.{takesInterrupt}
 use Rattle.machine.specs.Step.{obeyed, busyAfter, afterTick, ended, afterStart, stepOf}
 use Rattle.run.specs.declared.Ending.the-variants.{Done}
-use Rattle.run.specs.Run.{Start, End, arriving, nextStep, withShown, stepMade, isHalted, showsByte, isFull, runOf}
+use Rattle.run.specs.Run.{Start, End, arriving, nextStepBy, nextStep, withShown, stepMadeBy, stepMade, isHalted}
+use Rattle.run.specs.Run.{showsByte, isFullBy, isFull, runOf}
 use Rattle.machine.proofs.InterruptRule.{interrupt-is-taken-by-rule-2, otherwise-the-word-is-obeyed}
 use Rattle.run.proofs.RunLaws.{done-run-goes-on}
 use Rattle.monitor.specs.Out.{NotEnabled}
@@ -113,12 +114,12 @@ made : (s : Start) (e : End) (m : Machine) (mem bytes : List ℕ) → nextStep s
       shown = e .shown + length bytes;
       ending = Done;
     }
-unfolding stepMade
+unfolding stepMadeBy
 made s e m mem bytes p q r = rw (p, q, r)
 
 not-full : (s : Start) (e : End) (bytes : List ℕ) → nextStep s e .shown ≡ bytes
     → (showsByte bytes && leb (length (e .output)) (e .shown)) ≡ false → isFull s e ≡ false
-unfolding isFull
+unfolding isFullBy
 not-full s e bytes r h = rw r h
 
 not-halted : (e : End) → e .machine .devices .mcr ≡ 0x8000 → isHalted e ≡ false
@@ -127,7 +128,7 @@ not-halted e h = rw h
 
 goes-on : (s : Start) (k : ℕ) (e : End) → runOf s k ≡ e → e .ending ≡ Done → isHalted e ≡ false → isFull s e ≡ false
     → runOf s (suc k) ≡ stepMade s e
-goes-on s k e q d h f = done-run-goes-on s k (rw q d) (rw q h) (rw q f) ∙ ap (stepMade s) q
+goes-on s k e q d h f = done-run-goes-on stepOf s k (rw q d) (rw q h) (rw q f) ∙ ap (stepMade s) q
 
 one-more-quiet : (s : Start) (k : ℕ) → ((j : ℕ) → j < k → QuietStep s j) → QuietStep s k
     → (j : ℕ) → j < suc k → QuietStep s j
@@ -151,7 +152,7 @@ module _ {s : Start} {k : ℕ} {v : View} (a : At s k v) (quiet : QuietStep s k)
   devices′ = setTimer (ticked (timerOf (a .devices))) (setKeyboard kbsr′ kbdr′ (a .devices))
 
   next-is : nextStep s here ≡ ended (obeyed (machineAt v devices′ (a .clock)) (v .memory))
-  unfolding nextStep afterKeys afterTimer here kbsr′ kbdr′
+  unfolding nextStepBy afterKeys afterTimer here kbsr′ kbdr′
   next-is = uninterrupted-step (arriving s here) (here .machine) (v .memory) (rw (a .stands) at quiet)
 
   -- The instruction at PC leads from one view to another, whatever the devices and the clock hold.
@@ -244,7 +245,7 @@ timer-not-enabled (suc k) t h l =
 
 -- Where neither device may interrupt at the start, no step that the run comes to takes an interrupt.
 pub no-interrupt : {s : Start} {k : ℕ} {v : View} → At s k v → NotEnabled (s .machine .devices) → QuietStep s k
-unfolding nextStep afterKeys afterTimer
+unfolding nextStepBy afterKeys afterTimer
 no-interrupt {s} {k} {v} a off =
     let e : End = standingAt v k (a .keys) (a .devices) (a .clock) in
     let r : readyAfter (arriving s e) (a .devices .kbsr) ≤ 0x8000 =

@@ -17,15 +17,15 @@ use Rattle.machine.specs.declared.Plan.the-variants.{Move, Jump, Load, LoadBy, 
 use Rattle.machine.specs.Words.{next, before, withRegister}
 use Rattle.machine.specs.Psr.{inUserMode, definedPsr, codesOf, recoded}
 use Rattle.machine.specs.Outcome.{withReads, afterInstruction}
-use Rattle.machine.specs.Protection.{denied}
+use Rattle.machine.specs.Protection.{deniedBy, denied}
 use Rattle.machine.specs.Entry.{pushed, entry, afterEntry, raised, stackPointerOnEntry, userStackOnEntry}
-use Rattle.machine.specs.Devices.{KBDR, DSR, DDR, TSR, isDevice, displayIsReady, displayStatus, deviceValue, loadedValue}
-use Rattle.machine.specs.Devices.{kbsrAfterLoad, timerStatusAfterLoad, afterLoad}
-use Rattle.machine.specs.Devices.{ddrStore, deviceStore, stored}
-use Rattle.machine.specs.Access.{loadTo, storeAt, byPointer}
+use Rattle.machine.specs.Devices.{KBDR, DSR, DDR, TSR, isDeviceBy, isDevice, displayIsReady, displayStatus}
+use Rattle.machine.specs.Devices.{deviceValue, loadedValueBy, kbsrAfterLoad, timerStatusAfterLoad, afterLoad}
+use Rattle.machine.specs.Devices.{ddrStore, deviceStore, storedBy}
+use Rattle.machine.specs.Access.{loadToBy, storeAtBy, byPointerBy}
 use Rattle.machine.specs.Return.{afterReturn, popped, return}
 use Rattle.machine.specs.Plan.{planOf}
-use Rattle.machine.specs.Step.{perform, obeyed, busyAfter}
+use Rattle.machine.specs.Step.{performBy, perform, obeyedBy, obeyed, busyAfter}
 use Rattle.run.specs.Run.{Start, withShown, showsByte}
 use Rattle.monitor.proofs.Execution.{View, psrAt, machineAt, Gives, advance, Quiet, Leads, leads-by-one}
 
@@ -41,7 +41,7 @@ Performs plan v bytes v′ = (d : Devices) (t : ℕ)
 obeys-plan : (v v′ : View) (plan : Plan) (bytes : List ℕ) → denied (psrAt v) (v .pc) ≡ false → Plans v plan
     → Performs plan v bytes v′ → (d : Devices) (t : ℕ)
     → Gives (obeyed (machineAt v d t) (v .memory)) bytes (v .busy) v′ d t
-unfolding obeyed withReads
+unfolding obeyedBy withReads
 obeys-plan v v′ plan bytes allowed p h d t = record {
   machine = rw (allowed, p .is) (h d t .machine);
   memory = rw (allowed, p .is) (h d t .memory);
@@ -140,7 +140,7 @@ user-trap-psr h c l = omega arith
 pub traps : {s : Start} {bound : ℕ} (quiet : Quiet s bound) {v : View} → inUserMode (psrAt v) ≡ true → v .codes < 8
     → denied (psrAt v) (v .pc) ≡ false → (vector pc : ℕ) → Plans v (Call vector)
     → getD (pushed (v .memory) (v .ssp) (psrAt v) (next (v .pc))) vector 0 ≡ pc → Leads s bound v 1 (trapped v pc)
-unfolding perform raised entry afterEntry stackPointerOnEntry userStackOnEntry
+unfolding performBy raised entry afterEntry stackPointerOnEntry userStackOnEntry
 traps quiet {v} user below allowed vector pc p w =
     silently quiet allowed (Call vector) p (trapped v pc) refl refl refl
     (λ d t. record {
@@ -157,7 +157,7 @@ supervisor q c h l = lt-leb 0x8000 (q * 8 + c) (omega arith)
 
 -- Supervisor mode may touch every address.
 all-allowed : (v : View) → v .high < 4096 → v .codes < 8 → (a : ℕ) → denied (psrAt v) a ≡ false
-unfolding denied
+unfolding deniedBy
 all-allowed v above below a = rw (supervisor (v .high) (v .codes) above below)
 
 recodes : (q c x : ℕ) → c < 8 → (q * 8 + c) / 8 * 8 + x ≡ q * 8 + x
@@ -165,7 +165,7 @@ recodes q c x h = omega arith
 
 -- A load of a plain word leaves keyboard and timer alone.
 plain-load-keeps-timer : (b status : ℕ) → isDevice b ≡ false → timerStatusAfterLoad b status ≡ status
-unfolding timerStatusAfterLoad isDevice
+unfolding timerStatusAfterLoad isDeviceBy
 plain-load-keeps-timer b status plain = go (eqb b TSR) refl
   where
     go : (same : Bool) → eqb b TSR ≡ same → cond same (status % 0x8000) status ≡ status
@@ -175,7 +175,7 @@ plain-load-keeps-timer b status plain = go (eqb b TSR) refl
         absurd (true≢false (rw z at plain))
 
 plain-load-keeps : (b kbsr : ℕ) → isDevice b ≡ false → kbsrAfterLoad b kbsr ≡ kbsr
-unfolding kbsrAfterLoad isDevice
+unfolding kbsrAfterLoad isDeviceBy
 plain-load-keeps b kbsr plain = go (eqb b KBDR) refl
   where
     go : (same : Bool) → eqb b KBDR ≡ same → cond same (kbsr % 0x8000) kbsr ≡ kbsr
@@ -189,7 +189,7 @@ module _ {s : Start} {bound : ℕ} (quiet : Quiet s bound) {v : View} (above : v
   -- ADD, AND, NOT
   pub moves : (r x pc : ℕ) → Plans v (Move r x pc)
       → Leads s bound v 1 (changed v (withRegister (v .regs) r x) pc (codesOf x) (v .memory))
-  unfolding perform afterInstruction recoded
+  unfolding performBy afterInstruction recoded
   moves r x pc p =
       let allowed = all-allowed v above below in
       silently quiet (allowed (v .pc)) (Move r x pc) p
@@ -198,7 +198,7 @@ module _ {s : Start} {bound : ℕ} (quiet : Quiet s bound) {v : View} (above : v
 
   -- BR, JMP
   pub jumps : (pc : ℕ) → Plans v (Jump pc) → Leads s bound v 1 (changed v (v .regs) pc (v .codes) (v .memory))
-  unfolding perform afterInstruction recoded
+  unfolding performBy afterInstruction recoded
   jumps pc p =
       let allowed = all-allowed v above below in
       silently quiet (allowed (v .pc)) (Jump pc) p (changed v (v .regs) pc (v .codes) (v .memory)) refl refl refl
@@ -207,7 +207,7 @@ module _ {s : Start} {bound : ℕ} (quiet : Quiet s bound) {v : View} (above : v
   -- LD, LDR of a plain word
   pub loads : (r b x : ℕ) → Plans v (Load r b) → isDevice b ≡ false → getD (v .memory) b 0 ≡ x
       → Leads s bound v 1 (changed v (withRegister (v .regs) r x) (next (v .pc)) (codesOf x) (v .memory))
-  unfolding perform loadTo afterInstruction recoded afterLoad loadedValue
+  unfolding performBy loadToBy afterInstruction recoded afterLoad loadedValueBy
   loads r b x p plain w =
       let allowed = all-allowed v above below in
       silently quiet (allowed (v .pc)) (Load r b) p
@@ -222,7 +222,7 @@ module _ {s : Start} {bound : ℕ} (quiet : Quiet s bound) {v : View} (above : v
   -- ST, STR to a plain word
   pub stores : (x b : ℕ) → Plans v (Store x b) → isDevice b ≡ false
       → Leads s bound v 1 (changed v (v .regs) (next (v .pc)) (v .codes) (set (v .memory) b x))
-  unfolding perform storeAt afterInstruction recoded stored
+  unfolding performBy storeAtBy afterInstruction recoded storedBy
   stores x b p plain =
       let allowed = all-allowed v above below in
       silently quiet (allowed (v .pc)) (Store x b) p
@@ -237,8 +237,8 @@ module _ {s : Start} {bound : ℕ} (quiet : Quiet s bound) {v : View} (above : v
   pub polls : (r b x codes : ℕ) → Plans v (LoadBy r b) → isDevice b ≡ false → getD (v .memory) b 0 ≡ DSR
       → cond (eqb (v .busy) 0) 0x8000 0 ≡ x → codesOf x ≡ codes
       → Leads s bound v 1 (changed v (withRegister (v .regs) r x) (next (v .pc)) codes (v .memory))
-  unfolding perform byPointer withReads loadTo afterInstruction recoded afterLoad loadedValue isDevice kbsrAfterLoad timerStatusAfterLoad
-      deviceValue displayStatus displayIsReady
+  unfolding performBy byPointerBy withReads loadToBy afterInstruction recoded afterLoad loadedValueBy isDeviceBy
+      kbsrAfterLoad timerStatusAfterLoad deviceValue displayStatus displayIsReady
   polls r b x codes p plain w status set =
       let allowed = all-allowed v above below in
       silently quiet (allowed (v .pc)) (LoadBy r b) p
@@ -253,8 +253,8 @@ module _ {s : Start} {bound : ℕ} (quiet : Quiet s bound) {v : View} (above : v
   -- STI by a plain word that holds DDR, while the display is ready
   pub shows : (x b : ℕ) → Plans v (StoreBy x b) → isDevice b ≡ false → getD (v .memory) b 0 ≡ DDR → v .busy ≡ 0
       → v .shown < length (v .output) → Leads s bound v 1 (showing v (x % 256))
-  unfolding perform byPointer withReads storeAt afterInstruction recoded afterLoad loadedValue isDevice kbsrAfterLoad timerStatusAfterLoad
-      stored deviceStore ddrStore displayIsReady
+  unfolding performBy byPointerBy withReads storeAtBy afterInstruction recoded afterLoad loadedValueBy isDeviceBy
+      kbsrAfterLoad timerStatusAfterLoad storedBy deviceStore ddrStore displayIsReady
   shows x b p plain w ready free =
       let allowed = all-allowed v above below in
       shows-byte quiet (allowed (v .pc)) (StoreBy x b) p (showing v (x % 256)) (x % 256) free refl refl refl
@@ -268,7 +268,7 @@ module _ {s : Start} {bound : ℕ} (quiet : Quiet s bound) {v : View} (above : v
   pub returns : (sp pc high codes : ℕ) → Plans v Return → getD (v .regs) 6 0 ≡ sp → getD (v .memory) sp 0 ≡ pc
       → definedPsr (getD (v .memory) (next sp) 0) ≡ high * 8 + codes → inUserMode (high * 8 + codes) ≡ true
       → Leads s bound v 1 (returned v pc high codes (next (next sp)))
-  unfolding perform return popped afterReturn
+  unfolding performBy return popped afterReturn
   returns sp pc high codes p six w psr user =
       let here = supervisor (v .high) (v .codes) above below in
       silently quiet (all-allowed v above below (v .pc)) Return p (returned v pc high codes (next (next sp))) refl refl refl

@@ -7,7 +7,7 @@ use lib.ListN.{length, getD, set, take}
 use lib.Seq.{getD-take, take-set-le}
 use Rattle.word.specs.Reading.{readOf}
 use Rattle.machine.specs.declared.Plan.{Plan}
-use Rattle.machine.specs.Plan.{planOf}
+use Rattle.machine.specs.Plan.{planBy, planOf}
 use Rattle.monitor.specs.Vectors.{vectorWord, vectorsFrom, vectorTable}
 use Rattle.monitor.specs.Routines.{routineWords, monitorWords}
 use Rattle.monitor.proofs.Execution.{View, psrAt}
@@ -32,7 +32,7 @@ still-intact {mem} (intact h) a x l =
 
 -- To unfold this is to read the monitor's words and to plan their instructions.
 unfoldable pub reading : Unit {0}
-unfolding monitorWords vectorTable vectorsFrom vectorWord routineWords readOf planOf
+unfolding monitorWords vectorTable vectorsFrom vectorWord routineWords readOf planBy
 reading = tt
 
 -- The plan of the instruction at PC is that of the monitor's word.

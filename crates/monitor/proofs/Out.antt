@@ -19,11 +19,12 @@ use Rattle.machine.specs.Psr.{inUserMode, definedPsr, codesOf, isTaken}
 use Rattle.machine.specs.Keys.{readyAfter, lastKey}
 use Rattle.machine.specs.Record.{timerOf}
 use Rattle.machine.specs.Timer.{tickedBy}
-use Rattle.machine.specs.Protection.{privileged, denied}
-use Rattle.machine.specs.Devices.{DSR, DDR, isDevice}
+use Rattle.machine.specs.Protection.{privileged, deniedBy, denied}
+use Rattle.machine.specs.Devices.{DSR, DDR, isDeviceBy}
 use Rattle.machine.specs.Entry.{pushed}
 use Rattle.machine.specs.Causes.{takesInterrupt}
-use Rattle.machine.specs.Plan.{planOf}
+use Rattle.machine.specs.Step.{stepOf}
+use Rattle.machine.specs.Plan.{planBy}
 use Rattle.run.specs.declared.Ending.the-variants.{Done}
 use Rattle.run.specs.Run.{Start, End, begin, nextStep}
 use Rattle.run.specs.Call.{callOf}
@@ -86,7 +87,7 @@ module _ (s : Start) (bound : ℕ) (quiet : Quiet s bound) (r₀ r₁ r₂ r₃ 
   at-0205 : (busy : ℕ)
       → Leads s bound (view r₁ 0x2FFD 0x0205 1 mem output 0 busy) 1
       (view r₁ 0x2FFD 0x0206 1 kept output 0 (busy - 1))
-  unfolding reading isDevice
+  unfolding reading isDeviceBy
   at-0205 busy = stores quiet above (omega arith) r₁ 0x2FFD (planned i (omega arith) refl) refl
 
   -- ---- the wait
@@ -94,7 +95,7 @@ module _ (s : Start) (bound : ℕ) (quiet : Quiet s bound) (r₀ r₁ r₂ r₃ 
   -- LDI finds the display ready, and BRzp goes on.
   at-0206-ready : (r codes : ℕ) → codes < 8
       → Leads s bound (view r 0x2FFD 0x0206 codes kept output 0 0) 1 (view 0x8000 0x2FFD 0x0207 4 kept output 0 0)
-  unfolding reading isDevice codesOf
+  unfolding reading isDeviceBy codesOf
   at-0206-ready r codes below =
       polls quiet above below 1 0x0282 0x8000 4 (planned kept-intact (omega arith) refl) refl
       (word-at kept-intact 0x0282 DSR (omega arith) refl) refl refl
@@ -109,7 +110,7 @@ module _ (s : Start) (bound : ℕ) (quiet : Quiet s bound) (r₀ r₁ r₂ r₃ 
   -- LDI finds it busy, and BRzp goes back.
   at-0206-busy : (r codes busy : ℕ) → codes < 8
       → Leads s bound (view r 0x2FFD 0x0206 codes kept output 0 (suc busy)) 1 (view 0 0x2FFD 0x0207 2 kept output 0 busy)
-  unfolding reading isDevice codesOf
+  unfolding reading isDeviceBy codesOf
   at-0206-busy r codes busy below =
       let z : suc busy - 1 ≡ busy = omega arith in
       let status = ap (λ (ready : Bool). cond {A = ℕ} ready 0x8000 0) (ne-eqb (suc busy) 0 (λ e. absurd (omega arith))) in
@@ -160,14 +161,14 @@ module _ (s : Start) (bound : ℕ) (quiet : Quiet s bound) (r₀ r₁ r₂ r₃ 
 
   at-0208 : Leads s bound (view 0x8000 0x2FFD 0x0208 4 kept output 0 0) 1
       (view 0x8000 0x2FFD 0x0209 4 kept with-byte 1 8)
-  unfolding reading isDevice
+  unfolding reading isDeviceBy
   at-0208 =
       shows quiet above (omega arith) r₀ 0x0283 (planned kept-intact (omega arith) refl) refl
       (word-at kept-intact 0x0283 DDR (omega arith) refl) refl free
 
   at-0209 : Leads s bound (view 0x8000 0x2FFD 0x0209 4 kept with-byte 1 8) 1
       (view r₁ 0x2FFD 0x020A (codesOf r₁) kept with-byte 1 7)
-  unfolding reading isDevice
+  unfolding reading isDeviceBy
   at-0209 =
       loads quiet above (omega arith) 1 0x2FFD r₁ (planned kept-intact (omega arith) refl) refl
       (getD-set-same mem 0x2FFD r₁ 0 (omega (arith, size)))
@@ -281,7 +282,7 @@ machine-at-start s regs p q =
     go m regs ssp psr p q z = rw (← p, ← q, ← z)
 
 allowed-at : (psr pc : ℕ) → privileged pc ≡ false → denied psr pc ≡ false
-unfolding denied
+unfolding deniedBy
 allowed-at psr pc h = go (inUserMode psr)
   where
     go : (b : Bool) → (b && privileged pc) ≡ false
@@ -289,7 +290,7 @@ allowed-at psr pc h = go (inUserMode psr)
     go false = refl
 
 trap-plans-call : (v : View) (vector : ℕ) → readOf (getD (v .memory) (v .pc) 0) ≡ Trap vector → Plans v (Call vector)
-unfolding planOf
+unfolding planBy
 trap-plans-call v vector h = record { is = rw h }
 
 -- ---- the theorem
@@ -377,7 +378,7 @@ module _ (s : Start) (n : ℕ) (c : CallsOut s n) (quiet : Quiet s (outStepsOf s
     kbsr = unfold readyAfter in refl;
     kbdr = unfold lastKey in refl;
     timer = unfold tickedBy in refl;
-    stands = run-of-none s
+    stands = run-of-none stepOf s
         ∙ ap
         (λ (m : Machine). record {
           machine = m;
@@ -460,22 +461,22 @@ module _ (s : Start) (n : ℕ) (c : CallsOut s n) (quiet : Quiet s (outStepsOf s
 
   makes-them : outStepsOf s ≤ callOf s n .steps
   makes-them =
-      rw (call-is-run s n n (c .accepted) (omega arith))
-      (done-steps-are-made s n (outStepsOf s) (omega (arith, c .steps, few s n c))
+      rw (call-is-run stepOf s n n (c .accepted) (omega arith))
+      (done-steps-are-made stepOf s n (outStepsOf s) (omega (arith, c .steps, few s n c))
       (ap (λ (e : End). e .ending) (at-end .stands)))
 
   shows-and-resumes : Resumed s n (outStepsOf s) (callOf s (outStepsOf s))
   shows-and-resumes =
       out-resumes (callOf s (outStepsOf s)) (at-end .keys) (at-end .devices) (at-end .clock) (at-end .ticks)
       (at-end .kbsr) (at-end .kbdr) (at-end .enabled) (at-end .timer)
-      (call-is-run s n (outStepsOf s) (c .accepted) (omega (arith, c .steps, few s n c)) ∙ at-end .stands) makes-them
+      (call-is-run stepOf s n (outStepsOf s) (c .accepted) (omega (arith, c .steps, few s n c)) ∙ at-end .stands) makes-them
 
   uninterrupted : Uninterrupted s (outStepsOf s)
   unfolding causeAt
   uninterrupted = record {
     none = λ j h.
         subst (λ (e : End). takesInterrupt (nextStep s e .cause) ≡ false)
-        (sym (call-is-run s n j (c .accepted) (omega (arith, c .steps, few s n c)))) (at-end .quiet j h);
+        (sym (call-is-run stepOf s n j (c .accepted) (omega (arith, c .steps, few s n c)))) (at-end .quiet j h);
   }
 
 uninterrupted-is-quiet : (s : Start) (n : ℕ) → CallsOut s n → Uninterrupted s (outStepsOf s) → Quiet s (outStepsOf s)
@@ -483,7 +484,7 @@ unfolding causeAt
 uninterrupted-is-quiet s n c u = record {
   at = λ {k} a h.
       subst (λ (e : End). takesInterrupt (nextStep s e .cause) ≡ false)
-      (call-is-run s n k (c .accepted) (omega (arith, c .steps, few s n c))) (u .none k h);
+      (call-is-run stepOf s n k (c .accepted) (omega (arith, c .steps, few s n c))) (u .none k h);
 }
 
 pub out-shows : OutShows

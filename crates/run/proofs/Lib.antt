@@ -12,3 +12,6 @@ pub mod Continuing
 pub mod Bounds
 pub mod Noninterference
 pub mod TwoStarts
+pub mod RunsAlike
+pub mod SecondEdition
+pub mod SecondEditionRuns

@@ -18,7 +18,8 @@ ghost use Rattle.machine.specs.Words.{withRegister};
 ghost use Rattle.machine.specs.Record.{whole};
 ghost use Rattle.machine.specs.Psr.{Codes, kept, setFrom, recoded};
 ghost use Rattle.machine.specs.Outcome.{afterInstruction};
-ghost use Rattle.machine.specs.Access.{loadedTo, loadTo, storeAt, byPointer};
+ghost use Rattle.machine.specs.Edition.{editionOf};
+ghost use Rattle.machine.specs.Access.{loadedToBy, loadToBy, storeAtBy, byPointerBy};
 ghost use Rattle.step.specs.Delivery.{effect, quiet, after, delivered};
 
 // The record after an instruction. Every field is written out, here and wherever a `Control` is made anew: a copy that
@@ -65,28 +66,43 @@ pub fn go_on_at(c: Control, pc: u16) -> Control
 }
 
 // A load to a register from an address that is not denied.
-fn load_allowed(c: Control, regs: &mut [u16; 8], memory: &[u16], r: u8, a: u16) -> Control
+fn load_allowed(
+    second: bool,
+    c: Control,
+    regs: &mut [u16; 8],
+    memory: &[u16],
+    r: u8,
+    a: u16,
+) -> Control
     requires { ⌜ length (now memory) ≡ 65536 ⌝ }
     ensures { λ n. ⌜ ((clock : ℕ) → whole (now (regs .exit)) clock n
-        ≡ loadedTo r a (whole (now (regs .entry)) clock c) (now (memory .entry))) ⌝ }
+        ≡ loadedToBy (editionOf second) r a (whole (now (regs .entry)) clock c) (now (memory .entry))) ⌝ }
 {
-    let v = load(c, memory, a);
+    let v = load(second, c, memory, a);
     let n = after_load(c, a);
     move_to(n, regs, r, v, next(c.pc))
 }
 
-pub fn load_to(c: Control, regs: &mut [u16; 8], memory: &mut [u16], r: u8, a: u16) -> Control
+pub fn load_to(
+    second: bool,
+    c: Control,
+    regs: &mut [u16; 8],
+    memory: &mut [u16],
+    r: u8,
+    a: u16,
+) -> Control
     requires { ⌜ length (now memory) ≡ 65536 ⌝ }
     ensures { λ n. ⌜ ((clock : ℕ) → quiet (whole (now (regs .exit)) clock n) (now (memory .exit))
-        ≡ effect (loadTo r a (whole (now (regs .entry)) clock c) (now (memory .entry)))) ⌝ }
+        ≡ effect (loadToBy (editionOf second) r a (whole (now (regs .entry)) clock c) (now (memory .entry)))) ⌝ }
 {
-    if is_denied(c.psr, a) {
+    if is_denied(second, c.psr, a) {
         return raise(c, regs, memory, 0x0102, c.pc);
     }
-    load_allowed(c, regs, memory, r, a)
+    load_allowed(second, c, regs, memory, r, a)
 }
 
 pub fn store_at(
+    second: bool,
     c: Control,
     regs: &mut [u16; 8],
     memory: &mut [u16],
@@ -97,34 +113,43 @@ pub fn store_at(
     requires { ⌜ length (now memory) ≡ 65536 ⌝ }
     ensures { λ o. ⌜ ((clock : ℕ) → after o (now (regs .exit)) clock (now (memory .exit)) (now (output .exit))
         ≡ delivered (now (regs .entry)) (now (memory .entry)) (now (output .entry))
-        (effect (storeAt v a (whole (now (regs .entry)) clock c) (now (memory .entry))))) ⌝ }
+        (effect (storeAtBy (editionOf second) v a (whole (now (regs .entry)) clock c) (now (memory .entry))))) ⌝ }
 {
-    if is_denied(c.psr, a) {
+    if is_denied(second, c.psr, a) {
         return unshown(raise(c, regs, memory, 0x0102, c.pc));
     }
     let n = go_on_at(c, next(c.pc));
-    store(n, memory, output, v, a)
+    store(second, n, memory, output, v, a)
 }
 
 // LDI: the pointer is loaded, then the word that it points to.
-pub fn load_by(c: Control, regs: &mut [u16; 8], memory: &mut [u16], r: u8, a: u16) -> Control
+pub fn load_by(
+    second: bool,
+    c: Control,
+    regs: &mut [u16; 8],
+    memory: &mut [u16],
+    r: u8,
+    a: u16,
+) -> Control
     requires { ⌜ length (now memory) ≡ 65536 ⌝ }
     ensures { λ n. ⌜ ((clock : ℕ) → quiet (whole (now (regs .exit)) clock n) (now (memory .exit))
-        ≡ effect (byPointer a (loadTo r) (whole (now (regs .entry)) clock c) (now (memory .entry)))) ⌝ }
+        ≡ effect (byPointerBy (editionOf second) a (loadToBy (editionOf second) r) (whole (now (regs .entry)) clock c)
+        (now (memory .entry)))) ⌝ }
 {
-    if is_denied(c.psr, a) {
+    if is_denied(second, c.psr, a) {
         return raise(c, regs, memory, 0x0102, c.pc);
     }
-    let p = load(c, memory, a);
+    let p = load(second, c, memory, a);
     let n = after_load(c, a);
-    if is_denied(n.psr, p) {
+    if is_denied(second, n.psr, p) {
         return raise(n, regs, memory, 0x0102, n.pc);
     }
-    load_allowed(n, regs, memory, r, p)
+    load_allowed(second, n, regs, memory, r, p)
 }
 
 // STI: the pointer is loaded, then the value is stored where it points.
 pub fn store_by(
+    second: bool,
     c: Control,
     regs: &mut [u16; 8],
     memory: &mut [u16],
@@ -135,12 +160,13 @@ pub fn store_by(
     requires { ⌜ length (now memory) ≡ 65536 ⌝ }
     ensures { λ o. ⌜ ((clock : ℕ) → after o (now (regs .exit)) clock (now (memory .exit)) (now (output .exit))
         ≡ delivered (now (regs .entry)) (now (memory .entry)) (now (output .entry))
-        (effect (byPointer a (storeAt v) (whole (now (regs .entry)) clock c) (now (memory .entry))))) ⌝ }
+        (effect (byPointerBy (editionOf second) a (storeAtBy (editionOf second) v) (whole (now (regs .entry)) clock c)
+        (now (memory .entry))))) ⌝ }
 {
-    if is_denied(c.psr, a) {
+    if is_denied(second, c.psr, a) {
         return unshown(raise(c, regs, memory, 0x0102, c.pc));
     }
-    let p = load(c, memory, a);
+    let p = load(second, c, memory, a);
     let n = after_load(c, a);
-    store_at(n, regs, memory, output, v, p)
+    store_at(second, n, regs, memory, output, v, p)
 }

@@ -14,13 +14,14 @@ ghost use mathlib.Core.Bool.{cond};
 ghost use mathlib.Core.List.{List, []};
 ghost use Prim.Native.Nat.{ℕ, _+_};
 ghost use lib.Dec.{eqb};
-ghost use lib.ListN.{length};
+ghost use lib.ListN.{length, getD};
 ghost use Rattle.machine.specs.Record.{whole, withPsr, withKbsr, withMcr, withBusy, withTimer};
-ghost use Rattle.machine.specs.Devices.{loadedValue, afterLoad, withEnable, ddrStore, stored};
+ghost use Rattle.machine.specs.Edition.{editionOf, hasPsrAddress};
+ghost use Rattle.machine.specs.Devices.{PSR, loadedValueBy, afterLoad, withEnable, ddrStore, storedBy};
 ghost use Rattle.machine.specs.Step.{afterTick};
 ghost use Rattle.machine.specs.declared.Control.{Control};
 ghost use Rattle.step.specs.declared.Display.the-variants.{Unchanged};
-ghost use Rattle.step.specs.Delivery.{effect, after, delivered, shownBy};
+ghost use Rattle.step.specs.Delivery.{effect, quiet, after, delivered, shownBy};
 
 // DSR: x8000, or 0 while the display is busy.
 fn display_status(busy: u16) -> u16
@@ -29,10 +30,22 @@ fn display_status(busy: u16) -> u16
     if busy == 0 { 0x8000 } else { 0 }
 }
 
-// The value that a load gives.
-pub fn load(c: Control, memory: &[u16], a: u16) -> u16
+// A load from xFFFC: the PSR, or the word there.
+fn psr_or_word(second: bool, psr: u16, memory: &[u16]) -> u16
     requires { ⌜ length (now memory) ≡ 65536 ⌝ }
-    ensures { λ r. ⌜ ((regs : List ℕ) (clock : ℕ) → r ≡ loadedValue a (whole regs clock c) (now (memory .entry))) ⌝ }
+    ensures { λ r. ⌜ r ≡ cond (hasPsrAddress (editionOf second)) psr (getD (now (memory .entry)) PSR 0) ⌝ }
+{
+    if second {
+        return word_at(memory, 0xFFFC);
+    }
+    psr
+}
+
+// The value that a load gives.
+pub fn load(second: bool, c: Control, memory: &[u16], a: u16) -> u16
+    requires { ⌜ length (now memory) ≡ 65536 ⌝ }
+    ensures { λ r. ⌜ ((regs : List ℕ) (clock : ℕ) → r
+        ≡ loadedValueBy (editionOf second) a (whole regs clock c) (now (memory .entry))) ⌝ }
 {
     match a {
         0xFE00 => c.devices.kbsr,
@@ -41,7 +54,7 @@ pub fn load(c: Control, memory: &[u16], a: u16) -> u16
         0xFE06 => 0,
         0xFE08 => c.devices.timer_status,
         0xFE0A => c.devices.timer_interval,
-        0xFFFC => c.psr,
+        0xFFFC => psr_or_word(second, c.psr, memory),
         0xFFFE => c.devices.mcr,
         _ => word_at(memory, a),
     }
@@ -163,11 +176,32 @@ pub fn count_down(c: Control, display: Display) -> Control
     }
 }
 
-pub fn store(c: Control, memory: &mut [u16], output: &mut [u8], v: u16, a: u16) -> Obeyed
+// A store to xFFFC: to the PSR, or to the word there.
+fn store_psr(second: bool, c: Control, memory: &mut [u16], v: u16) -> Control
+    requires { ⌜ length (now memory) ≡ 65536 ⌝ }
+    ensures { λ n. ⌜ ((regs : List ℕ) (clock : ℕ) → quiet (whole regs clock n) (now (memory .exit))
+        ≡ effect (storedBy (editionOf second) v PSR (whole regs clock c) (now (memory .entry)))) ⌝ }
+{
+    if second {
+        set_word(memory, 0xFFFC, v);
+        return c;
+    }
+    let psr = c.psr / 0x8000 * 0x8000 + v / 256 % 8 * 256 + v % 8;
+    with_psr(c, psr)
+}
+
+pub fn store(
+    second: bool,
+    c: Control,
+    memory: &mut [u16],
+    output: &mut [u8],
+    v: u16,
+    a: u16,
+) -> Obeyed
     requires { ⌜ length (now memory) ≡ 65536 ⌝ }
     ensures { λ r. ⌜ ((regs : List ℕ) (clock : ℕ) → after r regs clock (now (memory .exit)) (now (output .exit))
         ≡ delivered regs (now (memory .entry)) (now (output .entry))
-        (effect (stored v a (whole regs clock c) (now (memory .entry))))) ⌝ }
+        (effect (storedBy (editionOf second) v a (whole regs clock c) (now (memory .entry))))) ⌝ }
 {
     match a {
         0xFE00 => unshown(with_kbsr(c, with_enable(c.devices.kbsr, v))),
@@ -184,10 +218,7 @@ pub fn store(c: Control, memory: &mut [u16], output: &mut [u8], v: u16, a: u16) 
             unshown(with_timer(c, status, c.devices.timer_interval, c.devices.timer_count))
         }
         0xFE0A => unshown(with_timer(c, c.devices.timer_status, v, v)),
-        0xFFFC => {
-            let psr = c.psr / 0x8000 * 0x8000 + v / 256 % 8 * 256 + v % 8;
-            unshown(with_psr(c, psr))
-        }
+        0xFFFC => unshown(store_psr(second, c, memory, v)),
         0xFFFE => {
             let mcr = v / 0x8000 * 0x8000;
             unshown(with_mcr(c, mcr))

@@ -1,4 +1,6 @@
 // What each instruction asks for, from registers, PC and PSR alone.
+use crate::edition::jsrr_target;
+use crate::edition::lea_plan;
 use crate::psr::is_taken;
 use crate::words::bit_and;
 use crate::words::complement;
@@ -11,7 +13,8 @@ ghost use mathlib.Core.Path.{_≡_};
 ghost use mathlib.Core.Bool.{cond};
 ghost use Rattle.machine.specs.Words.{plus};
 ghost use Rattle.machine.specs.Psr.{isTaken};
-ghost use Rattle.machine.specs.Plan.{planOf};
+ghost use Rattle.machine.specs.Edition.{editionOf};
+ghost use Rattle.machine.specs.Plan.{planBy};
 
 fn branch(mask: u8, psr: u16, next: u16, n: i16) -> u16
     ensures { λ r. ⌜ r ≡ cond (isTaken mask psr) (plus next n) next ⌝ }
@@ -22,8 +25,8 @@ fn branch(mask: u8, psr: u16, next: u16, n: i16) -> u16
     next
 }
 
-pub fn plan_for(regs: &[u16; 8], pc: u16, psr: u16, i: Instruction) -> Plan
-    ensures { λ r. ⌜ r ≡ planOf (now (regs .entry)) pc psr i ⌝ }
+pub fn plan_for(second: bool, regs: &[u16; 8], pc: u16, psr: u16, i: Instruction) -> Plan
+    ensures { λ r. ⌜ r ≡ planBy (editionOf second) (now (regs .entry)) pc psr i ⌝ }
 {
     let next = next(pc);
     match i {
@@ -37,7 +40,7 @@ pub fn plan_for(regs: &[u16; 8], pc: u16, psr: u16, i: Instruction) -> Plan
         Instruction::Ld(d, n) => Plan::Load(d, word::fields::offset(next, n)),
         Instruction::St(s, n) => Plan::Store(register(regs, s), word::fields::offset(next, n)),
         Instruction::Jsr(n) => Plan::Put(7, next, word::fields::offset(next, n)),
-        Instruction::Jsrr(b) => Plan::Put(7, next, register(regs, b)),
+        Instruction::Jsrr(b) => Plan::Put(7, next, jsrr_target(second, regs, next, b)),
         Instruction::AndRegister(d, a, b) => {
             Plan::Move(d, bit_and(register(regs, a), register(regs, b)), next)
         }
@@ -61,7 +64,7 @@ pub fn plan_for(regs: &[u16; 8], pc: u16, psr: u16, i: Instruction) -> Plan
         Instruction::Sti(s, n) => Plan::StoreBy(register(regs, s), word::fields::offset(next, n)),
         Instruction::Jmp(b) => Plan::Jump(register(regs, b)),
         Instruction::Reserved(_) => Plan::Illegal,
-        Instruction::Lea(d, n) => Plan::Put(d, word::fields::offset(next, n), next),
+        Instruction::Lea(d, n) => lea_plan(second, d, word::fields::offset(next, n), next),
         Instruction::Trap(vector) => Plan::Call(vector),
     }
 }

@@ -1,10 +1,13 @@
 // Access control.
 ghost use mathlib.Core.Path.{_≡_};
-ghost use Rattle.machine.specs.Protection.{denied};
+ghost use mathlib.Core.Bool.{_&&_};
+ghost use Rattle.machine.specs.Psr.{inUserMode};
+ghost use Rattle.machine.specs.Edition.{editionOf};
+ghost use Rattle.machine.specs.Protection.{privileged, deniedBy};
 
-// User mode may touch x3000 to xFDFF only.
-pub fn is_denied(psr: u16, a: u16) -> bool
-    ensures { λ r. ⌜ r ≡ denied psr a ⌝ }
+// A privileged address in User mode: that mode's own are x3000 to xFDFF.
+fn is_out_of_reach(psr: u16, a: u16) -> bool
+    ensures { λ r. ⌜ r ≡ (inUserMode psr && privileged a) ⌝ }
 {
     if psr < 0x8000 {
         return false;
@@ -14,4 +17,13 @@ pub fn is_denied(psr: u16, a: u16) -> bool
         0xFE00..=0xFFFF => true,
         _ => false,
     }
+}
+
+pub fn is_denied(second: bool, psr: u16, a: u16) -> bool
+    ensures { λ r. ⌜ r ≡ deniedBy (editionOf second) psr a ⌝ }
+{
+    if second {
+        return false;
+    }
+    is_out_of_reach(psr, a)
 }

@@ -297,10 +297,8 @@ pub struct Bus<'a> {
     pub display: Display<'a>,
     pub devices: Devices,
     pub reached: Reached,
-}
-
-fn place(at: u16) -> Option<usize> {
-    REGISTERS.iter().position(|&register| register == at)
+    /// Whether the PSR has an address, as in the third edition.
+    pub psr_at_its_address: bool,
 }
 
 impl Bus<'_> {
@@ -309,10 +307,15 @@ impl Bus<'_> {
             KBSR | KBDR => Some(&mut self.devices.keyboard),
             DSR | DDR => Some(&mut self.display),
             TSR | TIR => Some(&mut self.devices.timer),
-            PSR => Some(&mut self.devices.status),
+            PSR if self.psr_at_its_address => Some(&mut self.devices.status),
             MCR => Some(&mut self.devices.control),
             _ => None,
         }
+    }
+
+    fn place(&self, at: u16) -> Option<usize> {
+        let plain = at == PSR && !self.psr_at_its_address;
+        REGISTERS.iter().position(|&register| register == at && !plain)
     }
 
     fn get(&mut self, at: u16) -> u16 {
@@ -323,17 +326,17 @@ impl Bus<'_> {
     }
 
     pub fn load_pointer(&mut self, at: u16) -> u16 {
-        self.reached.pointer = place(at);
+        self.reached.pointer = self.place(at);
         self.get(at)
     }
 
     pub fn load(&mut self, at: u16) -> u16 {
-        self.reached.load = place(at);
+        self.reached.load = self.place(at);
         self.get(at)
     }
 
     pub fn store(&mut self, at: u16, value: u16) -> Result<(), NoRoom> {
-        self.reached.store = place(at);
+        self.reached.store = self.place(at);
         match self.device(at) {
             Some(device) => device.store(at, value)?,
             None => self.words[usize::from(at)] = value,

@@ -194,6 +194,47 @@ impl Buffers {
         }
     }
 
+    /// Calls `lc3_run_second` with all keys and the whole output.
+    pub fn run_second(&mut self, record: Record, n: u64) -> Answer {
+        let (times, bytes) = (self.times.get(), self.bytes.get());
+        let (memory, output) = (self.memory.get_mut(), self.output.get_mut());
+        // SAFETY: the pointers and lengths are those of four slices that do not overlap.
+        unsafe {
+            ffi::lc3_run_second(
+                record,
+                memory.as_mut_ptr(),
+                memory.len(),
+                times.as_ptr(),
+                times.len(),
+                bytes.as_ptr(),
+                bytes.len(),
+                output.as_mut_ptr(),
+                output.len(),
+                n,
+            )
+        }
+    }
+
+    /// Calls `lc3_step_second` likewise.
+    pub fn step_second(&mut self, record: &mut Record) -> Report {
+        let (times, bytes) = (self.times.get(), self.bytes.get());
+        let (memory, output) = (self.memory.get_mut(), self.output.get_mut());
+        // SAFETY: as in `run`; `record` is a reference of its own.
+        unsafe {
+            ffi::lc3_step_second(
+                record,
+                memory.as_mut_ptr(),
+                memory.len(),
+                times.as_ptr(),
+                times.len(),
+                bytes.as_ptr(),
+                bytes.len(),
+                output.as_mut_ptr(),
+                output.len(),
+            )
+        }
+    }
+
     /// What the reference simulator is handed when it is to use these buffers.
     pub fn call(&mut self, record: Record, n: u64) -> machine::Call<'_> {
         machine::Call {

@@ -4,14 +4,15 @@ use mathlib.Core.Path.{_≡_, refl, ap, _∙_}
 use borrow.Author.Needs.{needs}
 use Rattle.machine.specs.Outcome.{access, withReads}
 use Rattle.machine.specs.declared.Machine.{Machine}
+use Rattle.machine.specs.Edition.{editionOf}
 use Rattle.machine.specs.Record.{whole}
-use Rattle.machine.specs.Access.{loadTo, byPointer}
+use Rattle.machine.specs.Access.{loadToBy, byPointerBy}
 use Rattle.step.specs.Delivery.{effect, quiet}
 use Rattle.step.proofs.access.load_by.Statement.{statement}
 use Rattle.step.proofs.access.load_by.Tie as tie
 
 returns : tie.Need-returns
-unfolding byPointer
+unfolding byPointerBy
 returns c =
     λ clock. rw (
       ← c .before .before .before .before .before .before .is-denied .ensures,
@@ -19,34 +20,46 @@ returns c =
     ) (c .before .before .raise .ensures clock access refl)
 
 returns-2 : tie.Need-returns-2
-unfolding byPointer withReads
+unfolding byPointerBy withReads
 returns-2 c =
     λ clock.
-    let a = c .before .before .before .before .before .before .before .before .before .before .before .before .before .args in
+    let a = c .before .before .before .before .before .before .before .before .before .before .before .before .before
+    .args in
     let after-load = c .before .before .before .before .before .before .before .after-load in
     let load = c .before .before .before .before .before .before .before .before .load in
     let raise2 = c .before .before .raise2 in
     let denied-data : quiet (whole (raise2 .last .1 .0) clock (raise2 .result)) (raise2 .last .1 .1 .0)
-    ≡ effect (loadTo (a .r) (load .result) (whole (a .regs .now) clock (after-load .result)) (a .memory .now)) =
-    unfold loadTo in
-    rw (← c .before .before .before .before .before .before .is-denied2 .ensures, c .before .before .before .before .before .if2 .taken)
+    ≡ effect (loadToBy (editionOf (a .second)) (a .r) (load .result) (whole (a .regs .now) clock (after-load .result))
+    (a .memory .now)) =
+    unfold loadToBy in
+    rw (
+      ← c .before .before .before .before .before .before .is-denied2 .ensures,
+      c .before .before .before .before .before .if2 .taken,
+    )
     (raise2 .ensures clock access refl) in
-    rw (← c .before .before .before .before .before .before .before .before .before .before .before .is-denied .ensures, c .before .before .before .before .before .before .before .before .before .before .if1 .left)
+    rw (
+      ← c .before .before .before .before .before .before .before .before .before .before .before .is-denied .ensures,
+      c .before .before .before .before .before .before .before .before .before .before .if1 .left,
+    )
     (denied-data ∙ rw (after-load .ensures (a .regs .now) clock, load .ensures (a .regs .now) clock))
 
 returns-3 : tie.Need-returns-3
-unfolding byPointer withReads
+unfolding byPointerBy withReads
 returns-3 c =
     λ clock.
     let a = c .before .before .before .before .before .before .before .before .before .before .before .args in
     let after-load = c .before .before .before .before .before .after-load in
     let load = c .before .before .before .before .before .before .load in
-    let loaded : quiet (whole (c .load-allowed .last .1 .0) clock (c .load-allowed .result)) (a .memory .now)
-    ≡ effect (loadTo (a .r) (load .result) (whole (a .regs .now) clock (after-load .result)) (a .memory .now)) =
-    unfold loadTo in
+    let loaded : quiet (whole (c .load-allowed .last .1 .1 .0) clock (c .load-allowed .result)) (a .memory .now)
+    ≡ effect (loadToBy (editionOf (a .second)) (a .r) (load .result) (whole (a .regs .now) clock (after-load .result))
+    (a .memory .now)) =
+    unfold loadToBy in
     rw (← c .before .before .before .before .is-denied2 .ensures, c .before .before .before .if2 .left)
     (ap (λ (m : Machine). quiet m (a .memory .now)) (c .load-allowed .ensures clock)) in
-    rw (← c .before .before .before .before .before .before .before .before .before .is-denied .ensures, c .before .before .before .before .before .before .before .before .if1 .left)
+    rw (
+      ← c .before .before .before .before .before .before .before .before .before .is-denied .ensures,
+      c .before .before .before .before .before .before .before .before .if1 .left,
+    )
     (loaded ∙ rw (after-load .ensures (a .regs .now) clock, load .ensures (a .regs .now) clock))
 
 pub load-by-spec : {M : Type 1} → statement M

@@ -4,13 +4,13 @@ use mathlib.Core.Path.{refl, ap, _∙_}
 use borrow.Author.Needs.{needs}
 use Rattle.machine.specs.declared.Machine.{Machine}
 use Rattle.machine.specs.Outcome.{access}
-use Rattle.machine.specs.Access.{loadTo}
+use Rattle.machine.specs.Access.{loadToBy}
 use Rattle.step.specs.Delivery.{quiet}
 use Rattle.step.proofs.access.load_to.Statement.{statement}
 use Rattle.step.proofs.access.load_to.Tie as tie
 
 returns : tie.Need-returns
-unfolding loadTo
+unfolding loadToBy
 returns c =
     λ clock. rw (
       ← c .before .before .before .before .before .before .is-denied .ensures,
@@ -18,7 +18,7 @@ returns c =
     ) (c .before .before .raise .ensures clock access refl)
 
 returns-2 : tie.Need-returns-2
-unfolding loadTo
+unfolding loadToBy
 returns-2 c =
     λ clock.
     let a = c .before .before .before .before .before .before .args in

@@ -2,16 +2,17 @@
 -- `store`.
 use mathlib.Core.Path.{refl, ap, _∙_}
 use borrow.Author.Needs.{needs}
+use Rattle.machine.specs.Edition.{editionOf}
 use Rattle.machine.specs.declared.Machine.{Machine}
 use Rattle.machine.specs.Outcome.{access}
-use Rattle.machine.specs.Devices.{stored}
-use Rattle.machine.specs.Access.{storeAt}
+use Rattle.machine.specs.Devices.{storedBy}
+use Rattle.machine.specs.Access.{storeAtBy}
 use Rattle.step.specs.Delivery.{effect, delivered}
 use Rattle.step.proofs.access.store_at.Statement.{statement}
 use Rattle.step.proofs.access.store_at.Tie as tie
 
 returns : tie.Need-returns
-unfolding storeAt
+unfolding storeAtBy
 returns c =
     λ clock.
     let a = c .before .before .before .before .before .before .before .before .before .before .args in
@@ -24,7 +25,7 @@ returns c =
     (c .before .before .before .raise .ensures clock access refl))
 
 returns-2 : tie.Need-returns-2
-unfolding storeAt
+unfolding storeAtBy
 returns-2 c =
     λ clock.
     let a = c .before .before .before .before .before .before .before .before .before .before .before .before .before
@@ -35,7 +36,7 @@ returns-2 c =
     )
     (c .before .before .before .before .store .ensures (a .regs .now) clock
     ∙ (ap (λ (m : Machine). delivered (a .regs .now) (a .memory .now) (a .output .now)
-    (effect (stored (a .v) (a .a) m (a .memory .now))))
+    (effect (storedBy (editionOf (a .second)) (a .v) (a .a) m (a .memory .now))))
     (c .before .before .before .before .before .before .before .go-on-at .ensures (a .regs .now) clock)
     ∙ rw (c .before .before .before .before .before .before .before .before .next .ensures)))
 

@@ -2,9 +2,10 @@
 -- device's.
 use mathlib.Core.Path.{refl, ap}
 use mathlib.Core.Logic.{⊎-elim, inl, inr}
+use Rattle.machine.specs.Edition.{editionOf}
 use Rattle.machine.specs.declared.Machine.{Machine}
-use Rattle.machine.specs.Devices.{isDevice, kbsrStore, timerStatusStore, timerIntervalStore, psrStore, mcrStore}
-use Rattle.machine.specs.Devices.{deviceStore, stored}
+use Rattle.machine.specs.Devices.{isDeviceBy, kbsrStore, timerStatusStore, timerIntervalStore, mcrStore}
+use Rattle.machine.specs.Devices.{deviceStore, storedBy}
 use Rattle.machine.proofs.DeviceLaws.{no-device}
 use Rattle.step.specs.Delivery.{quiet, delivered}
 use borrow.Author.Needs.{needs}
@@ -12,7 +13,7 @@ use Rattle.step.proofs.devices.store.Statement.{statement}
 use Rattle.step.proofs.devices.store.Tie as tie
 
 returns : tie.Need-returns
-unfolding stored isDevice deviceStore kbsrStore
+unfolding storedBy isDeviceBy deviceStore kbsrStore
 returns c =
     λ regs clock.
     let a = c .before .before .before .before .before .before .args in
@@ -21,19 +22,19 @@ returns c =
     (c .before .with-kbsr .ensures regs clock))
 
 returns-2 : tie.Need-returns-2
-unfolding stored isDevice deviceStore
+unfolding storedBy isDeviceBy deviceStore
 returns-2 c =
     λ regs clock. rw (c .unshown2 .ensures) (⊎-elim (λ h. rw h) (λ h. rw h) (c .before .match .keys2))
 
 returns-3 : tie.Need-returns-3
-unfolding stored isDevice deviceStore
+unfolding storedBy isDeviceBy deviceStore
 returns-3 c =
     λ regs clock. rw (c .before .before .before .before .match .keys3)
     (c .before .before .show .ensures _ regs
     (c .before .before .before .before .before .before .before .args .memory .now) clock refl)
 
 returns-4 : tie.Need-returns-4
-unfolding stored isDevice deviceStore timerStatusStore
+unfolding storedBy isDeviceBy deviceStore timerStatusStore
 returns-4 c =
     λ regs clock.
     let a = c .before .before .before .before .before .before .args in
@@ -42,7 +43,7 @@ returns-4 c =
     (c .before .with-timer .ensures regs clock))
 
 returns-5 : tie.Need-returns-5
-unfolding stored isDevice deviceStore timerIntervalStore
+unfolding storedBy isDeviceBy deviceStore timerIntervalStore
 returns-5 c =
     λ regs clock.
     let a = c .before .before .before .before .before .args in
@@ -51,16 +52,14 @@ returns-5 c =
     (c .before .with-timer2 .ensures regs clock))
 
 returns-6 : tie.Need-returns-6
-unfolding stored isDevice deviceStore psrStore
 returns-6 c =
     λ regs clock.
-    let a = c .before .before .before .before .before .before .args in
-    rw (c .before .before .before .match .keys6, c .unshown5 .ensures)
-    (ap (λ (m : Machine). delivered regs (a .memory .now) (a .output .now) (quiet m (a .memory .now)))
-    (c .before .with-psr .ensures regs clock))
+    let a = c .before .before .before .before .before .before .before .before .args in
+    rw (c .before .before .before .before .before .match .keys6, c .unshown5 .ensures)
+    (ap (delivered regs (a .memory .now) (a .output .now)) (c .before .before .before .store-psr .ensures regs clock))
 
 returns-7 : tie.Need-returns-7
-unfolding stored isDevice deviceStore mcrStore
+unfolding storedBy isDeviceBy deviceStore mcrStore
 returns-7 c =
     λ regs clock.
     let a = c .before .before .before .before .before .args in
@@ -69,12 +68,13 @@ returns-7 c =
     (c .before .with-mcr .ensures regs clock))
 
 returns-8 : tie.Need-returns-8
-unfolding stored
+unfolding storedBy
 returns-8 c =
     λ regs clock.
+    let args = c .before .before .before .before .before .before .before .before .args in
     let r = c .before .before .before .before .before .match .rest in
     rw (
-      no-device (c .before .before .before .before .before .before .before .before .args .a) (r .0 .0 .0 .0 .0 .0 .1)
+      no-device (editionOf (args .second)) (args .a) (r .0 .0 .0 .0 .0 .0 .1)
           (λ h. r .0 .0 .0 .0 .0 .1 (inl h)) (λ h. r .0 .0 .0 .0 .0 .1 (inr h)) (r .0 .0 .0 .0 .1) (r .0 .0 .0 .1)
           (r .0 .0 .1) (r .0 .1) (r .1),
       c .unshown7 .ensures,
@@ -86,7 +86,6 @@ store-spec =
     tie.close
     (tie.spec (λ c κs. search needs) (λ c κs. search needs) (λ c κs. search needs) (λ c κs. search needs)
     (λ c κs. search needs) (λ c κs. search needs) (λ c κs. search needs) (λ c κs. search needs)
-    (λ c κs. search needs) (λ c κs. search needs) (λ c. search needs) (λ c. search needs) (λ c. search needs)
-    (λ c. search needs) (λ c κs. search needs) (λ c κs. search needs) (λ c. search needs) (λ c κs. search needs)
-    (λ c κs. search needs) (λ c κs. search needs) (λ c κs. search needs) returns returns-2 (λ c. search needs)
-    returns-3 returns-4 returns-5 returns-6 returns-7 (λ c. search needs) returns-8)
+    (λ c κs. search needs) (λ c κs. search needs) (λ c κs. search needs) (λ c κs. search needs) (λ c. search needs)
+    (λ c κs. search needs) (λ c κs. search needs) (λ c κs. search needs) (λ c κs. search needs) returns returns-2
+    (λ c. search needs) returns-3 returns-4 returns-5 (λ c. search needs) returns-6 returns-7 (λ c. search needs) returns-8)

@@ -2,14 +2,14 @@
 use mathlib.Core.Path.{refl, ap}
 use borrow.Author.Needs.{needs}
 use Rattle.machine.specs.declared.Machine.{Machine}
-use Rattle.machine.specs.Outcome.{trap, illegal}
-use Rattle.machine.specs.Step.{perform}
+use Rattle.machine.specs.Outcome.{illegal}
+use Rattle.machine.specs.Step.{performBy}
 use Rattle.step.specs.Delivery.{quiet, delivered}
 use Rattle.step.proofs.obeying.perform.Statement.{statement}
 use Rattle.step.proofs.obeying.perform.Tie as tie
 
 returns : tie.Need-returns
-unfolding perform
+unfolding performBy
 returns c =
     λ clock.
     let a = c .before .before .before .before .before .before .before .before .args in
@@ -18,7 +18,7 @@ returns c =
     (c .before .move-to .ensures clock))
 
 returns-2 : tie.Need-returns-2
-unfolding perform
+unfolding performBy
 returns-2 c =
     λ clock.
     let a = c .before .before .before .before .before .before .before .before .args in
@@ -27,7 +27,7 @@ returns-2 c =
     (c .before .put-in .ensures clock))
 
 returns-3 : tie.Need-returns-3
-unfolding perform
+unfolding performBy
 returns-3 c =
     λ clock.
     let a = c .before .before .before .before .before .before .before .args in
@@ -36,7 +36,7 @@ returns-3 c =
     (c .before .go-on-at .ensures (a .regs .now) clock))
 
 returns-4 : tie.Need-returns-4
-unfolding perform
+unfolding performBy
 returns-4 c =
     λ clock.
     let a = c .before .before .before .before .before .before .before .before .before .before .before .args in
@@ -45,7 +45,7 @@ returns-4 c =
     (c .before .before .before .load-to .ensures clock))
 
 returns-5 : tie.Need-returns-5
-unfolding perform
+unfolding performBy
 returns-5 c =
     λ clock.
     let a = c .before .before .before .before .before .before .before .before .before .before .before .args in
@@ -54,42 +54,36 @@ returns-5 c =
     (c .before .before .before .load-by .ensures clock))
 
 returns-6 : tie.Need-returns-6
-unfolding perform
+unfolding performBy
 returns-6 c =
     λ clock. rw (c .before .before .before .before .before .before .before .before .before .plan6 .given .1)
     (c .before .before .before .before .store-at .ensures clock)
 
 returns-7 : tie.Need-returns-7
-unfolding perform
+unfolding performBy
 returns-7 c =
     λ clock. rw (c .before .before .before .before .before .before .before .before .before .plan7 .given .1)
     (c .before .before .before .before .store-by .ensures clock)
 
 returns-8 : tie.Need-returns-8
-unfolding perform
+unfolding performBy
 returns-8 c =
     λ clock.
-    let a = c .before .before .before .before .before .before .before .before .before .before .before .before .args in
-    rw (
-      c .before .before .before .before .before .before .before .before .plan8 .given .1,
-      c .unshown6 .ensures,
-      ← c .before .before .before .before .next .ensures,
-    )
-    (ap (delivered (a .regs .now) (a .memory .now) (a .output .now))
-    (c .before .before .before .raise .ensures clock
-    (trap (c .before .before .before .before .before .before .before .before .plan8 .given .0 .0)) refl))
+    let a = c .before .before .before .before .before .before .before .before .before .before .before .args in
+    rw (c .before .before .before .before .before .before .before .plan8 .given .1, c .unshown6 .ensures)
+    (ap (delivered (a .regs .now) (a .memory .now) (a .output .now)) (c .before .before .before .trap .ensures clock))
 
 returns-9 : tie.Need-returns-9
-unfolding perform
+unfolding performBy
 returns-9 c =
     λ clock.
     let a = c .before .before .before .before .before .before .before .before .before .before .args in
     rw (c .before .before .before .before .before .before .enum-told .given .1, c .unshown7 .ensures)
     (ap (delivered (a .regs .now) (a .memory .now) (a .output .now))
-    (c .before .before .before .raise2 .ensures clock illegal refl))
+    (c .before .before .before .raise .ensures clock illegal refl))
 
 returns-10 : tie.Need-returns-10
-unfolding perform
+unfolding performBy
 returns-10 c =
     λ clock.
     let a = c .before .before .before .before .before .before .before .before .before .before .args in
@@ -104,8 +98,8 @@ perform-spec =
     (λ c κs. search needs) (λ c κs. search needs) (λ c. search needs) (λ c κs. search needs) (λ c κs. search needs)
     (λ c. search needs) (λ c κs. search needs) (λ c κs. search needs) (λ c. search needs) (λ c κs. search needs)
     (λ c κs. search needs) (λ c. search needs) (λ c κs. search needs) (λ c. search needs) (λ c κs. search needs)
-    (λ c. search needs) (λ c κs. search needs) (λ c κs. search needs) (λ c κs. search needs) (λ c. search needs)
-    (λ c κs. search needs) (λ c κs. search needs) (λ c. search needs) (λ c κs. search needs) (λ c κs. search needs)
-    returns returns-2 returns-3 (λ c. search needs) returns-4 (λ c. search needs) returns-5 (λ c. search needs)
-    (λ c. search needs) returns-6 (λ c. search needs) (λ c. search needs) returns-7 (λ c. search needs) returns-8
-    (λ c. search needs) returns-9 (λ c. search needs) returns-10)
+    (λ c. search needs) (λ c κs. search needs) (λ c κs. search needs) (λ c. search needs) (λ c κs. search needs)
+    (λ c κs. search needs) (λ c. search needs) (λ c κs. search needs) (λ c κs. search needs) returns returns-2
+    returns-3 (λ c. search needs) returns-4 (λ c. search needs) returns-5 (λ c. search needs) (λ c. search needs)
+    returns-6 (λ c. search needs) (λ c. search needs) returns-7 (λ c. search needs) returns-8 (λ c. search needs)
+    returns-9 (λ c. search needs) returns-10)

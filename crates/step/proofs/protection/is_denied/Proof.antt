@@ -1,29 +1,16 @@
--- `step::protection::is_denied` meets its contract: by the cases of its tests.
-use borrow.Author.Tests.{lt-ltb, le-ltb, le-leb, lt-leb}
-use Rattle.machine.specs.Psr.{inUserMode}
-use Rattle.machine.specs.Protection.{privileged, denied}
+-- `step::protection::is_denied` meets its contract: by the edition.
+use borrow.Author.Needs.{needs}
+use Rattle.machine.specs.Protection.{deniedBy}
 use Rattle.step.proofs.protection.is_denied.Statement.{statement}
 use Rattle.step.proofs.protection.is_denied.Tie as tie
 
 returns : tie.Need-returns
-unfolding denied inUserMode
-returns c =
-    rw (lt-leb _ _ (c .if1 .taken))
+unfolding deniedBy
+returns c = rw (c .if1 .taken)
 
 returns-2 : tie.Need-returns-2
-unfolding denied inUserMode privileged
-returns-2 c =
-    rw (le-leb _ _ (c .before .if1 .left), lt-ltb _ _ (c .if2 .taken))
-
-returns-3 : tie.Need-returns-3
-unfolding denied inUserMode privileged
-returns-3 c =
-    rw (le-leb _ _ (c .before .before .if1 .left), le-ltb _ _ (c .before .if2 .left), lt-leb _ _ (c .if3 .taken))
-
-returns-4 : tie.Need-returns-4
-unfolding denied inUserMode privileged
-returns-4 c =
-    rw (le-leb _ _ (c .before .before .if1 .left), le-ltb _ _ (c .before .if2 .left), le-leb _ _ (c .if3 .left))
+unfolding deniedBy
+returns-2 c = rw (c .before .if1 .left) (c .is-out-of-reach .ensures)
 
 pub is-denied-spec : {M : Type 1} → statement M
-is-denied-spec = tie.close (tie.spec returns returns-2 returns-3 returns-4)
+is-denied-spec = tie.close (tie.spec returns (λ c κs. search needs) returns-2)

@@ -1,0 +1,81 @@
+-- The rules of the second edition, each in steps that would end otherwise without it; the form is in Rows.
+use mathlib.Core.Path.{_≡_}
+use mathlib.Core.Bool.{true, false}
+use mathlib.Core.List.{List, [], _∷_, map}
+use Prim.Native.Nat.{ℕ}
+use Rattle.machine.specs.Edition.{second}
+use Rattle.machine.specs.Outcome.{privilege, illegal}
+use Rattle.machine.specs.Devices.{isDeviceBy}
+use Rattle.machine.specs.Rows.{R, PC, PSR, Saved-USP, KBSR, TSR, word, reads, shows, enters, interruptsBy}
+use Rattle.machine.specs.Rows.{interrupts, Fact, Row, userBy, supervisorBy, Hold}
+
+abbrev pub user : ℕ → List Fact → List Fact → Row
+user w facts changes = userBy second w facts changes
+
+abbrev pub supervisor : ℕ → List Fact → List Fact → Row
+supervisor w facts changes = supervisorBy second w facts changes
+
+pub record SecondEditionRulesHold : Type 0 where
+  -- "LEA sets the codes": P, N and Z.
+  pub lea-sets-codes :
+      Hold
+      (supervisor 0xEAFF [] (R 5 0x0500 ∷ PSR 0x0501 ∷ [])  -- LEA R5, #255
+      ∷ supervisor 0xEA00 (PC 0x8400 ∷ []) (R 5 0x8401 ∷ PSR 0x0504 ∷ [])  -- LEA R5, #0
+      ∷ supervisor 0xEBFF (PC 0x0000 ∷ []) (R 5 0x0000 ∷ PSR 0x0502 ∷ [])  -- LEA R5, #-1
+      ∷ [])
+  -- "TRAP puts Next in R7 and takes PC from its vector, with no push or mode change."
+  pub trap-links :
+      Hold
+      (user 0xF0AF (word 0x00AF 0x0A00 ∷ []) (reads 0x00AF ∷ R 7 0x3001 ∷ PC 0x0A00 ∷ [])  -- TRAP xAF
+      ∷ supervisor 0xF0AF (word 0x00AF 0x0A00 ∷ []) (reads 0x00AF ∷ R 7 0x0401 ∷ PC 0x0A00 ∷ [])  -- TRAP xAF
+      ∷ [])
+  -- "No access exception exists": for a fetch, a load, a store, a pointer and what it points to. In User mode too a
+  -- device register is reached.
+  pub user-mode-reaches-every-address :
+      Hold
+      (user 0x1A6F (PC 0x2FFF ∷ []) (R 5 0x5A4B ∷ PSR 0x8501 ∷ [])  -- ADD R5, R1, #15
+      ∷ user 0x1A6F (PC 0xFE00 ∷ []) (R 5 0x5A4B ∷ PSR 0x8501 ∷ [])  -- ADD R5, R1, #15
+      ∷ user 0x6040 (R 1 0x0000 ∷ word 0x0000 0x9ABC ∷ [])  -- LDR R0, R1, #0
+      (reads 0x0000 ∷ R 0 0x9ABC ∷ PSR 0x8504 ∷ [])
+      ∷ user 0x6040 (R 1 0xFE02 ∷ []) (R 0 0x0055 ∷ PSR 0x8501 ∷ KBSR 0x4000 ∷ [])  -- LDR R0, R1, #0: KBDR
+      ∷ user 0x7040 (R 1 0x2FFF ∷ []) (word 0x2FFF 0x0F1E ∷ [])  -- STR R0, R1, #0
+      ∷ user 0x7040 (R 1 0xFE06 ∷ []) (shows 0x1E ∷ [])  -- STR R0, R1, #0: DDR
+      ∷ user 0xA7FE (word 0x2FFF 0x3100 ∷ word 0x3100 0x9ABC ∷ [])  -- LDI R3, #-2
+      (reads 0x2FFF ∷ reads 0x3100 ∷ R 3 0x9ABC ∷ PSR 0x8504 ∷ [])
+      ∷ user 0xA610 (word 0x3011 0x0100 ∷ word 0x0100 0x9ABC ∷ [])  -- LDI R3, #16
+      (reads 0x3011 ∷ reads 0x0100 ∷ R 3 0x9ABC ∷ PSR 0x8504 ∷ [])
+      ∷ user 0xB7FE (word 0x2FFF 0x3100 ∷ []) (reads 0x2FFF ∷ word 0x3100 0xC0DE ∷ [])  -- STI R3, #-2
+      ∷ user 0xB610 (word 0x3011 0x0100 ∷ []) (reads 0x3011 ∷ word 0x0100 0xC0DE ∷ [])  -- STI R3, #16
+      ∷ [])
+  -- "xFFFC is a plain word": for a load, a store and a pointer. The other device registers are where they were.
+  pub psr-address-is-plain :
+      Hold
+      (supervisor 0x6040 (R 1 0xFFFC ∷ word 0xFFFC 0x9ABC ∷ [])  -- LDR R0, R1, #0
+      (reads 0xFFFC ∷ R 0 0x9ABC ∷ PSR 0x0504 ∷ [])
+      ∷ supervisor 0x7040 (R 0 0x0207 ∷ R 1 0xFFFC ∷ []) (word 0xFFFC 0x0207 ∷ [])  -- STR R0, R1, #0
+      ∷ supervisor 0xA79B (PC 0x0060 ∷ word 0xFFFC 0x0500 ∷ word 0x0500 0x9ABC ∷ [])  -- LDI R3, #-101
+      (reads 0xFFFC ∷ reads 0x0500 ∷ R 3 0x9ABC ∷ PSR 0x0504 ∷ [])
+      ∷ supervisor 0xB79B (PC 0x0060 ∷ word 0xFFFC 0x0500 ∷ [])  -- STI R3, #-101
+      (reads 0xFFFC ∷ word 0x0500 0xC0DE ∷ [])
+      ∷ [])
+  pub other-devices-stay :
+      map (isDeviceBy second) (0xFE00 ∷ 0xFE02 ∷ 0xFE04 ∷ 0xFE06 ∷ 0xFE08 ∷ 0xFE0A ∷ 0xFFFC ∷ 0xFFFE ∷ [])
+      ≡ true ∷ true ∷ true ∷ true ∷ true ∷ true ∷ false ∷ true ∷ []
+  -- "JSRR R7 continues at Next"; by any other register as before.
+  pub jsrr-r7-continues-at-next :
+      Hold
+      (supervisor 0x41C0 [] (R 7 0x0401 ∷ [])  -- JSRR R7
+      ∷ supervisor 0x4100 [] (R 7 0x0401 ∷ PC 0x0321 ∷ [])  -- JSRR R4
+      ∷ [])
+  -- "All else is unchanged": the privilege and the illegal exception and the two interrupts are entries.
+  pub other-entries-stay :
+      Hold
+      (user 0x8000 (word 0x0100 0x0B00 ∷ [])  -- RTI: privilege
+      (enters privilege 0x027E 0x8505 0x3000 ∷ reads 0x0100 ∷ PC 0x0B00 ∷ PSR 0x0505 ∷ Saved-USP 0xFD00 ∷ [])
+      ∷ user 0xDABC (word 0x0101 0x0C00 ∷ [])  -- opcode 13: illegal
+      (enters illegal 0x027E 0x8505 0x3000 ∷ reads 0x0101 ∷ PC 0x0C00 ∷ PSR 0x0505 ∷ Saved-USP 0xFD00 ∷ [])
+      ∷ user 0xE000 (PSR 0x8302 ∷ word 0x0180 0x0E00 ∷ [])  -- the keyboard's interrupt
+      (interrupts 0x027E 0x8302 0x3000 ∷ PSR 0x0402 ∷ Saved-USP 0xFD00 ∷ [])
+      ∷ user 0xE000 (TSR 0xC000 ∷ word 0x0181 0x0E00 ∷ [])  -- the timer's
+      (interruptsBy 0x0181 0x027E 0x8505 0x3000 ∷ PSR 0x0605 ∷ Saved-USP 0xFD00 ∷ [])
+      ∷ [])
