@@ -1,5 +1,5 @@
--- The timer is entered at once, by the first test of `pendingInterrupt`; and it is ready at every interval, by induction on
--- the steps of one interval and on the intervals.
+-- The timer is entered at once, by the first test of `pendingInterrupt`; and it is ready at every interval, by
+-- induction on the steps of one interval and on the intervals.
 use Prim.Native.Nat.{ℕ, zero, suc, _+_, _-_, _*_, _%_, _≤_, _<_}
 use native.Mathlib.Nat.{zero-mul, suc-mul}
 use native.Mathlib.Decide.{decLe}

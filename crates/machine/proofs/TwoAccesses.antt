@@ -177,7 +177,8 @@ module _ (m₁ m₂ : Machine) (mem₁ mem₂ : List ℕ) (g : SameVisible m₁ 
         (checks-agree m₁ m₂ mem₁ mem₂ g u a₁ a₁ refl
         (λ w.
         let v : loadedValue a₁ m₁ mem₁ ≡ loadedValue a₁ m₂ mem₂ = loaded-values-agree m₁ m₂ mem₁ mem₂ g u a₁ w in
-        instructions-end-alike (afterLoad a₁ m₁) (afterLoad a₁ m₂) mem₁ mem₂ (load-leaves-visible m₁ m₂ mem₁ mem₂ g u a₁)
+        instructions-end-alike (afterLoad a₁ m₁) (afterLoad a₁ m₂) mem₁ mem₂ (load-leaves-visible m₁ m₂ mem₁ mem₂ g u
+        a₁)
         u (cc)
         next-agrees (cc)))
 

@@ -6,9 +6,9 @@ ghost use Prim.Native.Nat.{ℕ, _-_};
 ghost use Rattle.machine.specs.Record.{whole, withDevices, setKeyboard, setMcr, setBusy, setTimer};
 ghost use Rattle.machine.specs.Record.{freshDevices, zeroDevices};
 
-// What the devices keep. Code that touches no device hands it on whole. Defined bits: KBSR and the timer's status xC000,
-// KBDR x00FF, MCR x8000. `busy` counts the steps for which the display is still busy, at most 8. The timer's count is at
-// most its interval, and 0 only if that is.
+// What the devices keep. Code that touches no device hands it on whole. Defined bits: KBSR and the timer's status
+// xC000, KBDR x00FF, MCR x8000. `busy` counts the steps for which the display is still busy, at most 8. The timer's
+// count is at most its interval, and 0 only if that is.
 #[repr(C)]
 pub struct Devices {
     pub kbsr: u16,

@@ -26,8 +26,8 @@ use Rattle.run.proofs.RunLaws.{done-run-goes-on}
 use Rattle.monitor.specs.Out.{NotEnabled}
 use Rattle.monitor.proofs.KeyLaws.{arrived, ready-after-both, last-of-both}
 
--- What of a run can be foretold without its keys. The PSR is high * 8 + codes: mode and priority, and N, Z, P. `busy` is
--- the display's count.
+-- What of a run can be foretold without its keys. The PSR is high * 8 + codes: mode and priority, and N, Z, P. `busy`
+-- is the display's count.
 pub record View : Type 0 where
   pub regs : List ℕ
   pub pc : ℕ
@@ -43,7 +43,8 @@ pub record View : Type 0 where
 abbrev pub psrAt : View → ℕ
 psrAt v = v .high * 8 + v .codes
 
--- The record of a view, with this busy count in the place of its own, and all else of the devices and the clock as given.
+-- The record of a view, with this busy count in the place of its own, and all else of the devices and the clock as
+-- given.
 abbrev pub machineWith : ℕ → View → Devices → ℕ → Machine
 machineWith busy v devices clock = record {
   regs = v .regs;

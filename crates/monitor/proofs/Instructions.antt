@@ -213,8 +213,15 @@ module _ {s : Start} {bound : ℕ} (quiet : Quiet s bound) {v : View} (above : v
       silently quiet (allowed (v .pc)) (Load r b) p
       (changed v (withRegister (v .regs) r x) (next (v .pc)) (codesOf x) (v .memory)) refl refl refl
       (λ d t. record {
-        machine = rw
-            (allowed b, plain, w, plain-load-keeps b (d .kbsr) plain, plain-load-keeps-timer b (d .«timer_status») plain, recodes (v .high) (v .codes) (codesOf x) below);
+        machine = rw (
+          allowed b,
+          plain,
+          w,
+          plain-load-keeps b (d .kbsr) plain,
+          plain-load-keeps-timer b (d .«timer_status»)
+              plain,
+          recodes (v .high) (v .codes) (codesOf x) below,
+        );
         memory = rw (allowed b);
         shown = rw (allowed b);
       })
@@ -244,7 +251,15 @@ module _ {s : Start} {bound : ℕ} (quiet : Quiet s bound) {v : View} (above : v
       silently quiet (allowed (v .pc)) (LoadBy r b) p
       (changed v (withRegister (v .regs) r x) (next (v .pc)) codes (v .memory)) refl refl refl
       (λ d t. record {
-        machine = rw (allowed b, plain, w, plain-load-keeps b (d .kbsr) plain, plain-load-keeps-timer b (d .«timer_status») plain, allowed DSR)
+        machine = rw (
+          allowed b,
+          plain,
+          w,
+          plain-load-keeps b (d .kbsr) plain,
+          plain-load-keeps-timer b
+              (d .«timer_status») plain,
+          allowed DSR,
+        )
             (rw (status, set, recodes (v .high) (v .codes) codes below));
         memory = rw (allowed b, plain, w, allowed DSR);
         shown = rw (allowed b, plain, w, allowed DSR);
@@ -259,7 +274,15 @@ module _ {s : Start} {bound : ℕ} (quiet : Quiet s bound) {v : View} (above : v
       let allowed = all-allowed v above below in
       shows-byte quiet (allowed (v .pc)) (StoreBy x b) p (showing v (x % 256)) (x % 256) free refl refl refl
       (λ d t. record {
-        machine = rw (allowed b, plain, w, plain-load-keeps b (d .kbsr) plain, plain-load-keeps-timer b (d .«timer_status») plain, allowed DDR);
+        machine = rw (
+          allowed b,
+          plain,
+          w,
+          plain-load-keeps b (d .kbsr) plain,
+          plain-load-keeps-timer b
+              (d .«timer_status») plain,
+          allowed DDR,
+        );
         memory = rw (allowed b, plain, w, allowed DDR);
         shown = rw (allowed b, plain, w, allowed DDR, eq-eqb (v .busy) 0 ready);
       })
@@ -271,7 +294,8 @@ module _ {s : Start} {bound : ℕ} (quiet : Quiet s bound) {v : View} (above : v
   unfolding performBy return popped afterReturn
   returns sp pc high codes p six w psr user =
       let here = supervisor (v .high) (v .codes) above below in
-      silently quiet (all-allowed v above below (v .pc)) Return p (returned v pc high codes (next (next sp))) refl refl refl
+      silently quiet (all-allowed v above below (v .pc)) Return p (returned v pc high codes (next (next sp))) refl refl
+      refl
       (λ d t. record {
         machine = rw (here, six, w, psr, user);
         memory = rw here;

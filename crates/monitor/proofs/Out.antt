@@ -1,5 +1,5 @@
--- OUT, step by step: TRAP, ADD, STR; LDI and BRzp until the display is ready; STI, LDR, ADD, RTI. Each is one application
--- of the law of its kind. The wait is an induction on the busy count, which falls by two in each turn.
+-- OUT, step by step: TRAP, ADD, STR; LDI and BRzp until the display is ready; STI, LDR, ADD, RTI. Each is one
+-- application of the law of its kind. The wait is an induction on the busy count, which falls by two in each turn.
 use Prim.Native.Nat.{ℕ, zero, suc, _+_, _-_, _*_, _/_, _%_, _≤_, _<_}
 use native.Mathlib.Omega.{arith}
 use mathlib.Core.Path.{_≡_, refl, sym, ap, subst, _∙_}
@@ -109,11 +109,13 @@ module _ (s : Start) (bound : ℕ) (quiet : Quiet s bound) (r₀ r₁ r₂ r₃ 
 
   -- LDI finds it busy, and BRzp goes back.
   at-0206-busy : (r codes busy : ℕ) → codes < 8
-      → Leads s bound (view r 0x2FFD 0x0206 codes kept output 0 (suc busy)) 1 (view 0 0x2FFD 0x0207 2 kept output 0 busy)
+      → Leads s bound (view r 0x2FFD 0x0206 codes kept output 0 (suc busy)) 1 (view 0 0x2FFD 0x0207 2 kept output 0
+      busy)
   unfolding reading isDeviceBy codesOf
   at-0206-busy r codes busy below =
       let z : suc busy - 1 ≡ busy = omega arith in
-      let status = ap (λ (ready : Bool). cond {A = ℕ} ready 0x8000 0) (ne-eqb (suc busy) 0 (λ e. absurd (omega arith))) in
+      let status = ap (λ (ready : Bool). cond {A = ℕ} ready 0x8000 0) (ne-eqb (suc busy) 0 (λ e. absurd (omega arith)))
+      in
       let polled : Leads s bound (view r 0x2FFD 0x0206 codes kept output 0 (suc busy)) 1
       (view 0 0x2FFD 0x0207 2 kept output 0 (suc busy - 1)) =
       polls quiet above below 1 0x0282 0 2 (planned kept-intact (omega arith) refl) refl
@@ -419,7 +421,8 @@ module _ (s : Start) (n : ℕ) (c : CallsOut s n) (quiet : Quiet s (outStepsOf s
   from-trap : Leads s (outStepsOf s) (trapped (viewOf s regs) 0x0204) (2 + (waitSteps (busy - 1 - 1 - 1) + 4)) after
   unfolding pushed stack
   from-trap =
-      routine s (outStepsOf s) quiet (x .r₀) (x .r₁) (x .r₂) (x .r₃) (x .r₄) (x .r₅) (x .r₇) (s .machine .psr / 8 % 4096)
+      routine s (outStepsOf s) quiet (x .r₀) (x .r₁) (x .r₂) (x .r₃) (x .r₄) (x .r₅) (x .r₇) (s .machine .psr / 8 %
+      4096)
       (x .r₆) stack (s .output) (omega arith) stack-intact stack-size (c .free-byte) (next (s .machine .pc))
       (s .machine .psr / 8) (s .machine .psr % 8) pc-on-stack psr-on-stack user (s .machine .psr % 8)
       (busy - 1) (omega arith)
@@ -469,7 +472,8 @@ module _ (s : Start) (n : ℕ) (c : CallsOut s n) (quiet : Quiet s (outStepsOf s
   shows-and-resumes =
       out-resumes (callOf s (outStepsOf s)) (at-end .keys) (at-end .devices) (at-end .clock) (at-end .ticks)
       (at-end .kbsr) (at-end .kbdr) (at-end .enabled) (at-end .timer)
-      (call-is-run stepOf s n (outStepsOf s) (c .accepted) (omega (arith, c .steps, few s n c)) ∙ at-end .stands) makes-them
+      (call-is-run stepOf s n (outStepsOf s) (c .accepted) (omega (arith, c .steps, few s n c)) ∙ at-end .stands)
+      makes-them
 
   uninterrupted : Uninterrupted s (outStepsOf s)
   unfolding causeAt

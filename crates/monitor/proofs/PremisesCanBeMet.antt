@@ -14,7 +14,8 @@ use Rattle.monitor.specs.Out.{CallsOut, outCalled, PremisesCanBeMet}
 use Rattle.monitor.proofs.Out.{out-shows}
 
 called : CallsOut outCalled 32
-unfolding outCalled freshOf readOf inUserMode definedPsr privileged wrongSize undefinedTimer undefinedDevices undefinedRecord tooManySteps
+unfolding outCalled freshOf readOf inUserMode definedPsr privileged wrongSize undefinedTimer undefinedDevices
+    undefinedRecord tooManySteps
     unequalLists timesAdmission admissionOf vectorWord vectorsFrom vectorTable routineWords monitorWords installOf
 called = record {
   accepted = refl;

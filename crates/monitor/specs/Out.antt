@@ -103,7 +103,8 @@ pub record OutShows : Type 0 where
   pub resumes : (s : Start) (n : ℕ) → CallsOut s n → Uninterrupted s (outStepsOf s)
       → Resumed s n (outStepsOf s) (callOf s (outStepsOf s))
   -- where no device is enabled, no step is interrupted, whatever keys arrive
-  pub not-enabled : (s : Start) (n : ℕ) → CallsOut s n → NotEnabled (s .machine .devices) → Uninterrupted s (outStepsOf s)
+  pub not-enabled : (s : Start) (n : ℕ) → CallsOut s n → NotEnabled (s .machine .devices) → Uninterrupted s (outStepsOf
+      s)
 
 -- ---- the premises can be met
 

@@ -79,8 +79,8 @@ abbrev pub withTimes : List ℕ → ℕ → ℕ → Asked
 withTimes times refusal index =
     asked (recordWith 0x8002 (withRegistersOf 0 0 0x8000) 1000) 5 times (length times) refusal index
 
--- withBits PSR KBSR KBDR MCR clock n times bytes refusal; withBusy busy refusal; withTimerOf status interval count refusal;
--- atClock clock n times bytes refusal; withTimes times refusal index.
+-- withBits PSR KBSR KBDR MCR clock n times bytes refusal; withBusy busy refusal; withTimerOf status interval count
+-- refusal; atClock clock n times bytes refusal; withTimes times refusal index.
 abbrev pub calls : List Asked
 calls =
     -- every defined bit set, and none

@@ -86,8 +86,8 @@ pub fn unshown(c: Control) -> Obeyed
     }
 }
 
-// DDR, while the display has this busy count: the byte is shown at the start of the output, if it has room. A busy display
-// shows nothing. The count is handed in by itself: a function that is handed the whole record for it costs ten
+// DDR, while the display has this busy count: the byte is shown at the start of the output, if it has room. A busy
+// display shows nothing. The count is handed in by itself: a function that is handed the whole record for it costs ten
 // instructions a step.
 fn show(busy: u16, output: &mut [u8], v: u16) -> Display
     ensures { λ r. ⌜ ((c : Control) (regs memory : List ℕ) (clock : ℕ) → c .devices .busy ≡ busy
@@ -163,8 +163,8 @@ fn one_step_less(c: Control) -> Control
     with_busy(c, busy - 1)
 }
 
-// The end of a step, but for the clock, which the caller keeps: the display is busy for eight steps where a byte was to be
-// shown, else for one less.
+// The end of a step, but for the clock, which the caller keeps: the display is busy for eight steps where a byte was to
+// be shown, else for one less.
 pub fn count_down(c: Control, display: Display) -> Control
     ensures { λ n. ⌜ ((regs : List ℕ) (clock : ℕ) → whole regs (clock + 1) n
         ≡ afterTick (shownBy display) (whole regs clock c)) ⌝ }

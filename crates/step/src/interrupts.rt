@@ -7,8 +7,8 @@ ghost use Prim.Native.Nat.{ℕ};
 ghost use Rattle.machine.specs.Record.{whole};
 ghost use Rattle.machine.specs.Interrupts.{mayInterrupt, pendingInterrupt};
 
-// A device with this status and this priority may interrupt: ready and enable are both set, and the processor's priority
-// is lower.
+// A device with this status and this priority may interrupt: ready and enable are both set, and the processor's
+// priority is lower.
 fn may_interrupt(status: u16, priority: u16, psr: u16) -> bool
     ensures { λ r. ⌜ r ≡ mayInterrupt status priority psr ⌝ }
 {

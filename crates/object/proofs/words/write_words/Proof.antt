@@ -26,7 +26,8 @@ loop-again c =
     let x = c .before .before .before .exchanged .ensures in
     let e = c .before .before .put-pair .ensures in (
       rw (e, x .0, x .1)
-          (one-word-written (l .bytes) (c .before .before .before .before .before .before .before .before .before .before
+          (one-word-written (l .bytes)
+          (c .before .before .before .before .before .before .before .before .before .before
           .args .words .now) (l .k) (search needs) (search needs) ∙ l .inv .0),
       rw e (simp length-set (l .inv .1)),
     )

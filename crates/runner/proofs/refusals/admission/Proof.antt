@@ -1,4 +1,5 @@
--- `runner::refusals::admission` meets its contract: each test fails or holds as the definition's does, in the same order.
+-- `runner::refusals::admission` meets its contract: each test fails or holds as the definition's does, in the same
+-- order.
 use Prim.Native.Nat.{_+_, _^_}
 use native.Mathlib.Omega.{arith}
 use borrow.Author.Tests.{eq-eqb, ne-eqb, lt-ltb, le-ltb}

@@ -1,5 +1,5 @@
--- `runner::refusals::times_admission` meets its contract: between two turns of the loop the answer to the times still to
--- come is the answer to all, and the last time is not below the clock.
+-- `runner::refusals::times_admission` meets its contract: between two turns of the loop the answer to the times still
+-- to come is the answer to all, and the last time is not below the clock.
 use Prim.Native.Nat.{_-_, _≤_}
 use native.Mathlib.Omega.{arith}
 use mathlib.Core.Path.{_≡_, refl, _∙_}

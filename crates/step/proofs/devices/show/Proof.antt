@@ -1,4 +1,5 @@
--- `step::devices::show` meets its contract: a busy display is left alone; otherwise by the two cases of the output's length.
+-- `step::devices::show` meets its contract: a busy display is left alone; otherwise by the two cases of the output's
+-- length.
 use native.Mathlib.Omega.{arith}
 use lib.ListN.{length}
 use borrow.Author.Needs.{needs}

@@ -88,4 +88,5 @@ store-spec =
     (λ c κs. search needs) (λ c κs. search needs) (λ c κs. search needs) (λ c κs. search needs)
     (λ c κs. search needs) (λ c κs. search needs) (λ c κs. search needs) (λ c κs. search needs) (λ c. search needs)
     (λ c κs. search needs) (λ c κs. search needs) (λ c κs. search needs) (λ c κs. search needs) returns returns-2
-    (λ c. search needs) returns-3 returns-4 returns-5 (λ c. search needs) returns-6 returns-7 (λ c. search needs) returns-8)
+    (λ c. search needs) returns-3 returns-4 returns-5 (λ c. search needs) returns-6 returns-7 (λ c. search needs)
+    returns-8)

@@ -14,13 +14,18 @@ returns c =
 returns-2 : tie.Need-returns-2
 unfolding pendingInterrupt
 returns-2 c =
-    λ regs clock. rw (sym (c .before .before .before .may-interrupt .ensures) ∙ c .before .before .if1 .left, lt-leb _ _ (c .if2 .taken))
+    λ regs clock. rw (
+      sym (c .before .before .before .may-interrupt .ensures) ∙ c .before .before .if1 .left,
+      lt-leb _ _
+          (c .if2 .taken),
+    )
 
 returns-3 : tie.Need-returns-3
 unfolding pendingInterrupt
 returns-3 c =
     λ regs clock. rw (
-      sym (c .before .before .before .before .before .may-interrupt .ensures) ∙ c .before .before .before .before .if1 .left,
+      sym (c .before .before .before .before .before .may-interrupt .ensures) ∙
+          c .before .before .before .before .if1 .left,
       le-leb _ _ (c .before .before .if2 .left),
       lt-ltb _ _ (c .if3 .taken),
     )
@@ -29,7 +34,8 @@ returns-4 : tie.Need-returns-4
 unfolding pendingInterrupt
 returns-4 c =
     λ regs clock. rw (
-      sym (c .before .before .before .before .before .may-interrupt .ensures) ∙ c .before .before .before .before .if1 .left,
+      sym (c .before .before .before .before .before .may-interrupt .ensures) ∙
+          c .before .before .before .before .if1 .left,
       le-leb _ _ (c .before .before .if2 .left),
       le-ltb _ _ (c .if3 .left),
     )
