@@ -168,6 +168,33 @@ const _: () = assert!(offset_of!(Routines, putsp) == 8 && offset_of!(Routines, h
 const _: () = assert!(offset_of!(Routines, trap) == 12 && offset_of!(Routines, exception) == 14);
 const _: () = assert!(offset_of!(Routines, interrupt) == 16);
 
+/// The type of [`lc3_run`] and of [`lc3_run_second`].
+pub type RunCall = unsafe extern "C" fn(
+    record: Record,
+    memory: *mut u16,
+    memory_len: usize,
+    times: *const u64,
+    times_len: usize,
+    bytes: *const u8,
+    bytes_len: usize,
+    output: *mut u8,
+    output_len: usize,
+    n: u64,
+) -> Answer;
+
+/// The type of [`lc3_step`] and of [`lc3_step_second`].
+pub type StepCall = unsafe extern "C" fn(
+    record: *mut Record,
+    memory: *mut u16,
+    memory_len: usize,
+    times: *const u64,
+    times_len: usize,
+    bytes: *const u8,
+    bytes_len: usize,
+    output: *mut u8,
+    output_len: usize,
+) -> Report;
+
 unsafe extern "C" {
     /// The version of the interface that the library was built for.
     pub safe fn lc3_version() -> u32;

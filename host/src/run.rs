@@ -244,23 +244,7 @@ pub fn run(
     output: &mut [u8],
     n: u64,
 ) -> Result<Run, Refusal> {
-    // SAFETY: each pointer and length come from one slice, and the borrows keep the slices that
-    // are written apart from all others.
-    let answer = unsafe {
-        ffi::lc3_run(
-            record,
-            memory.as_mut_ptr(),
-            memory.len(),
-            keys.times.as_ptr(),
-            keys.times.len(),
-            keys.bytes.as_ptr(),
-            keys.bytes.len(),
-            output.as_mut_ptr(),
-            output.len(),
-            n,
-        )
-    };
-    made(&answer)
+    run_by(ffi::lc3_run, record, memory, keys, output, n)
 }
 
 /// Makes a single step, and alters `record` itself: otherwise [`run`] with `n` = 1.
@@ -286,22 +270,7 @@ pub fn step(
     keys: Keys<'_>,
     output: &mut [u8],
 ) -> Result<StepReport, Refusal> {
-    // SAFETY: each pointer and length come from one slice, `record` is a reference, and the
-    // borrows keep what is written apart from all else.
-    let report = unsafe {
-        ffi::lc3_step(
-            record,
-            memory.as_mut_ptr(),
-            memory.len(),
-            keys.times.as_ptr(),
-            keys.times.len(),
-            keys.bytes.as_ptr(),
-            keys.bytes.len(),
-            output.as_mut_ptr(),
-            output.len(),
-        )
-    };
-    reported(&report)
+    step_by(ffi::lc3_step, record, memory, keys, output)
 }
 
 /// Runs `n` steps by the rules of the book's second edition; all else is as in [`run`].
@@ -329,22 +298,7 @@ pub fn run_second(
     output: &mut [u8],
     n: u64,
 ) -> Result<Run, Refusal> {
-    // SAFETY: as in `run`.
-    let answer = unsafe {
-        ffi::lc3_run_second(
-            record,
-            memory.as_mut_ptr(),
-            memory.len(),
-            keys.times.as_ptr(),
-            keys.times.len(),
-            keys.bytes.as_ptr(),
-            keys.bytes.len(),
-            output.as_mut_ptr(),
-            output.len(),
-            n,
-        )
-    };
-    made(&answer)
+    run_by(ffi::lc3_run_second, record, memory, keys, output, n)
 }
 
 /// Makes a single step by the rules of the second edition, and alters `record` itself: otherwise
@@ -366,9 +320,49 @@ pub fn step_second(
     keys: Keys<'_>,
     output: &mut [u8],
 ) -> Result<StepReport, Refusal> {
-    // SAFETY: as in `step`.
+    step_by(ffi::lc3_step_second, record, memory, keys, output)
+}
+
+/// Runs by the call of one of the editions.
+fn run_by(
+    call: ffi::RunCall,
+    record: Record,
+    memory: &mut [u16],
+    keys: Keys<'_>,
+    output: &mut [u8],
+    n: u64,
+) -> Result<Run, Refusal> {
+    // SAFETY: each pointer and length come from one slice, and the borrows keep the slices that
+    // are written apart from all others.
+    let answer = unsafe {
+        call(
+            record,
+            memory.as_mut_ptr(),
+            memory.len(),
+            keys.times.as_ptr(),
+            keys.times.len(),
+            keys.bytes.as_ptr(),
+            keys.bytes.len(),
+            output.as_mut_ptr(),
+            output.len(),
+            n,
+        )
+    };
+    made(&answer)
+}
+
+/// Makes a step by the call of one of the editions.
+fn step_by(
+    call: ffi::StepCall,
+    record: &mut Record,
+    memory: &mut [u16],
+    keys: Keys<'_>,
+    output: &mut [u8],
+) -> Result<StepReport, Refusal> {
+    // SAFETY: each pointer and length come from one slice, `record` is a reference, and the
+    // borrows keep what is written apart from all else.
     let report = unsafe {
-        ffi::lc3_step_second(
+        call(
             record,
             memory.as_mut_ptr(),
             memory.len(),

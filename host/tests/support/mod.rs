@@ -8,7 +8,7 @@ pub mod program;
 
 use crate::reference::machine;
 use cases::Case;
-use lc3::ffi::{self, Answer, Report};
+use lc3::ffi::{self, Answer, Report, RunCall, StepCall};
 use lc3::Record;
 use std::env;
 use std::time::{SystemTime, UNIX_EPOCH};
@@ -155,52 +155,37 @@ impl Buffers {
 
     /// Calls `lc3_run` with the keys and the part of the output that earlier calls left.
     pub fn run(&mut self, record: Record, keys: usize, shown: usize, n: u64) -> Answer {
-        let (times, bytes) = (&self.times.get()[keys..], &self.bytes.get()[keys..]);
-        let (memory, output) = (self.memory.get_mut(), &mut self.output.get_mut()[shown..]);
-        // SAFETY: the pointers and lengths are those of four slices that do not overlap.
-        unsafe {
-            ffi::lc3_run(
-                record,
-                memory.as_mut_ptr(),
-                memory.len(),
-                times.as_ptr(),
-                times.len(),
-                bytes.as_ptr(),
-                bytes.len(),
-                output.as_mut_ptr(),
-                output.len(),
-                n,
-            )
-        }
+        self.run_by(ffi::lc3_run, record, keys, shown, n)
     }
 
     /// Calls `lc3_step` likewise.
     pub fn step(&mut self, record: &mut Record, keys: usize, shown: usize) -> Report {
-        let (times, bytes) = (&self.times.get()[keys..], &self.bytes.get()[keys..]);
-        let (memory, output) = (self.memory.get_mut(), &mut self.output.get_mut()[shown..]);
-        // SAFETY: as in `run`; `record` is a reference of its own.
-        unsafe {
-            ffi::lc3_step(
-                record,
-                memory.as_mut_ptr(),
-                memory.len(),
-                times.as_ptr(),
-                times.len(),
-                bytes.as_ptr(),
-                bytes.len(),
-                output.as_mut_ptr(),
-                output.len(),
-            )
-        }
+        self.step_by(ffi::lc3_step, record, keys, shown)
     }
 
     /// Calls `lc3_run_second` with all keys and the whole output.
     pub fn run_second(&mut self, record: Record, n: u64) -> Answer {
-        let (times, bytes) = (self.times.get(), self.bytes.get());
-        let (memory, output) = (self.memory.get_mut(), self.output.get_mut());
+        self.run_by(ffi::lc3_run_second, record, 0, 0, n)
+    }
+
+    /// Calls `lc3_step_second` likewise.
+    pub fn step_second(&mut self, record: &mut Record) -> Report {
+        self.step_by(ffi::lc3_step_second, record, 0, 0)
+    }
+
+    fn run_by(
+        &mut self,
+        call: RunCall,
+        record: Record,
+        keys: usize,
+        shown: usize,
+        n: u64,
+    ) -> Answer {
+        let (times, bytes) = (&self.times.get()[keys..], &self.bytes.get()[keys..]);
+        let (memory, output) = (self.memory.get_mut(), &mut self.output.get_mut()[shown..]);
         // SAFETY: the pointers and lengths are those of four slices that do not overlap.
         unsafe {
-            ffi::lc3_run_second(
+            call(
                 record,
                 memory.as_mut_ptr(),
                 memory.len(),
@@ -215,13 +200,18 @@ impl Buffers {
         }
     }
 
-    /// Calls `lc3_step_second` likewise.
-    pub fn step_second(&mut self, record: &mut Record) -> Report {
-        let (times, bytes) = (self.times.get(), self.bytes.get());
-        let (memory, output) = (self.memory.get_mut(), self.output.get_mut());
-        // SAFETY: as in `run`; `record` is a reference of its own.
+    fn step_by(
+        &mut self,
+        call: StepCall,
+        record: &mut Record,
+        keys: usize,
+        shown: usize,
+    ) -> Report {
+        let (times, bytes) = (&self.times.get()[keys..], &self.bytes.get()[keys..]);
+        let (memory, output) = (self.memory.get_mut(), &mut self.output.get_mut()[shown..]);
+        // SAFETY: as in `run_by`; `record` is a reference of its own.
         unsafe {
-            ffi::lc3_step_second(
+            call(
                 record,
                 memory.as_mut_ptr(),
                 memory.len(),
