@@ -4,7 +4,7 @@
 # make bench  time against C: runs, lines of text, and object files
 # make soak   many more random runs against the reference simulator
 
-EXPORTS = lc3_machine lc3_second lc3_words lc3_lines lc3_objects lc3_monitor lc3_version
+EXPORTS = lc3_machine lc3_logging lc3_second lc3_words lc3_lines lc3_objects lc3_monitor lc3_version
 ARCHIVES = $(EXPORTS:%=target/staticlib/lib%.a)
 # The shared library has the name by which hosts ask for it: it ends in the version of the header.
 SONAME := liblc3.so.$(shell sed -n 's/^.define LC3_VERSION //p' include/lc3.h)
@@ -35,9 +35,11 @@ format:
 host: lib
 	host/c/run.sh
 	host/bench/symbols.sh lc3_run '*::run' '*::go' '*::run_accepted' '*::quiet_steps'
+	host/bench/symbols.sh lc3_run_logged '*::run_logged' '*::go' '*::run_accepted'
 	host/bench/symbols.sh lc3_run_second '*::call' '*::run_by' '*::go' '*::run_accepted'
 	host/bench/count.sh
 	$(CARGO) -- --nocapture
+	$(subst cargo test,cargo run,$(CARGO)) --example log | diff host/examples/log.txt -
 	RUSTDOCFLAGS="-D warnings" \
 	    cargo doc --quiet --no-deps --offline --manifest-path host/Cargo.toml --target-dir build/cargo
 

@@ -7,6 +7,7 @@
  *                to run it
  *   lc3_run      runs up to n steps over lent memory
  *   lc3_step     runs one step and alters the host's own record
+ *   lc3_run_logged   runs as lc3_run does, and logs for each step what it did and by which rule
  *   lc3_run_second, lc3_step_second   the same by the rules of the book's second edition
  *   lc3_read     reads a word as an instruction, and tells which fixed bits are wrong
  *   lc3_write    writes an instruction as a word
@@ -23,12 +24,13 @@
  *   after it, allocates nothing and has no state of its own.
  * - Buffers must be real and apart. Each is a pointer and a number of elements (not bytes): the
  *   pointer must be valid for that many elements and aligned for them. An empty buffer takes any
- *   aligned pointer but NULL. Memory, times, bytes, output, file and the record lent to lc3_step
- *   may not overlap.
+ *   aligned pointer but NULL. Memory, times, bytes, output, log, file and the record lent to
+ *   lc3_step may not overlap.
  * - Several threads may call at once. What a call only reads they may share while nobody writes
- *   it: times and bytes of lc3_run and lc3_step, file of lc3_start, memory of lc3_page and
- *   lc3_save. What a call writes is that call's alone: memory of lc3_run, lc3_step, lc3_start and
- *   lc3_monitor, every output, and the record lent to lc3_step.
+ *   it: times and bytes of lc3_run, lc3_step and lc3_run_logged, file of lc3_start, memory of
+ *   lc3_page and lc3_save. What a call writes is that call's alone: memory of lc3_run, lc3_step,
+ *   lc3_run_logged, lc3_start and lc3_monitor, every output, the log, and the record lent to
+ *   lc3_step.
  * - Every call is answered. One that cannot be obeyed is refused with a number that says why, and
  *   a refused call leaves every field of the record and every buffer as it was.
  * - Padding means nothing. The bytes of a struct that belong to no field may hold anything and may
@@ -61,6 +63,7 @@ extern "C" {
 #define LC3_MAX_CLOCK (UINT64_C(1) << 48) /* the clock never passes this */
 #define LC3_MAX_BUSY 8                    /* steps for which the display is busy after a byte */
 #define LC3_MAX_LINE 17                   /* bytes of the longest line, its line feed included */
+#define LC3_LOG_WORDS 3                   /* words of one step in a log */
 #define LC3_VECTOR_WORDS 512              /* the vector words, x0000 to x01FF */
 #define LC3_MONITOR_WORDS 677             /* the words of the ready-made monitor, x0000 to x02A4 */
 
@@ -108,8 +111,8 @@ extern "C" {
  * answered:
  *
  *   lc3_write           1, 2, 3
- *   lc3_run, lc3_step   11, 12, 13, 14, then 15 and 19 together, entry by entry; lc3_run_second
- *                       and lc3_step_second likewise
+ *   lc3_run, lc3_step   11, 12, 13, 14, then 15 and 19 together, entry by entry; lc3_run_logged,
+ *                       lc3_run_second and lc3_step_second likewise
  *   lc3_line            16
  *   lc3_page            11, 20, 16
  *   lc3_start           11, 17, 18
@@ -135,17 +138,30 @@ enum {
 };
 
 /*
- * Why a run stopped. The reasons are tested before each step, in this order; nothing of the next
- * step, not even the arrival of its keys, has happened.
+ * Why a run stopped. The reasons are tested before each step, in the order of their numbers but for
+ * LC3_LOG_FULL; nothing of the next step, not even the arrival of its keys, has happened.
  *
  * LC3_DONE comes first, so a machine that halts in the last step that was asked for answers
  * LC3_DONE with the MCR's clock enable clear. A host that has come to its own limit of steps asks
  * the record: the machine is halted if (record.mcr & LC3_MCR_CLOCK) == 0.
  */
 enum {
-    LC3_DONE = 0,       /* n steps were made */
-    LC3_HALTED = 1,     /* the MCR's clock enable is clear */
-    LC3_OUTPUT_FULL = 2 /* the next step shows a byte and the output has no free one */
+    LC3_DONE = 0,        /* n steps were made */
+    LC3_HALTED = 1,      /* the MCR's clock enable is clear */
+    LC3_OUTPUT_FULL = 2, /* the next step shows a byte and the output has no free one */
+    LC3_LOG_FULL = 3     /* fewer than LC3_LOG_WORDS words of the log are free: lc3_run_logged
+                            alone, tested between LC3_HALTED and LC3_OUTPUT_FULL */
+};
+
+/* The reason in a log: by which rule a step was made. */
+enum {
+    LC3_REASON_INSTRUCTION = 0, /* an instruction, obeyed to its end */
+    LC3_REASON_TRAP = 1,        /* the entry for a TRAP */
+    LC3_REASON_PRIVILEGE = 2,   /* the exception of an RTI in User mode */
+    LC3_REASON_ILLEGAL = 3,     /* the exception of the reserved opcode */
+    LC3_REASON_ACCESS = 4,      /* the exception of an access to a privileged address */
+    LC3_REASON_KEYBOARD = 5,    /* the keyboard's interrupt */
+    LC3_REASON_TIMER = 6        /* the timer's interrupt */
 };
 
 /*
@@ -187,6 +203,18 @@ typedef struct {
     uint64_t steps, keys, shown, index; /* steps is 1, or 0 where stopped or refused */
     uint32_t refusal, stop;
 } lc3_report;
+
+/*
+ * What lc3_run_logged answers: the fields of lc3_answer, and the words written to the log, three
+ * for each step made.
+ */
+typedef struct {
+    lc3_record record;
+    uint64_t steps, keys, shown;
+    uint64_t logged; /* words of the log written: the first so many; 0 where refused */
+    uint64_t index;
+    uint32_t refusal, stop; /* the stop may be LC3_LOG_FULL */
+} lc3_logged_answer;
 
 /*
  * An instruction as numbers. First its kind, then registers a, b, c in the order in which the
@@ -330,6 +358,25 @@ lc3_report lc3_step(lc3_record *record, uint16_t *memory, size_t memory_len, con
                     size_t output_len);
 
 /*
+ * Runs as lc3_run does, and logs each step: what it did and by which rule. A step takes
+ * LC3_LOG_WORDS words of the log, from its start on:
+ *
+ *   first    PC before the step
+ *   second   the word fetched; 0 where none was, which is so at an interrupt and where the fetch
+ *            itself raised the access exception
+ *   third    the reason, LC3_REASON_INSTRUCTION to LC3_REASON_TIMER
+ *
+ * What lies after the words written is left as lent. Where fewer than LC3_LOG_WORDS words are free
+ * the run stops before the next step with LC3_LOG_FULL. Apart from the log, the answer and all that
+ * is left are those of lc3_run; with LC3_LOG_FULL they are those of lc3_run for answer.steps steps,
+ * but for the stop. A logged step takes up to three times the instructions of one of lc3_run.
+ */
+lc3_logged_answer lc3_run_logged(lc3_record record, uint16_t *memory, size_t memory_len,
+                                 const uint64_t *times, size_t times_len, const uint8_t *bytes,
+                                 size_t bytes_len, uint8_t *output, size_t output_len,
+                                 uint16_t *log, size_t log_len, uint64_t n);
+
+/*
  * The run and the single step for courses on the second edition of the book: as lc3_run and
  * lc3_step, in every refusal, count, stop and field, but for five rules.
  *
@@ -464,6 +511,16 @@ LC3_LAYOUT(offsetof(lc3_report, shown) == 16);
 LC3_LAYOUT(offsetof(lc3_report, index) == 24);
 LC3_LAYOUT(offsetof(lc3_report, refusal) == 32);
 LC3_LAYOUT(offsetof(lc3_report, stop) == 36);
+
+LC3_LAYOUT(sizeof(lc3_logged_answer) == 96);
+LC3_LAYOUT(offsetof(lc3_logged_answer, record) == 0);
+LC3_LAYOUT(offsetof(lc3_logged_answer, steps) == 48);
+LC3_LAYOUT(offsetof(lc3_logged_answer, keys) == 56);
+LC3_LAYOUT(offsetof(lc3_logged_answer, shown) == 64);
+LC3_LAYOUT(offsetof(lc3_logged_answer, logged) == 72);
+LC3_LAYOUT(offsetof(lc3_logged_answer, index) == 80);
+LC3_LAYOUT(offsetof(lc3_logged_answer, refusal) == 88);
+LC3_LAYOUT(offsetof(lc3_logged_answer, stop) == 92);
 
 LC3_LAYOUT(sizeof(lc3_instruction) == 8);
 LC3_LAYOUT(offsetof(lc3_instruction, kind) == 0);

@@ -11,11 +11,13 @@
 #   CC            C compiler             gcc
 #   COUNT_LIMIT   instructions per step  40
 #   POLL_LIMIT    for poll and show      100
+#   LOG_LIMIT     for logged runs        110
 set -eu
 cd "$(dirname "$0")/../.."
 
 limit=${COUNT_LIMIT:-40}
 poll_limit=${POLL_LIMIT:-100}
+log_limit=${LOG_LIMIT:-110}
 steps=20000
 lib=${LC3_LIB_DIR:-build}/liblc3.a
 cc=${CC:-gcc}
@@ -45,9 +47,10 @@ per_step() {
 decimal() { printf '%d.%02d' $(($1 / 100)) $(($1 % 100)); }
 
 status=0
-echo "instructions per step, limit $limit, for poll and show $poll_limit"
+echo "instructions per step, limit $limit, for poll and show $poll_limit, for logged runs $log_limit"
 for program in count timer copy sieve calls poll show; do
     library=$(per_step library $program)
+    logged=$(per_step logged $program)
     plain=$(per_step plain $program)
     tuned=$(per_step tuned $program)
     verdict=
@@ -56,7 +59,12 @@ for program in count timer copy sieve calls poll show; do
         verdict="over the limit"
         status=1
     fi
-    printf '%-8s library %8s   plain C %8s   tuned C %8s   %s\n' \
-        $program "$(decimal "$library")" "$(decimal "$plain")" "$(decimal "$tuned")" "$verdict"
+    if [ "$logged" -gt $((log_limit * 100)) ]; then
+        verdict="over the limit of logged runs"
+        status=1
+    fi
+    printf '%-8s library %8s   logged %8s   plain C %8s   tuned C %8s   %s\n' \
+        $program "$(decimal "$library")" "$(decimal "$logged")" "$(decimal "$plain")" \
+        "$(decimal "$tuned")" "$verdict"
 done
 exit $status

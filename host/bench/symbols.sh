@@ -2,9 +2,9 @@
 # symbols.sh EXPORT NAME...: prints the local functions of the object that holds EXPORT, and exits 1
 # if one of them matches none of the names (shell patterns).
 #
-# A run is fast because one step, and the reading of its word, are inlined into its one loop. A
-# second call of either anywhere in that object undoes this without any other sign than a local
-# function more.
+# A run, logged or not, is fast because one step, and the reading of its word, are inlined into its
+# one loop. A second call of either anywhere in that object undoes this without any other sign than
+# a local function more.
 #
 #   LC3_LIB_DIR   where liblc3.a is   build
 set -eu

@@ -745,6 +745,70 @@ static void test_steps_are_run(void) {
     }
 }
 
+/* ---- Logged runs ---- */
+
+enum { LOGGED = 60, UNLOGGED = 0x6A6A }; /* steps, and what a log holds before a call */
+
+static uint16_t step_log[LC3_LOG_WORDS * LOGGED];
+
+/* The run, logged to so many words, answered in lc3_run's form. */
+static lc3_answer logged(const arguments *c, size_t log_len, uint64_t *words) {
+    for (size_t i = 0; i < LC3_LOG_WORDS * LOGGED; i++) step_log[i] = UNLOGGED;
+    lc3_logged_answer a =
+        lc3_run_logged(c->record, memory, c->memory_len, c->times, c->times_len, c->bytes,
+                       c->bytes_len, output, c->output_len, step_log, log_len, c->n);
+    *words = a.logged;
+    return (lc3_answer){a.record, a.steps, a.keys, a.shown, a.index, a.refusal, a.stop};
+}
+
+/* Words written are three for each step; those after them are as they were. */
+static void check_log(uint64_t words, uint64_t steps) {
+    CHECK(words, LC3_LOG_WORDS * steps);
+    for (size_t i = words; i < LC3_LOG_WORDS * LOGGED; i++) CHECK(step_log[i], UNLOGGED);
+}
+
+static void test_logged_is_run(void) {
+    part = "a logged run against the run";
+    uint64_t words;
+    for (int i = 0; i < 500; i++) {
+        fill_memory();
+        arguments c = any_arguments();
+        c.n = any() % (LOGGED + 1);
+        lc3_answer by_run = run_and_restore(&c);
+        lc3_answer by_log = logged(&c, LC3_LOG_WORDS * LOGGED, &words);
+        check_answer(&by_log, &by_run);
+        check_buffers();
+        check_log(words, by_run.steps);
+    }
+}
+
+/* A TRAP and the first instruction of its routine, with logs of every length around the limit. */
+static void test_log_full(void) {
+    uint64_t words;
+    arguments c = usual();
+    c.n = 2;
+    for (size_t log_len = 0; log_len < 3 * LC3_LOG_WORDS; log_len++) {
+        part = "log full";
+        clear_buffers();
+        memory[0x0025] = 0x3800;
+        memory[0x3000] = 0xF025; /* TRAP x25 */
+        memory[0x3800] = 0x1021; /* ADD R0, R0, #1 */
+        lc3_answer a = logged(&c, log_len, &words);
+        uint64_t steps = log_len / LC3_LOG_WORDS < 2 ? log_len / LC3_LOG_WORDS : 2;
+        CHECK(a.steps, steps);
+        CHECK(a.stop, steps == 2 ? LC3_DONE : LC3_LOG_FULL);
+        check_log(words, steps);
+        static const uint16_t wanted[] = {0x3000, 0xF025, LC3_REASON_TRAP,
+                                          0x3800, 0x1021, LC3_REASON_INSTRUCTION};
+        CHECK(memcmp(step_log, wanted, words * sizeof *wanted), 0);
+    }
+    part = "a refused call logs nothing";
+    c.memory_len = WORDS - 1;
+    lc3_answer a = logged(&c, LC3_LOG_WORDS * LOGGED, &words);
+    CHECK(a.refusal, LC3_REFUSED_MEMORY);
+    check_log(words, 0);
+}
+
 /* ---- The second edition ---- */
 
 /* LEA R0, #-1; TRAP x25; at x0400 JSRR R7; in User mode all the way. */
@@ -1157,6 +1221,8 @@ int main(void) {
     test_keys();
     test_step_is_run();
     test_steps_are_run();
+    test_logged_is_run();
+    test_log_full();
     test_second_edition();
     test_read();
     test_write();

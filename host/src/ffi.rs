@@ -48,6 +48,28 @@ pub struct Report {
     pub stop: u32,
 }
 
+/// What a logged run answers: `lc3_logged_answer`.
+#[repr(C)]
+#[derive(Clone, Copy, Debug, PartialEq, Eq)]
+pub struct LoggedAnswer {
+    /// The record after the run, or as handed in if the run was refused.
+    pub record: Record,
+    /// The steps made.
+    pub steps: u64,
+    /// The keys that arrived.
+    pub keys: u64,
+    /// The bytes shown.
+    pub shown: u64,
+    /// The words written to the log, three for each step.
+    pub logged: u64,
+    /// The first key time at fault, counted from 0, if refused under 15 or 19; else 0.
+    pub index: u64,
+    /// 0, or the number of the refusal: 11 to 15, or 19.
+    pub refusal: u32,
+    /// 0 done, 1 halted, 2 output full, 3 log full; 0 if refused.
+    pub stop: u32,
+}
+
 /// An instruction as the numbers of its fields: `lc3_instruction`.
 #[repr(C)]
 #[derive(Clone, Copy, Debug, PartialEq, Eq)]
@@ -148,6 +170,15 @@ const _: () = assert!(size_of::<Report>() == 40 && align_of::<Report>() == 8);
 const _: () = assert!(offset_of!(Report, steps) == 0 && offset_of!(Report, keys) == 8);
 const _: () = assert!(offset_of!(Report, shown) == 16 && offset_of!(Report, index) == 24);
 const _: () = assert!(offset_of!(Report, refusal) == 32 && offset_of!(Report, stop) == 36);
+const _: () = assert!(size_of::<LoggedAnswer>() == 96 && align_of::<LoggedAnswer>() == 8);
+const _: () = assert!(offset_of!(LoggedAnswer, record) == 0);
+const _: () =
+    assert!(offset_of!(LoggedAnswer, steps) == 48 && offset_of!(LoggedAnswer, keys) == 56);
+const _: () = assert!(offset_of!(LoggedAnswer, shown) == 64);
+const _: () = assert!(offset_of!(LoggedAnswer, logged) == 72);
+const _: () = assert!(offset_of!(LoggedAnswer, index) == 80);
+const _: () = assert!(offset_of!(LoggedAnswer, refusal) == 88);
+const _: () = assert!(offset_of!(LoggedAnswer, stop) == 92);
 const _: () = assert!(size_of::<Fields>() == 8 && align_of::<Fields>() == 4);
 const _: () = assert!(offset_of!(Fields, kind) == 0 && offset_of!(Fields, a) == 1);
 const _: () = assert!(offset_of!(Fields, b) == 2 && offset_of!(Fields, c) == 3);
@@ -248,6 +279,27 @@ unsafe extern "C" {
         output_len: usize,
         n: u64,
     ) -> Answer;
+
+    /// Runs up to `n` steps, and logs each.
+    ///
+    /// # Safety
+    ///
+    /// As for [`lc3_run`]; `log` too must be valid for writing `log_len` words, and not overlap a
+    /// buffer.
+    pub fn lc3_run_logged(
+        record: Record,
+        memory: *mut u16,
+        memory_len: usize,
+        times: *const u64,
+        times_len: usize,
+        bytes: *const u8,
+        bytes_len: usize,
+        output: *mut u8,
+        output_len: usize,
+        log: *mut u16,
+        log_len: usize,
+        n: u64,
+    ) -> LoggedAnswer;
 
     /// Makes a single step, and alters `record` itself.
     ///

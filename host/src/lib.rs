@@ -1,10 +1,11 @@
 //! The LC-3 with privilege, interrupts, a console and a timer.
 //!
-//! This crate is a safe wrapper of the static library `liblc3.a`. It has the library's fifteen calls:
+//! This crate is a safe wrapper of the static library `liblc3.a`. It has the library's sixteen calls:
 //!
 //! - [`version()`], the version of the interface;
 //! - [`start`] for an object file and a machine that is to run it, [`run`](run()) for a number of
 //!   steps over lent memory, and [`step`] for one step, which alters the record that it is lent;
+//! - [`run_logged`] for a run that logs each step, with [`logged_steps`] to read the log;
 //! - [`run_second`] and [`step_second`], the same by the rules of the book's second edition;
 //! - [`read`] for a word as an instruction, [`write`](write()) for an instruction as a word;
 //! - [`line`](line()) for a word as a line of text, [`line_length`] for the bytes of that line, and
@@ -51,6 +52,7 @@ mod error;
 pub mod ffi;
 mod instruction;
 mod line;
+mod log;
 mod monitor;
 mod object;
 mod record;
@@ -59,6 +61,7 @@ mod run;
 pub use error::Error;
 pub use instruction::{read, write, Instruction, Reading, WriteRefusal};
 pub use line::{line, line_length, line_string, page, LineRefusal, PageRefusal, LINE_LIMIT};
+pub use log::{logged_steps, run_logged, LoggedRun, LoggedStep, Reason, LOG_WORDS};
 pub use monitor::{
     install_monitor, vectors, MonitorRefusal, Routines, MONITOR_WORDS, VECTOR_WORDS,
 };

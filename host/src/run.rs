@@ -56,10 +56,13 @@ pub enum Stop {
     Halted,
     /// The next step would show a byte, and the output has no free one.
     OutputFull,
+    /// The log has no room for a step more: of [`run_logged`](crate::run_logged) alone. It is
+    /// tested between halted and output full.
+    LogFull,
 }
 
 impl Stop {
-    /// The stop's number, 0 to 2.
+    /// The stop's number, 0 to 3.
     ///
     /// ```
     /// assert_eq!(lc3::Stop::Halted.code(), 1);
@@ -69,15 +72,17 @@ impl Stop {
             Stop::Done => ffi::LC3_DONE,
             Stop::Halted => ffi::LC3_HALTED,
             Stop::OutputFull => ffi::LC3_OUTPUT_FULL,
+            Stop::LogFull => ffi::LC3_LOG_FULL,
         }
     }
 
     /// The stop that a number stands for.
-    fn from_code(code: u32) -> Stop {
+    pub(crate) fn from_code(code: u32) -> Stop {
         match code {
             ffi::LC3_DONE => Stop::Done,
             ffi::LC3_HALTED => Stop::Halted,
             ffi::LC3_OUTPUT_FULL => Stop::OutputFull,
+            ffi::LC3_LOG_FULL => Stop::LogFull,
             _ => unreachable!("the library answered stop {code}"),
         }
     }
@@ -89,6 +94,7 @@ impl fmt::Display for Stop {
             Stop::Done => "all steps asked for were made",
             Stop::Halted => "the machine is halted",
             Stop::OutputFull => "the output is full",
+            Stop::LogFull => "the log is full",
         })
     }
 }
@@ -115,7 +121,7 @@ pub enum Refusal {
 
 impl Refusal {
     /// Every refusal, those of a key with this index.
-    fn all(index: usize) -> [Refusal; 6] {
+    pub(crate) fn all(index: usize) -> [Refusal; 6] {
         use Refusal::{KeyLists, KeyOrder, KeyTime, Memory, Record, Steps};
         [Memory, Record, Steps, KeyLists, KeyTime(index), KeyOrder(index)]
     }
@@ -188,7 +194,7 @@ pub struct StepReport {
 }
 
 /// A count of elements of a lent slice, or an index into one: at most the slice's length.
-fn count(number: u64) -> usize {
+pub(crate) fn count(number: u64) -> usize {
     usize::try_from(number).expect("a count within a slice")
 }
 

@@ -223,6 +223,15 @@ impl Side {
         answer
     }
 
+    /// The words that the library logs for `n` steps from the start.
+    fn log(&mut self, n: u64) -> Vec<u16> {
+        self.buffers.set(&self.case, &self.template);
+        let mut log = vec![0; 3 * n as usize];
+        let answer = self.buffers.run_logged_after(self.case.record, 0, 0, &mut log, n);
+        assert_eq!(answer.logged, 3 * n);
+        log
+    }
+
     fn meeting(&mut self) -> Meeting {
         self.buffers.set(&self.case, &self.template);
         let mut meeting = Meeting { before: 0, first: None };
@@ -321,6 +330,8 @@ fn check_pair(one: &mut Side, other: &mut Side, meeting: &Meeting, other_meeting
     check_after(one, other, before / 2);
     check_after(one, other, before);
     let (entry, other_entry) = (meeting.entry(), other_meeting.entry());
+    let logged = before + u64::from(entry.is_some());
+    assert_eq!(one.log(logged), other.log(logged), "the logs differ");
     assert_eq!(entry.map(|entry| entry.vector), other_entry.map(|entry| entry.vector));
     if let Some(Entry { vector, psr, pc, .. }) = entry {
         assert_eq!(one.pushed(before, vector), (psr, pc));

@@ -97,7 +97,7 @@ fn ending_stop(ending: Ending) -> u32
     }
 }
 
-// A report in numbers alone, for the run and the single step alike.
+// A report in numbers alone, for the run, the single step and the logged run alike.
 pub fn report_of(report: Report) -> Lc3Report
     ensures { λ r. ⌜ r ≡ reportOf report ⌝ }
 {

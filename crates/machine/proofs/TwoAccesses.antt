@@ -25,7 +25,7 @@ use Rattle.machine.proofs.MemoryParts.{store-leaves-words-below, store-
 
 -- ---- tests
 
-allowed-in-user-mode : (psr a : ℕ) → inUserMode psr ≡ true → denied psr a ≡ false → UserAddress a
+pub allowed-in-user-mode : (psr a : ℕ) → inUserMode psr ≡ true → denied psr a ≡ false → UserAddress a
 unfolding deniedBy privileged
 allowed-in-user-mode psr a u e =
     let h : (ltb a 0x3000 ≡ false) × (leb 0xFE00 a ≡ false) = or-is-false (ltb a 0x3000) (leb 0xFE00 a) (rw u at e) in

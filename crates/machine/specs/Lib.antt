@@ -17,6 +17,7 @@ pub mod Plan
 pub mod Step
 pub mod Touched
 pub mod Causes
+pub mod Rules
 pub mod Visible
 pub mod TimerTheorems
 pub mod Exclusions
@@ -24,3 +25,4 @@ pub mod Rows
 pub mod RuleExamples
 pub mod SecondEditionExamples
 pub mod Mistakes
+pub mod LogExamples

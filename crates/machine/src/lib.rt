@@ -69,6 +69,17 @@ pub enum Pending {
     Interrupt(u16, u16),
 }
 
+// By which rule a step was made: an instruction obeyed to its end, or the entry for one of the others.
+pub enum Rule {
+    Instruction,
+    Trap,
+    Privilege,
+    Illegal,
+    Access,
+    Keyboard,
+    Timer,
+}
+
 // A count that falls by so many, until 0.
 pub fn fallen(count: u16, by: u64) -> u16
     ensures { λ r. ⌜ r ≡ count - by ⌝ }

@@ -10,6 +10,7 @@ use crate::psr::with_codes;
 use crate::words::next;
 use crate::words::set_register;
 use machine::Control;
+use machine::Rule;
 ghost use mathlib.Core.Path.{_≡_};
 ghost use mathlib.Core.List.{List};
 ghost use Prim.Native.Nat.{ℕ};
@@ -20,7 +21,7 @@ ghost use Rattle.machine.specs.Psr.{Codes, kept, setFrom, recoded};
 ghost use Rattle.machine.specs.Outcome.{afterInstruction};
 ghost use Rattle.machine.specs.Edition.{editionOf};
 ghost use Rattle.machine.specs.Access.{loadedToBy, loadToBy, storeAtBy, byPointerBy};
-ghost use Rattle.step.specs.Delivery.{effect, quiet, after, delivered};
+ghost use Rattle.step.specs.Delivery.{after, delivered};
 
 // The record after an instruction. Every field is written out, here and wherever a `Control` is made anew: a copy that
 // is then altered lets the compiler pack neighbouring fields into one word, which costs a step a quarter more
@@ -83,6 +84,7 @@ fn load_allowed(
     move_to(n, regs, r, v, next(c.pc))
 }
 
+// A load shows nothing, so its contract speaks of any output.
 pub fn load_to(
     second: bool,
     c: Control,
@@ -90,15 +92,19 @@ pub fn load_to(
     memory: &mut [u16],
     r: u8,
     a: u16,
-) -> Control
+) -> Obeyed
     requires { ⌜ length (now memory) ≡ 65536 ⌝ }
-    ensures { λ n. ⌜ ((clock : ℕ) → quiet (whole (now (regs .exit)) clock n) (now (memory .exit))
-        ≡ effect (loadToBy (editionOf second) r a (whole (now (regs .entry)) clock c) (now (memory .entry)))) ⌝ }
+    ensures { λ o. ⌜ ((clock : ℕ) (output : List ℕ) → after o (now (regs .exit)) clock (now (memory .exit)) output
+        ≡ delivered (now (regs .entry)) (now (memory .entry)) output
+        (loadToBy (editionOf second) r a (whole (now (regs .entry)) clock c) (now (memory .entry)))) ⌝ }
 {
     if is_denied(second, c.psr, a) {
-        return raise(c, regs, memory, 0x0102, c.pc);
+        return unshown(raise(c, regs, memory, 0x0102, c.pc), Rule::Access);
     }
-    load_allowed(second, c, regs, memory, r, a)
+    unshown(
+        load_allowed(second, c, regs, memory, r, a),
+        Rule::Instruction,
+    )
 }
 
 pub fn store_at(
@@ -113,10 +119,10 @@ pub fn store_at(
     requires { ⌜ length (now memory) ≡ 65536 ⌝ }
     ensures { λ o. ⌜ ((clock : ℕ) → after o (now (regs .exit)) clock (now (memory .exit)) (now (output .exit))
         ≡ delivered (now (regs .entry)) (now (memory .entry)) (now (output .entry))
-        (effect (storeAtBy (editionOf second) v a (whole (now (regs .entry)) clock c) (now (memory .entry))))) ⌝ }
+        (storeAtBy (editionOf second) v a (whole (now (regs .entry)) clock c) (now (memory .entry)))) ⌝ }
 {
     if is_denied(second, c.psr, a) {
-        return unshown(raise(c, regs, memory, 0x0102, c.pc));
+        return unshown(raise(c, regs, memory, 0x0102, c.pc), Rule::Access);
     }
     let n = go_on_at(c, next(c.pc));
     store(second, n, memory, output, v, a)
@@ -130,21 +136,25 @@ pub fn load_by(
     memory: &mut [u16],
     r: u8,
     a: u16,
-) -> Control
+) -> Obeyed
     requires { ⌜ length (now memory) ≡ 65536 ⌝ }
-    ensures { λ n. ⌜ ((clock : ℕ) → quiet (whole (now (regs .exit)) clock n) (now (memory .exit))
-        ≡ effect (byPointerBy (editionOf second) a (loadToBy (editionOf second) r) (whole (now (regs .entry)) clock c)
+    ensures { λ o. ⌜ ((clock : ℕ) (output : List ℕ) → after o (now (regs .exit)) clock (now (memory .exit)) output
+        ≡ delivered (now (regs .entry)) (now (memory .entry)) output
+        (byPointerBy (editionOf second) a (loadToBy (editionOf second) r) (whole (now (regs .entry)) clock c)
         (now (memory .entry)))) ⌝ }
 {
     if is_denied(second, c.psr, a) {
-        return raise(c, regs, memory, 0x0102, c.pc);
+        return unshown(raise(c, regs, memory, 0x0102, c.pc), Rule::Access);
     }
     let p = load(second, c, memory, a);
     let n = after_load(c, a);
     if is_denied(second, n.psr, p) {
-        return raise(n, regs, memory, 0x0102, n.pc);
+        return unshown(raise(n, regs, memory, 0x0102, n.pc), Rule::Access);
     }
-    load_allowed(second, n, regs, memory, r, p)
+    unshown(
+        load_allowed(second, n, regs, memory, r, p),
+        Rule::Instruction,
+    )
 }
 
 // STI: the pointer is loaded, then the value is stored where it points.
@@ -160,11 +170,11 @@ pub fn store_by(
     requires { ⌜ length (now memory) ≡ 65536 ⌝ }
     ensures { λ o. ⌜ ((clock : ℕ) → after o (now (regs .exit)) clock (now (memory .exit)) (now (output .exit))
         ≡ delivered (now (regs .entry)) (now (memory .entry)) (now (output .entry))
-        (effect (byPointerBy (editionOf second) a (storeAtBy (editionOf second) v) (whole (now (regs .entry)) clock c)
-        (now (memory .entry))))) ⌝ }
+        (byPointerBy (editionOf second) a (storeAtBy (editionOf second) v) (whole (now (regs .entry)) clock c)
+        (now (memory .entry)))) ⌝ }
 {
     if is_denied(second, c.psr, a) {
-        return unshown(raise(c, regs, memory, 0x0102, c.pc));
+        return unshown(raise(c, regs, memory, 0x0102, c.pc), Rule::Access);
     }
     let p = load(second, c, memory, a);
     let n = after_load(c, a);

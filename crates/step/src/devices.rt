@@ -4,6 +4,7 @@ use crate::Obeyed;
 use crate::memory::set_word;
 use crate::memory::word_at;
 use machine::Control;
+use machine::Rule;
 use machine::set_busy;
 use machine::set_keyboard;
 use machine::set_mcr;
@@ -21,6 +22,7 @@ ghost use Rattle.machine.specs.Devices.{PSR, loadedValueBy, afterLoad, withEnab
 ghost use Rattle.machine.specs.Step.{afterTick};
 ghost use Rattle.machine.specs.declared.Control.{Control};
 ghost use Rattle.step.specs.declared.Display.the-variants.{Unchanged};
+ghost use Rattle.machine.specs.declared.Rule.the-variants.{Instruction};
 ghost use Rattle.step.specs.Delivery.{effect, quiet, after, delivered, shownBy};
 
 // DSR: x8000, or 0 while the display is busy.
@@ -76,13 +78,14 @@ pub fn after_load(c: Control, a: u16) -> Control
     }
 }
 
-// An instruction that shows nothing.
-pub fn unshown(c: Control) -> Obeyed
-    ensures { λ r. ⌜ r ≡ record { control = c; display = Unchanged } ⌝ }
+// An instruction or an entry that shows nothing.
+pub fn unshown(c: Control, rule: Rule) -> Obeyed
+    ensures { λ r. ⌜ r ≡ record { control = c; display = Unchanged; rule = rule } ⌝ }
 {
     Obeyed {
         control: c,
         display: Display::Unchanged,
+        rule,
     }
 }
 
@@ -91,8 +94,8 @@ pub fn unshown(c: Control) -> Obeyed
 // instructions a step.
 fn show(busy: u16, output: &mut [u8], v: u16) -> Display
     ensures { λ r. ⌜ ((c : Control) (regs memory : List ℕ) (clock : ℕ) → c .devices .busy ≡ busy
-        → after (record { control = c; display = r }) regs clock memory (now (output .exit))
-        ≡ delivered regs memory (now (output .entry)) (effect (ddrStore v (whole regs clock c) memory))) ⌝ }
+        → after (record { control = c; display = r; rule = Instruction }) regs clock memory (now (output .exit))
+        ≡ delivered regs memory (now (output .entry)) (ddrStore v (whole regs clock c) memory)) ⌝ }
 {
     if busy != 0 {
         return Display::Unchanged;
@@ -201,31 +204,41 @@ pub fn store(
     requires { ⌜ length (now memory) ≡ 65536 ⌝ }
     ensures { λ r. ⌜ ((regs : List ℕ) (clock : ℕ) → after r regs clock (now (memory .exit)) (now (output .exit))
         ≡ delivered regs (now (memory .entry)) (now (output .entry))
-        (effect (storedBy (editionOf second) v a (whole regs clock c) (now (memory .entry))))) ⌝ }
+        (storedBy (editionOf second) v a (whole regs clock c) (now (memory .entry)))) ⌝ }
 {
     match a {
-        0xFE00 => unshown(with_kbsr(c, with_enable(c.devices.kbsr, v))),
-        0xFE02 | 0xFE04 => unshown(c),
+        0xFE00 => unshown(
+            with_kbsr(c, with_enable(c.devices.kbsr, v)),
+            Rule::Instruction,
+        ),
+        0xFE02 | 0xFE04 => unshown(c, Rule::Instruction),
         0xFE06 => {
             let display = show(c.devices.busy, output, v);
             Obeyed {
                 control: c,
                 display,
+                rule: Rule::Instruction,
             }
         }
         0xFE08 => {
             let status = with_enable(c.devices.timer_status, v);
-            unshown(with_timer(c, status, c.devices.timer_interval, c.devices.timer_count))
+            unshown(
+                with_timer(c, status, c.devices.timer_interval, c.devices.timer_count),
+                Rule::Instruction,
+            )
         }
-        0xFE0A => unshown(with_timer(c, c.devices.timer_status, v, v)),
-        0xFFFC => unshown(store_psr(second, c, memory, v)),
+        0xFE0A => unshown(
+            with_timer(c, c.devices.timer_status, v, v),
+            Rule::Instruction,
+        ),
+        0xFFFC => unshown(store_psr(second, c, memory, v), Rule::Instruction),
         0xFFFE => {
             let mcr = v / 0x8000 * 0x8000;
-            unshown(with_mcr(c, mcr))
+            unshown(with_mcr(c, mcr), Rule::Instruction)
         }
         _ => {
             set_word(memory, a, v);
-            unshown(c)
+            unshown(c, Rule::Instruction)
         }
     }
 }

@@ -1,18 +1,22 @@
 // Rules in which the two editions of the book differ: LEA, TRAP and JSRR R7 of machine/specs/Edition.antt. The access
 // exception is in `protection`, xFFFC in `devices`. `second` is whether the rules are the second edition's.
+use crate::Obeyed;
 use crate::access::put_in;
+use crate::devices::unshown;
 use crate::entry::raise;
 use crate::memory::word_at;
 use crate::words::next;
 use crate::words::register;
 use machine::Control;
 use machine::Plan;
+use machine::Rule;
 ghost use mathlib.Core.Path.{_≡_};
+ghost use mathlib.Core.List.{List};
 ghost use Prim.Native.Nat.{ℕ};
 ghost use lib.ListN.{length};
 ghost use Rattle.machine.specs.Record.{whole};
 ghost use Rattle.machine.specs.Edition.{editionOf, leaPlan, linked, trapped, jsrrTarget};
-ghost use Rattle.step.specs.Delivery.{effect, quiet};
+ghost use Rattle.step.specs.Delivery.{effect, quiet, after, delivered};
 
 // LEA sets the codes in the second edition only.
 pub fn lea_plan(second: bool, r: u8, address: u16, next: u16) -> Plan
@@ -41,15 +45,16 @@ pub fn trap(
     regs: &mut [u16; 8],
     memory: &mut [u16],
     vector: u16,
-) -> Control
+) -> Obeyed
     requires { ⌜ length (now memory) ≡ 65536 ⌝ }
-    ensures { λ r. ⌜ ((clock : ℕ) → quiet (whole (now (regs .exit)) clock r) (now (memory .exit))
-        ≡ effect (trapped (editionOf second) vector (whole (now (regs .entry)) clock c) (now (memory .entry)))) ⌝ }
+    ensures { λ o. ⌜ ((clock : ℕ) (output : List ℕ) → after o (now (regs .exit)) clock (now (memory .exit)) output
+        ≡ delivered (now (regs .entry)) (now (memory .entry)) output
+        (trapped (editionOf second) vector (whole (now (regs .entry)) clock c) (now (memory .entry)))) ⌝ }
 {
     if second {
-        return link(c, regs, memory, vector);
+        return unshown(link(c, regs, memory, vector), Rule::Instruction);
     }
-    raise(c, regs, memory, vector, next(c.pc))
+    unshown(raise(c, regs, memory, vector, next(c.pc)), Rule::Trap)
 }
 
 // JSRR R7 continues at Next in the second edition.

@@ -5,6 +5,7 @@ use crate::words::before;
 use crate::words::register;
 use crate::words::set_register;
 use machine::Control;
+use machine::Rule;
 ghost use mathlib.Core.Path.{_≡_};
 ghost use Prim.Native.Nat.{ℕ};
 ghost use mathlib.Core.Bool.{cond};
@@ -12,6 +13,7 @@ ghost use lib.ListN.{length};
 ghost use Rattle.machine.specs.Record.{whole};
 ghost use Rattle.machine.specs.Psr.{inUserMode};
 ghost use Rattle.machine.specs.Outcome.{Reason, vectorOf};
+ghost use Rattle.machine.specs.Rules.{interruptRule};
 ghost use Rattle.machine.specs.Entry.{pushed, entry, raised, interrupted};
 ghost use Rattle.step.specs.Delivery.{effect, quiet};
 
@@ -71,6 +73,16 @@ pub fn raise(c: Control, regs: &mut [u16; 8], memory: &mut [u16], vector: u16, p
         ≡ effect (raised reason pc (whole (now (regs .entry)) clock c) (now (memory .entry)))) ⌝ }
 {
     enter(c, regs, memory, vector, pc, c.psr % 0x8000)
+}
+
+// The device that interrupts, by its vector.
+pub fn interrupt_rule(vector: u16) -> Rule
+    ensures { λ r. ⌜ r ≡ interruptRule vector ⌝ }
+{
+    if vector == 0x0181 {
+        return Rule::Timer;
+    }
+    Rule::Keyboard
 }
 
 // An interrupt pushes PC, and its priority replaces the PSR's.

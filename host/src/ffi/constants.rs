@@ -13,6 +13,8 @@ pub const LC3_MAX_CLOCK: u64 = 1 << 48;
 pub const LC3_MAX_BUSY: u16 = 8;
 /// Bytes of the longest line, its line feed included.
 pub const LC3_MAX_LINE: usize = 17;
+/// Words of one step in a log.
+pub const LC3_LOG_WORDS: usize = 3;
 /// The vector words, x0000 to x01FF.
 pub const LC3_VECTOR_WORDS: usize = 512;
 /// The words of the ready-made monitor, x0000 to x02A4.
@@ -95,6 +97,23 @@ pub const LC3_DONE: u32 = 0;
 pub const LC3_HALTED: u32 = 1;
 /// Stop: the next step would show a byte, and the output has no free one.
 pub const LC3_OUTPUT_FULL: u32 = 2;
+/// Stop: fewer than [`LC3_LOG_WORDS`] words of the log are free.
+pub const LC3_LOG_FULL: u32 = 3;
+
+/// Reason in a log: an instruction, obeyed to its end.
+pub const LC3_REASON_INSTRUCTION: u16 = 0;
+/// Reason in a log: the entry for a TRAP.
+pub const LC3_REASON_TRAP: u16 = 1;
+/// Reason in a log: the exception of an RTI in User mode.
+pub const LC3_REASON_PRIVILEGE: u16 = 2;
+/// Reason in a log: the exception of the reserved opcode.
+pub const LC3_REASON_ILLEGAL: u16 = 3;
+/// Reason in a log: the exception of an access to a privileged address.
+pub const LC3_REASON_ACCESS: u16 = 4;
+/// Reason in a log: the keyboard's interrupt.
+pub const LC3_REASON_KEYBOARD: u16 = 5;
+/// Reason in a log: the timer's interrupt.
+pub const LC3_REASON_TIMER: u16 = 6;
 
 /// Kind: `BR`.
 pub const LC3_BR: u8 = 0;

@@ -8,7 +8,7 @@ pub mod program;
 
 use crate::reference::machine;
 use cases::Case;
-use lc3::ffi::{self, Answer, Report, RunCall, StepCall};
+use lc3::ffi::{self, Answer, LoggedAnswer, Report, RunCall, StepCall};
 use lc3::Record;
 use std::env;
 use std::time::{SystemTime, UNIX_EPOCH};
@@ -221,6 +221,41 @@ impl Buffers {
                 bytes.len(),
                 output.as_mut_ptr(),
                 output.len(),
+            )
+        }
+    }
+
+    /// Calls `lc3_run_logged` with all keys, the whole output and a log.
+    pub fn run_logged(&mut self, record: Record, log: &mut Lent<u16>, n: u64) -> LoggedAnswer {
+        self.run_logged_after(record, 0, 0, log.get_mut(), n)
+    }
+
+    /// The same with the keys and the parts of output and log that earlier calls left.
+    pub fn run_logged_after(
+        &mut self,
+        record: Record,
+        keys: usize,
+        shown: usize,
+        log: &mut [u16],
+        n: u64,
+    ) -> LoggedAnswer {
+        let (times, bytes) = (&self.times.get()[keys..], &self.bytes.get()[keys..]);
+        let (memory, output) = (self.memory.get_mut(), &mut self.output.get_mut()[shown..]);
+        // SAFETY: as in `run`; the log is a slice of its own.
+        unsafe {
+            ffi::lc3_run_logged(
+                record,
+                memory.as_mut_ptr(),
+                memory.len(),
+                times.as_ptr(),
+                times.len(),
+                bytes.as_ptr(),
+                bytes.len(),
+                output.as_mut_ptr(),
+                output.len(),
+                log.as_mut_ptr(),
+                log.len(),
+                n,
             )
         }
     }

@@ -7,7 +7,8 @@ use Rattle.machine.specs.declared.Machine.{Machine}
 use Rattle.machine.specs.Outcome.{access}
 use Rattle.machine.specs.Devices.{storedBy}
 use Rattle.machine.specs.Access.{storeAtBy}
-use Rattle.step.specs.Delivery.{effect, delivered}
+use Rattle.step.specs.Delivery.{delivered}
+use Rattle.step.proofs.DeliveryLaws.{raise-delivered}
 use Rattle.step.proofs.access.store_at.Statement.{statement}
 use Rattle.step.proofs.access.store_at.Tie as tie
 
@@ -21,7 +22,7 @@ returns c =
       c .before .before .before .before .before .before .if1 .taken,
       c .unshown .ensures,
     )
-    (ap (delivered (a .regs .now) (a .memory .now) (a .output .now))
+    (raise-delivered (a .regs .now) (a .memory .now) (a .output .now) access _ _ _ _
     (c .before .before .before .raise .ensures clock access refl))
 
 returns-2 : tie.Need-returns-2
@@ -36,7 +37,7 @@ returns-2 c =
     )
     (c .before .before .before .before .store .ensures (a .regs .now) clock
     ∙ (ap (λ (m : Machine). delivered (a .regs .now) (a .memory .now) (a .output .now)
-    (effect (storedBy (editionOf (a .second)) (a .v) (a .a) m (a .memory .now))))
+    (storedBy (editionOf (a .second)) (a .v) (a .a) m (a .memory .now)))
     (c .before .before .before .before .before .before .before .go-on-at .ensures (a .regs .now) clock)
     ∙ rw (c .before .before .before .before .before .before .before .before .next .ensures)))
 

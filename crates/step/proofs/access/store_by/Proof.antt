@@ -5,6 +5,7 @@ use borrow.Author.Needs.{needs}
 use Rattle.machine.specs.Outcome.{access, withReads}
 use Rattle.machine.specs.Access.{byPointerBy}
 use Rattle.step.specs.Delivery.{delivered}
+use Rattle.step.proofs.DeliveryLaws.{raise-delivered}
 use Rattle.step.proofs.access.store_by.Statement.{statement}
 use Rattle.step.proofs.access.store_by.Tie as tie
 
@@ -18,7 +19,7 @@ returns c =
       c .before .before .before .before .before .before .if1 .taken,
       c .unshown .ensures,
     )
-    (ap (delivered (a .regs .now) (a .memory .now) (a .output .now))
+    (raise-delivered (a .regs .now) (a .memory .now) (a .output .now) access _ _ _ _
     (c .before .before .before .raise .ensures clock access refl))
 
 returns-2 : tie.Need-returns-2

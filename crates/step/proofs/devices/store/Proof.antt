@@ -4,10 +4,12 @@ use mathlib.Core.Path.{refl, ap}
 use mathlib.Core.Logic.{⊎-elim, inl, inr}
 use Rattle.machine.specs.Edition.{editionOf}
 use Rattle.machine.specs.declared.Machine.{Machine}
+use Rattle.machine.specs.Outcome.{plainOutcome}
 use Rattle.machine.specs.Devices.{isDeviceBy, kbsrStore, timerStatusStore, timerIntervalStore, mcrStore}
 use Rattle.machine.specs.Devices.{deviceStore, storedBy}
 use Rattle.machine.proofs.DeviceLaws.{no-device}
-use Rattle.step.specs.Delivery.{quiet, delivered}
+use Rattle.step.specs.Delivery.{delivered}
+use Rattle.step.proofs.DeliveryLaws.{psr-store-delivered}
 use borrow.Author.Needs.{needs}
 use Rattle.step.proofs.devices.store.Statement.{statement}
 use Rattle.step.proofs.devices.store.Tie as tie
@@ -18,7 +20,7 @@ returns c =
     λ regs clock.
     let a = c .before .before .before .before .before .before .args in
     rw (c .before .before .before .match .keys1, c .unshown .ensures, ← c .before .before .with-enable .ensures)
-    (ap (λ (m : Machine). delivered regs (a .memory .now) (a .output .now) (quiet m (a .memory .now)))
+    (ap (λ (m : Machine). delivered regs (a .memory .now) (a .output .now) (plainOutcome m (a .memory .now)))
     (c .before .with-kbsr .ensures regs clock))
 
 returns-2 : tie.Need-returns-2
@@ -39,7 +41,7 @@ returns-4 c =
     λ regs clock.
     let a = c .before .before .before .before .before .before .args in
     rw (c .before .before .before .match .keys4, c .unshown3 .ensures, ← c .before .before .with-enable2 .ensures)
-    (ap (λ (m : Machine). delivered regs (a .memory .now) (a .output .now) (quiet m (a .memory .now)))
+    (ap (λ (m : Machine). delivered regs (a .memory .now) (a .output .now) (plainOutcome m (a .memory .now)))
     (c .before .with-timer .ensures regs clock))
 
 returns-5 : tie.Need-returns-5
@@ -48,7 +50,7 @@ returns-5 c =
     λ regs clock.
     let a = c .before .before .before .before .before .args in
     rw (c .before .before .match .keys5, c .unshown4 .ensures)
-    (ap (λ (m : Machine). delivered regs (a .memory .now) (a .output .now) (quiet m (a .memory .now)))
+    (ap (λ (m : Machine). delivered regs (a .memory .now) (a .output .now) (plainOutcome m (a .memory .now)))
     (c .before .with-timer2 .ensures regs clock))
 
 returns-6 : tie.Need-returns-6
@@ -56,7 +58,8 @@ returns-6 c =
     λ regs clock.
     let a = c .before .before .before .before .before .before .before .before .args in
     rw (c .before .before .before .before .before .match .keys6, c .unshown5 .ensures)
-    (ap (delivered regs (a .memory .now) (a .output .now)) (c .before .before .before .store-psr .ensures regs clock))
+    (psr-store-delivered regs (a .memory .now) (a .output .now) (editionOf (a .second)) (a .v) _ _ _
+    (c .before .before .before .store-psr .ensures regs clock))
 
 returns-7 : tie.Need-returns-7
 unfolding storedBy isDeviceBy deviceStore mcrStore
@@ -64,7 +67,7 @@ returns-7 c =
     λ regs clock.
     let a = c .before .before .before .before .before .args in
     rw (c .before .before .match .keys7, c .unshown6 .ensures)
-    (ap (λ (m : Machine). delivered regs (a .memory .now) (a .output .now) (quiet m (a .memory .now)))
+    (ap (λ (m : Machine). delivered regs (a .memory .now) (a .output .now) (plainOutcome m (a .memory .now)))
     (c .before .with-mcr .ensures regs clock))
 
 returns-8 : tie.Need-returns-8

@@ -2,9 +2,10 @@
 use mathlib.Core.Path.{refl, ap}
 use borrow.Author.Needs.{needs}
 use Rattle.machine.specs.declared.Machine.{Machine}
-use Rattle.machine.specs.Outcome.{illegal}
+use Rattle.machine.specs.Outcome.{illegal, plainOutcome}
 use Rattle.machine.specs.Step.{performBy}
-use Rattle.step.specs.Delivery.{quiet, delivered}
+use Rattle.step.specs.Delivery.{delivered}
+use Rattle.step.proofs.DeliveryLaws.{raise-delivered}
 use Rattle.step.proofs.obeying.perform.Statement.{statement}
 use Rattle.step.proofs.obeying.perform.Tie as tie
 
@@ -14,7 +15,8 @@ returns c =
     λ clock.
     let a = c .before .before .before .before .before .before .before .before .args in
     rw (c .before .before .before .before .plan .given .1, c .unshown .ensures)
-    (ap (λ (m : Machine). delivered (a .regs .now) (a .memory .now) (a .output .now) (quiet m (a .memory .now)))
+    (ap (λ (m : Machine). delivered (a .regs .now) (a .memory .now) (a .output .now)
+    (plainOutcome m (a .memory .now)))
     (c .before .move-to .ensures clock))
 
 returns-2 : tie.Need-returns-2
@@ -23,7 +25,8 @@ returns-2 c =
     λ clock.
     let a = c .before .before .before .before .before .before .before .before .args in
     rw (c .before .before .before .before .plan2 .given .1, c .unshown2 .ensures)
-    (ap (λ (m : Machine). delivered (a .regs .now) (a .memory .now) (a .output .now) (quiet m (a .memory .now)))
+    (ap (λ (m : Machine). delivered (a .regs .now) (a .memory .now) (a .output .now)
+    (plainOutcome m (a .memory .now)))
     (c .before .put-in .ensures clock))
 
 returns-3 : tie.Need-returns-3
@@ -32,26 +35,25 @@ returns-3 c =
     λ clock.
     let a = c .before .before .before .before .before .before .before .args in
     rw (c .before .before .before .plan3 .given .1, c .unshown3 .ensures)
-    (ap (λ (m : Machine). delivered (a .regs .now) (a .memory .now) (a .output .now) (quiet m (a .memory .now)))
+    (ap (λ (m : Machine). delivered (a .regs .now) (a .memory .now) (a .output .now)
+    (plainOutcome m (a .memory .now)))
     (c .before .go-on-at .ensures (a .regs .now) clock))
 
 returns-4 : tie.Need-returns-4
 unfolding performBy
 returns-4 c =
     λ clock.
-    let a = c .before .before .before .before .before .before .before .before .before .before .before .args in
-    rw (c .before .before .before .before .before .before .before .plan4 .given .1, c .unshown4 .ensures)
-    (ap (delivered (a .regs .now) (a .memory .now) (a .output .now))
-    (c .before .before .before .load-to .ensures clock))
+    let a = c .before .before .before .before .before .before .before .before .before .before .args in
+    rw (c .before .before .before .before .before .before .plan4 .given .1)
+    (c .before .before .load-to .ensures clock (a .output .now))
 
 returns-5 : tie.Need-returns-5
 unfolding performBy
 returns-5 c =
     λ clock.
-    let a = c .before .before .before .before .before .before .before .before .before .before .before .args in
-    rw (c .before .before .before .before .before .before .before .plan5 .given .1, c .unshown5 .ensures)
-    (ap (delivered (a .regs .now) (a .memory .now) (a .output .now))
-    (c .before .before .before .load-by .ensures clock))
+    let a = c .before .before .before .before .before .before .before .before .before .before .args in
+    rw (c .before .before .before .before .before .before .plan5 .given .1)
+    (c .before .before .load-by .ensures clock (a .output .now))
 
 returns-6 : tie.Need-returns-6
 unfolding performBy
@@ -69,37 +71,35 @@ returns-8 : tie.Need-returns-8
 unfolding performBy
 returns-8 c =
     λ clock.
-    let a = c .before .before .before .before .before .before .before .before .before .before .before .args in
-    rw (c .before .before .before .before .before .before .before .plan8 .given .1, c .unshown6 .ensures)
-    (ap (delivered (a .regs .now) (a .memory .now) (a .output .now)) (c .before .before .before .trap .ensures clock))
+    let a = c .before .before .before .before .before .before .before .before .before .before .args in
+    rw (c .before .before .before .before .before .before .plan8 .given .1)
+    (c .before .before .trap .ensures clock (a .output .now))
 
 returns-9 : tie.Need-returns-9
 unfolding performBy
 returns-9 c =
     λ clock.
     let a = c .before .before .before .before .before .before .before .before .before .before .args in
-    rw (c .before .before .before .before .before .before .enum-told .given .1, c .unshown7 .ensures)
-    (ap (delivered (a .regs .now) (a .memory .now) (a .output .now))
+    rw (c .before .before .before .before .before .before .enum-told .given .1, c .unshown4 .ensures)
+    (raise-delivered (a .regs .now) (a .memory .now) (a .output .now) illegal _ _ _ _
     (c .before .before .before .raise .ensures clock illegal refl))
 
 returns-10 : tie.Need-returns-10
 unfolding performBy
 returns-10 c =
     λ clock.
-    let a = c .before .before .before .before .before .before .before .before .before .before .args in
-    rw (c .before .before .before .before .before .before .enum-told2 .given .1, c .unshown8 .ensures)
-    (ap (delivered (a .regs .now) (a .memory .now) (a .output .now))
-    (c .before .before .before .return-from-interrupt .ensures clock))
+    let a = c .before .before .before .before .before .before .before .before .before .args in
+    rw (c .before .before .before .before .before .enum-told2 .given .1)
+    (c .before .before .return-from-interrupt .ensures clock (a .output .now))
 
 pub perform-spec : {M : Type 1} → statement M
 perform-spec =
     tie.close
     (tie.spec (λ c. search needs) (λ c κs. search needs) (λ c κs. search needs) (λ c. search needs)
     (λ c κs. search needs) (λ c κs. search needs) (λ c. search needs) (λ c κs. search needs) (λ c κs. search needs)
-    (λ c. search needs) (λ c κs. search needs) (λ c κs. search needs) (λ c. search needs) (λ c κs. search needs)
+    (λ c. search needs) (λ c κs. search needs) (λ c. search needs) (λ c κs. search needs) (λ c. search needs)
     (λ c κs. search needs) (λ c. search needs) (λ c κs. search needs) (λ c. search needs) (λ c κs. search needs)
     (λ c. search needs) (λ c κs. search needs) (λ c κs. search needs) (λ c. search needs) (λ c κs. search needs)
-    (λ c κs. search needs) (λ c. search needs) (λ c κs. search needs) (λ c κs. search needs) returns returns-2
-    returns-3 (λ c. search needs) returns-4 (λ c. search needs) returns-5 (λ c. search needs) (λ c. search needs)
-    returns-6 (λ c. search needs) (λ c. search needs) returns-7 (λ c. search needs) returns-8 (λ c. search needs)
-    returns-9 (λ c. search needs) returns-10)
+    returns returns-2 returns-3 (λ c. search needs) returns-4 (λ c. search needs) returns-5 (λ c. search needs)
+    (λ c. search needs) returns-6 (λ c. search needs) (λ c. search needs) returns-7 (λ c. search needs) returns-8
+    (λ c. search needs) returns-9 (λ c. search needs) returns-10)

@@ -1,0 +1,2 @@
+-- What hosts are answered by a logged run.
+pub mod LoggedAnswer

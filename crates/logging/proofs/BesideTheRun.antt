@@ -1,0 +1,123 @@
+-- A logged call is the run but for its log, or the run of the steps made where the log is full: by what the laws of one
+-- logged run say of each accepted call; a refused one is the run's refusal.
+use Prim.Native.Nat.{ℕ, zero, suc, _+_, _*_, _≤_, _<_}
+use mathlib.Core.Path.{_≡_, refl, sym, ap, subst, _∙_}
+use mathlib.Core.Bool.{true, false, true≢false, false≢true}
+use mathlib.Core.List.{List}
+use native.Mathlib.Omega.{arith}
+use borrow.Author.Tests.{ltb-true}
+use lib.ListN.{length}
+use Rattle.machine.specs.Step.{stepOf}
+use Rattle.run.specs.declared.Admission.{Admission}
+use Rattle.run.specs.declared.Admission.the-variants.{Accepted, Rejected}
+use Rattle.run.specs.declared.Ending.the-variants.{Done}
+use Rattle.run.specs.Run.{Start, End, begin, endedBy, runOf}
+use Rattle.run.specs.Refusals.{admissionOf}
+use Rattle.run.specs.Call.{callBy, admittedBy}
+use Rattle.run.proofs.RunLaws.{steps-made-at-most, done-steps-are-made}
+use Rattle.run.proofs.Acceptance.{call-is-run}
+use Rattle.logging.specs.Log.{lacksRoom, entriesOf}
+use Rattle.logging.specs.LoggedRun.{Logged, loggedRunOf}
+use Rattle.logging.specs.LoggedCall.{loggedAdmitted, loggedCallOf}
+use Rattle.logging.specs.BesideTheRun.{AsTheRun, LoggedRunIsTheRun}
+use Rattle.logging.proofs.LoggedLaws.{Tracks, goes-with, was-full, tracks, Written, written}
+
+no-room : (log : List ℕ) (words : ℕ) → lacksRoom log words ≡ true → length log < words + 3
+unfolding lacksRoom
+no-room log words h = ltb-true (length log) (words + 3) h
+
+accepted-is-the-run : (s : Start) (log : List ℕ) (n : ℕ) → admissionOf s n ≡ Accepted → (l : Logged) → Tracks s n l
+    → Written s log l → AsTheRun s log n l
+accepted-is-the-run s log n a l (goes-with f h) w = record {
+  unless-full = λ x. h ∙ sym (call-is-run stepOf s n n a (omega arith));
+  where-full = λ x. absurd (true≢false (sym x ∙ f));
+  full-before-done = λ x. absurd (true≢false (sym x ∙ f));
+  full-not-halted = λ x. absurd (true≢false (sym x ∙ f));
+  full-without-room = λ x. absurd (true≢false (sym x ∙ f));
+  entries = w .entries;
+  rest = w .rest;
+  size = w .size;
+  three-a-step = w .three-a-step;
+}
+accepted-is-the-run s log n a l (was-full f h d i x r) w = record {
+  unless-full = λ y. absurd (true≢false (sym f ∙ y));
+  where-full = λ y. h ∙ sym (call-is-run stepOf s n (l .run .steps) a (omega arith));
+  full-before-done = λ y. i;
+  full-not-halted = λ y. x;
+  full-without-room = λ y. omega (arith, no-room (l .log) (l .words) r, w .size);
+  entries = w .entries;
+  rest = w .rest;
+  size = w .size;
+  three-a-step = w .three-a-step;
+}
+
+pub logged-run-is-the-run : LoggedRunIsTheRun
+unfolding loggedCallOf
+logged-run-is-the-run s log n = go (admissionOf s n) refl
+  where
+    go : (a : Admission) → admissionOf s n ≡ a → AsTheRun s log n (loggedAdmitted a s log n)
+    go Accepted e = unfold loggedAdmitted in
+        accepted-is-the-run s log n e (loggedRunOf s log n) (tracks s log n) (written s log n)
+    go (Rejected r) e = unfold loggedAdmitted callBy admittedBy endedBy begin entriesOf in record {
+      unless-full = λ x. rw e refl;
+      where-full = λ x. absurd (false≢true x);
+      full-before-done = λ x. absurd (false≢true x);
+      full-not-halted = λ x. absurd (false≢true x);
+      full-without-room = λ x. absurd (false≢true x);
+      entries = refl;
+      rest = refl;
+      size = refl;
+      three-a-step = refl;
+    }
+
+-- ---- which steps are logged: those that the run makes and that the log has room for
+
+pub accepted-logged-call : (s : Start) (log : List ℕ) (n : ℕ) → admissionOf s n ≡ Accepted
+    → loggedCallOf s log n ≡ loggedRunOf s log n
+unfolding loggedCallOf loggedAdmitted
+accepted-logged-call s log n e = rw e refl
+
+pub record MadeWithRoom (s : Start) (log : List ℕ) (n k : ℕ) : Type 0 where
+  pub made : k < runOf s n .steps
+  pub room : 3 * k + 3 ≤ length log
+
+pub logged-were-made : (s : Start) (log : List ℕ) (n k : ℕ) → k < loggedRunOf s log n .run .steps
+    → MadeWithRoom s log n k
+logged-were-made s log n k h = go (tracks s log n) (written s log n)
+  where
+    go : Tracks s n (loggedRunOf s log n) → Written s log (loggedRunOf s log n) → MadeWithRoom s log n k
+    go (goes-with f e) w = record {
+      made = omega (arith, h, ap (λ (x : End). x .steps) e);
+      room = omega (arith, h, w .room, w .three-a-step);
+    }
+    go (was-full f e d i x r) w = record {
+      made = omega (
+        arith,
+        h,
+        done-steps-are-made stepOf s n (loggedRunOf s log n .run .steps) (omega (arith, i))
+            (subst (λ (y : End). y .ending ≡ Done) e d),
+      );
+      room = omega (arith, h, w .room, w .three-a-step);
+    }
+
+pub made-are-logged : (s : Start) (log : List ℕ) (n k : ℕ) → MadeWithRoom s log n k
+    → k < loggedRunOf s log n .run .steps
+made-are-logged s log n k m = go (tracks s log n) (written s log n)
+  where
+    go : Tracks s n (loggedRunOf s log n) → Written s log (loggedRunOf s log n) → k < loggedRunOf s log n .run .steps
+    go (goes-with f e) w = omega (arith, m .made, ap (λ (x : End). x .steps) e)
+    go (was-full f e d i x r) w =
+        omega (
+          arith,
+          m .room,
+          no-room (loggedRunOf s log n .log) (loggedRunOf s log n .words) r,
+          w .size,
+          w .three-a-step,
+        )
+
+pub logged-steps-at-most : (s : Start) (log : List ℕ) (n : ℕ) → loggedRunOf s log n .run .steps ≤ n
+logged-steps-at-most s log n = go (tracks s log n)
+  where
+    go : Tracks s n (loggedRunOf s log n) → loggedRunOf s log n .run .steps ≤ n
+    go (goes-with f e) = omega (arith, ap (λ (x : End). x .steps) e, steps-made-at-most stepOf s n)
+    go (was-full f e d i x r) = omega (arith, i)

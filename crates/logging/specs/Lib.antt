@@ -1,0 +1,9 @@
+-- The logged run of request 9, in the order of its sentences; then what is proved of it, and worked logs.
+pub mod Log
+pub mod LoggedRun
+pub mod LoggedCall
+pub mod Stepping
+pub mod BesideTheRun
+pub mod LogSplits
+pub mod TwoLogs
+pub mod LogExamples
