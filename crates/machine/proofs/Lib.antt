@@ -1,5 +1,5 @@
 -- Laws of the machine's definitions, which the code's proofs and the theorems cite: single steps computed; words, tests
--- and devices; two steps side by side; what every step keeps, the words that it touches, and what a log tells of it.
+-- and devices; two steps side by side; what every step keeps, and what a log tells of it.
 pub mod Opened
 pub mod TimerTheorems
 pub mod RuleExamples
@@ -15,7 +15,5 @@ pub mod StepLaws
 pub mod CheckIsNeeded
 pub mod InterruptRule
 pub mod StepsAlike
-pub mod TouchedWords
-pub mod ReadWords
 pub mod RuleLaws
 pub mod LogExamples

@@ -15,7 +15,6 @@ pub mod Access
 pub mod Return
 pub mod Plan
 pub mod Step
-pub mod Touched
 pub mod Causes
 pub mod Rules
 pub mod Visible

@@ -1,5 +1,5 @@
 -- Two steps from one record, with the same keys, from two memories: where these agree at all words that the first step
--- reads, both have the same effect. By accesses and by the plan that they share, and never by the instruction.
+-- reads, both have the same effect. By accesses and by the plan that they share, and never by the instruction; by either edition.
 use Prim.Native.Nat.{ℕ, zero, suc}
 use mathlib.Core.Path.{_≡_, refl}
 use mathlib.Core.Bool.{Bool, true, false, cond}
@@ -8,28 +8,28 @@ use native.Mathlib.Omega.{arith}
 use lib.Dec.{eqb}
 use lib.ListN.{length, getD, set, length-set}
 use Rattle.word.specs.Reading.{readOf}
 use Rattle.machine.specs.declared.Machine.{Machine}
 use Rattle.machine.specs.declared.Plan.{Plan}
 use Rattle.machine.specs.declared.Plan.the-variants.{Move, Put, Jump, Load, LoadBy, Store, StoreBy}
 use Rattle.machine.specs.declared.Plan.the-variants.{Call, Illegal, Return}
 use Rattle.machine.specs.declared.Pending.{Pending}
 use Rattle.machine.specs.declared.Pending.the-variants.{Nothing, Interrupt}
+use Rattle.machine.specs.Edition.{Edition, third, second, linked, trapped}
 use Rattle.machine.specs.Words.{before}
 use Rattle.machine.specs.Psr.{inUserMode}
 use Rattle.machine.specs.Outcome.{Reason, access, privilege, illegal, trap, interrupt, vectorOf}
 use Rattle.machine.specs.Outcome.{Cause, Outcome, plainOutcome, withReads}
 use Rattle.machine.specs.Interrupts.{pendingInterrupt}
-use Rattle.machine.specs.Protection.{denied}
+use Rattle.machine.specs.Protection.{deniedBy}
 use Rattle.machine.specs.Entry.{stackPointerOnEntry, pushed, afterEntry, entry, raised, interrupted}
-use Rattle.machine.specs.Devices.{KBSR, KBDR, DSR, DDR, TSR, TIR, PSR, isDevice, lentWordBy, lentWord}
-use Rattle.machine.specs.Devices.{deviceValue, loadedValueBy, loadedValue, afterLoad, ddrStore, deviceStore}
-use Rattle.machine.specs.Devices.{storedBy, stored}
-use Rattle.machine.specs.Access.{checked, loadToBy, loadTo, storeAtBy, storeAt, byPointerBy, byPointer}
+use Rattle.machine.specs.Devices.{KBSR, KBDR, DSR, DDR, TSR, TIR, PSR, isDeviceBy, lentWordBy}
+use Rattle.machine.specs.Devices.{deviceValue, loadedValueBy, afterLoad, ddrStore, deviceStore}
+use Rattle.machine.specs.Devices.{storedBy}
+use Rattle.machine.specs.Access.{checkedBy, loadToBy, storeAtBy, byPointerBy}
 use Rattle.machine.specs.Return.{popped, return}
-use Rattle.machine.specs.Plan.{planOf}
-use Rattle.machine.specs.Step.{performBy, perform, obeyedBy, obeyed, interruptedOrObeyedBy, interruptedOrObeyed}
-use Rattle.machine.specs.Step.{ended, afterStart, stepBy}
-use Rattle.machine.specs.Touched.{Each, SameWordAt, SameEffect, StepReads}
+use Rattle.machine.specs.Plan.{planBy}
+use Rattle.machine.specs.Step.{performBy, obeyedBy, interruptedOrObeyedBy, ended, afterStart, stepBy}
+use Rattle.touched.specs.Touched.{Each, SameWordAt, SameEffect, StepReadsBy}
 
 -- ---- lists of addresses
 
@@ -67,7 +67,7 @@ same-size-stays mem₁ mem₂ a v l = rw (length-set mem₁ a v, length-set mem�
 
 -- ---- the parts of a step
 
-module _ (mem₁ mem₂ : List ℕ) (l : length mem₁ ≡ length mem₂) where
+module _ (edition : Edition) (mem₁ mem₂ : List ℕ) (l : length mem₁ ≡ length mem₂) where
   -- Where the memories agree at all that the first outcome reads, both outcomes have the same effect.
   abbrev Follows : Outcome → Outcome → Type 0
   Follows o₁ o₂ = Each (SameWordAt mem₁ mem₂) (o₁ .reads) → SameEffect mem₁ mem₂ o₁ o₂
@@ -147,21 +147,21 @@ module _ (mem₁ mem₂ : List ℕ) (l : length mem₁ ≡ length mem₂) where
   raised-follows reason pc m = entry-follows reason pc _ m
 
   checked-follows : (a : ℕ) (m : Machine) {o₁ o₂ : Outcome} → Follows o₁ o₂
-      → Follows (checked a m mem₁ o₁) (checked a m mem₂ o₂)
-  checked-follows a m f = either (denied (m .psr) a) (raised-follows access (m .pc) m) f
+      → Follows (checkedBy edition a m mem₁ o₁) (checkedBy edition a m mem₂ o₂)
+  checked-follows a m f = either (deniedBy edition (m .psr) a) (raised-follows access (m .pc) m) f
 
   -- A load gives a device's value, or the lent word that it reads.
-  loaded-value-follows : (a : ℕ) (m : Machine) → Each (SameWordAt mem₁ mem₂) (lentWord a)
-      → loadedValue a m mem₁ ≡ loadedValue a m mem₂
+  loaded-value-follows : (a : ℕ) (m : Machine) → Each (SameWordAt mem₁ mem₂) (lentWordBy edition a)
+      → loadedValueBy edition a m mem₁ ≡ loadedValueBy edition a m mem₂
   unfolding lentWordBy loadedValueBy
-  loaded-value-follows a m e = go (isDevice a) e
+  loaded-value-follows a m e = go (isDeviceBy edition a) e
     where
       go : (b : Bool) → Each (SameWordAt mem₁ mem₂) (cond b [] (a ∷ []))
           → cond b (deviceValue a m) (getD mem₁ a 0) ≡ cond b (deviceValue a m) (getD mem₂ a 0)
       go true e = refl
       go false e = e .0
 
-  load-follows : (r a : ℕ) (m : Machine) → Followed (loadTo r a m)
+  load-follows : (r a : ℕ) (m : Machine) → Followed (loadToBy edition r a m)
   unfolding loadToBy
   load-follows r a m = checked-follows a m (λ e. memory-kept (rw (loaded-value-follows a m e)))
 
@@ -176,10 +176,10 @@ module _ (mem₁ mem₂ : List ℕ) (l : length mem₁ ≡ length mem₂) where
       (either (eqb a TIR) (plain-follows _)
       (either (eqb a PSR) (plain-follows _) (plain-follows _)))))))
 
-  stored-follows : (v a : ℕ) (m : Machine) → Followed (stored v a m)
+  stored-follows : (v a : ℕ) (m : Machine) → Followed (storedBy edition v a m)
   unfolding storedBy
   stored-follows v a m =
-      either (isDevice a) (device-follows v a m)
+      either (isDeviceBy edition a) (device-follows v a m)
       (λ e. record {
         machine = refl;
         shown = refl;
@@ -191,18 +191,18 @@ module _ (mem₁ mem₂ : List ℕ) (l : length mem₁ ≡ length mem₂) where
         written = (stored-word-agrees mem₁ mem₂ a v l, tt);
       })
 
-  store-follows : (v a : ℕ) (m : Machine) → Followed (storeAt v a m)
+  store-follows : (v a : ℕ) (m : Machine) → Followed (storeAtBy edition v a m)
   unfolding storeAtBy
   store-follows v a m = checked-follows a m (stored-follows v a _)
 
   -- The pointer is the same in both, since its word is read.
   pointer-follows : (a : ℕ) (data-access : ℕ → Machine → List ℕ → Outcome) (m : Machine)
-      → ((b : ℕ) (n : Machine) → Followed (data-access b n)) → Followed (byPointer a data-access m)
+      → ((b : ℕ) (n : Machine) → Followed (data-access b n)) → Followed (byPointerBy edition a data-access m)
   unfolding byPointerBy
   pointer-follows a data-access m f =
       checked-follows a m
-      (after-reads (lentWord a) _ _
-      (λ e. rw (← loaded-value-follows a m e) (f (loadedValue a m mem₁) (afterLoad a m))))
+      (after-reads (lentWordBy edition a) _ _
+      (λ e. rw (← loaded-value-follows a m e) (f (loadedValueBy edition a m mem₁) (afterLoad a m))))
 
   popped-follows : (sp : ℕ) (m : Machine) → Followed (popped sp m)
   unfolding popped
@@ -212,28 +212,34 @@ module _ (mem₁ mem₂ : List ℕ) (l : length mem₁ ≡ length mem₂) where
   unfolding return
   return-follows m = either (inUserMode (m .psr)) (raised-follows privilege (m .pc) m) (popped-follows _ m)
 
-  plan-follows : (p : Plan) (m : Machine) → Followed (perform p m)
+  -- TRAP reads its vector word by either edition.
+  trapped-follows : (e : Edition) (vector : ℕ) (m : Machine) → Followed (trapped e vector m)
+  unfolding linked
+  trapped-follows third vector m = raised-follows (trap vector) _ m
+  trapped-follows second vector m = λ e. memory-kept (rw (e .0))
+
+  plan-follows : (p : Plan) (m : Machine) → Followed (performBy edition p m)
   unfolding performBy
   plan-follows (Move r v pc) m = plain-follows _
   plan-follows (Put r v pc) m = plain-follows _
   plan-follows (Jump pc) m = plain-follows _
   plan-follows (Load r a) m = load-follows r a m
-  plan-follows (LoadBy r a) m = pointer-follows a (loadTo r) m (λ b n. load-follows r b n)
+  plan-follows (LoadBy r a) m = pointer-follows a (loadToBy edition r) m (λ b n. load-follows r b n)
   plan-follows (Store v a) m = store-follows v a m
-  plan-follows (StoreBy v a) m = pointer-follows a (storeAt v) m (λ b n. store-follows v b n)
-  plan-follows (Call vector) m = raised-follows (trap vector) _ m
+  plan-follows (StoreBy v a) m = pointer-follows a (storeAtBy edition v) m (λ b n. store-follows v b n)
+  plan-follows (Call vector) m = trapped-follows edition vector m
   plan-follows Illegal m = raised-follows illegal (m .pc) m
   plan-follows Return m = return-follows m
 
   -- The plan is the same in both, since the word fetched is read.
-  obeyed-follows : (m : Machine) → Followed (obeyed m)
+  obeyed-follows : (m : Machine) → Followed (obeyedBy edition m)
   unfolding obeyedBy
   obeyed-follows m =
       checked-follows (m .pc) m
       (after-reads (m .pc ∷ []) _ _
-      (λ e. rw (← (e .0)) (plan-follows (planOf (m .regs) (m .pc) (m .psr) (readOf (getD mem₁ (m .pc) 0))) m)))
+      (λ e. rw (← (e .0)) (plan-follows (planBy edition (m .regs) (m .pc) (m .psr) (readOf (getD mem₁ (m .pc) 0))) m)))
 
-  either-follows : (p : Pending) (m : Machine) → Followed (interruptedOrObeyed p m)
+  either-follows : (p : Pending) (m : Machine) → Followed (interruptedOrObeyedBy edition p m)
   unfolding interruptedOrObeyedBy interrupted
   either-follows Nothing m = obeyed-follows m
   either-follows (Interrupt vector priority) m = entry-follows (interrupt vector) (m .pc) _ m
@@ -253,7 +259,8 @@ module _ (mem₁ mem₂ : List ℕ) (l : length mem₁ ≡ length mem₂) where
         written = s .written;
       }
 
-pub step-reads : StepReads
+pub step-reads : (edition : Edition) → StepReadsBy edition
 unfolding stepBy
-step-reads keys m mem₁ mem₂ l =
-    end-follows mem₁ mem₂ l _ _ (either-follows mem₁ mem₂ l (pendingInterrupt (afterStart keys m)) (afterStart keys m))
+step-reads edition keys m mem₁ mem₂ l =
+    let n : Machine = afterStart keys m in
+    end-follows edition mem₁ mem₂ l _ _ (either-follows edition mem₁ mem₂ l (pendingInterrupt n) n)

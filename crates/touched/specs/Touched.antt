@@ -3,10 +3,10 @@ use Prim.Native.Nat.{ℕ, _≤_}
 use mathlib.Core.Path.{_≡_}
 use mathlib.Core.List.{List, [], _∷_}
 use lib.ListN.{length, getD}
 use Rattle.machine.specs.declared.Machine.{Machine}
 use Rattle.machine.specs.Edition.{Edition, third}
 use Rattle.machine.specs.Outcome.{Outcome}
-use Rattle.machine.specs.Step.{stepBy, stepOf}
+use Rattle.machine.specs.Step.{stepBy}
 
 -- What holds of each address in a list.
 abbrev pub Each : (ℕ → Type 0) → List ℕ → Type 0
@@ -42,12 +42,12 @@ pub record SameEffect (mem₁ mem₂ : List ℕ) (o₁ o₂ : Outcome) : Type 0 
   pub written : Each (SameWordAt (o₁ .memory) (o₂ .memory)) (o₁ .writes)
 
 -- Two memories of one size that agree at the words that the step from the first of them reads give the same effect.
-abbrev pub StepReads : Type 0
-StepReads = (keys : List ℕ) (m : Machine) (mem₁ mem₂ : List ℕ) → length mem₁ ≡ length mem₂
-    → Each (SameWordAt mem₁ mem₂) (stepOf keys m mem₁ .reads)
-    → SameEffect mem₁ mem₂ (stepOf keys m mem₁) (stepOf keys m mem₂)
+abbrev pub StepReadsBy : Edition → Type 0
+StepReadsBy e = (keys : List ℕ) (m : Machine) (mem₁ mem₂ : List ℕ) → length mem₁ ≡ length mem₂
+    → Each (SameWordAt mem₁ mem₂) (stepBy e keys m mem₁ .reads)
+    → SameEffect mem₁ mem₂ (stepBy e keys m mem₁) (stepBy e keys m mem₂)
 
--- `StepReads` would stay true of a step that claimed to read more. None claims more than the word fetched and two
+-- `StepReadsBy` would stay true of a step that claimed to read more. None claims more than the word fetched and two
 -- others: a pointer and a datum, a pointer and a vector, or two pops.
 abbrev pub StepReadsAtMostThreeBy : Edition → Type 0
 StepReadsAtMostThreeBy e = (keys : List ℕ) (m : Machine) (mem : List ℕ) → length (stepBy e keys m mem .reads) ≤ 3
@@ -56,6 +56,9 @@ StepReadsAtMostThreeBy e = (keys : List ℕ) (m : Machine) (mem : List ℕ) → 
 
 abbrev pub StepWrites : Type 0
 StepWrites = StepWritesBy third
+
+abbrev pub StepReads : Type 0
+StepReads = StepReadsBy third
 
 abbrev pub StepReadsAtMostThree : Type 0
 StepReadsAtMostThree = StepReadsAtMostThreeBy third
