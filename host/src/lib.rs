@@ -14,6 +14,10 @@
 //! - [`install_monitor`] for the ready-made monitor, [`Routines::of_monitor`] for the addresses of its
 //!   routines, and [`vectors`] for the vector words of any monitor.
 //!
+//! One tool is made of these calls:
+//!
+//! - [`reach`](reach()) for a run that tells how far one altered word of memory can reach.
+//!
 //! Nothing is kept between calls. A call that cannot be obeyed is refused and alters nothing; each
 //! kind of refusal converts into [`Error`]. The C interface itself, with the constants of `lc3.h`
 //! under their names, is in [`ffi`].
@@ -55,6 +59,7 @@ mod line;
 mod log;
 mod monitor;
 mod object;
+mod reach;
 mod record;
 mod run;
 
@@ -66,6 +71,7 @@ pub use monitor::{
     install_monitor, vectors, MonitorRefusal, Routines, MONITOR_WORDS, VECTOR_WORDS,
 };
 pub use object::{save, start, ObjectRefusal, Started};
+pub use reach::{reach, Fate, Reach, Replacing, Taking};
 pub use record::{Mode, Record};
 pub use run::{run, run_second, step, step_second, Keys, Refusal, Run, StepReport, Stop};
 pub use run::{CLOCK_LIMIT, STEP_LIMIT, WORDS};

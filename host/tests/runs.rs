@@ -6,21 +6,8 @@ mod support;
 use lc3::ffi::{Answer, Report};
 use lc3::{Keys, Record, Refusal};
 use reference::machine::{self, Cause, Entry, Event, CAUSES};
-use support::cases::{self, accepted, Case, Family, FAMILIES};
-use support::{assert_same_buffers, Announce, Buffers, Rng};
-
-/// Calls `law` with random cases and the template that they go over.
-fn for_cases(count: u64, mut law: impl FnMut(&mut Rng, &Case, &[u16])) {
-    let seed = support::seed();
-    let template = cases::template(&mut Rng::of_case(!seed, 0));
-    for number in 0..support::runs(count) {
-        let mut rng = Rng::of_case(seed, number);
-        let family = rng.pick(&FAMILIES);
-        let case = cases::case(&mut rng, family);
-        let _announce = Announce { seed, number, case: &case };
-        law(&mut rng, &case, &template);
-    }
-}
+use support::cases::{self, accepted, Case, Family};
+use support::{assert_same_buffers, for_cases, Announce, Buffers, Rng};
 
 /// The counts of a run and of the one that went on from it, with the answer of the latter.
 fn joined(first: Answer, second: Answer) -> Answer {

@@ -15,3 +15,6 @@ pub mod TwoStarts
 pub mod RunsAlike
 pub mod SecondEdition
 pub mod SecondEditionRuns
+pub mod AlteredWords
+pub mod OneAlteredWord
+pub mod AlteredWordRuns

@@ -45,7 +45,7 @@ pub data Tried (step : Step) (s : Start) (n k : ℕ) : Type 0 where
   is-made : k < runBy step s n .steps → Tried step s n k
   is-stopped-before : runBy step s n .ending ≡ OutputFull → k ≡ runBy step s n .steps → Tried step s n k
 
-run-fills : (step : Step) (s : Start) (k : ℕ) → runBy step s k .ending ≡ Done → isHalted (runBy step s k) ≡ false
+pub run-fills : (step : Step) (s : Start) (k : ℕ) → runBy step s k .ending ≡ Done → isHalted (runBy step s k) ≡ false
     → isFullBy step s (runBy step s k) ≡ true → runBy step s (suc k) ≡ endedBy OutputFull (runBy step s k)
 unfolding runBy
 run-fills step s k d h f = one-more-fills step (runBy step s k .ending) s (runBy step s k) d h f

@@ -1,5 +1,6 @@
 -- Two steps from one record, with the same keys, from two memories: where these agree at all words that the first step
--- reads, both have the same effect. By accesses and by the plan that they share, and never by the instruction; by either edition.
+-- reads, both have the same effect. By accesses and by the plan that they share, never by the instruction; by either
+-- edition.
 use Prim.Native.Nat.{ℕ, zero, suc}
 use mathlib.Core.Path.{_≡_, refl}
 use mathlib.Core.Bool.{Bool, true, false, cond}

@@ -1,2 +1,4 @@
--- What the lists of words read and written in a step's outcome mean.
+-- What the lists of words read and written in a step's outcome mean; and what follows for words that a step does not
+-- read.
 pub mod Touched
+pub mod Altered

@@ -281,6 +281,33 @@ pub struct Reached {
     pub store: Option<usize>,
 }
 
+/// How a step uses a lent word.
+#[derive(Clone, Copy, Debug, PartialEq, Eq)]
+pub enum Use {
+    Fetch,
+    Pointer,
+    Load,
+    Pop,
+    Vector,
+    Store,
+    Push,
+}
+
+/// The lent words that one step used, in order. The most are the five of an LDI or STI whose second
+/// address is denied: fetch, pointer, two pushes and the vector.
+#[derive(Clone, Copy, Debug, Default)]
+pub struct Used([Option<(Use, u16)>; 5]);
+
+impl Used {
+    fn note(&mut self, how: Use, at: u16) {
+        *self.0.iter_mut().find(|place| place.is_none()).expect("five at most") = Some((how, at));
+    }
+
+    pub fn iter(&self) -> impl Iterator<Item = (Use, u16)> + '_ {
+        self.0.iter().flatten().copied()
+    }
+}
+
 /// The devices whose state a step may have to give back.
 #[derive(Clone, Copy, Debug)]
 pub struct Devices {
@@ -297,6 +324,7 @@ pub struct Bus<'a> {
     pub display: Display<'a>,
     pub devices: Devices,
     pub reached: Reached,
+    pub used: Used,
     /// Whether the PSR has an address, as in the third edition.
     pub psr_at_its_address: bool,
 }
@@ -318,28 +346,40 @@ impl Bus<'_> {
         REGISTERS.iter().position(|&register| register == at && !plain)
     }
 
-    fn get(&mut self, at: u16) -> u16 {
+    /// The lent word at an address, a device's too.
+    pub fn take(&mut self, how: Use, at: u16) -> u16 {
+        self.used.note(how, at);
+        self.words[usize::from(at)]
+    }
+
+    /// Replaces the lent word at an address, a device's too.
+    pub fn put(&mut self, how: Use, at: u16, value: u16) {
+        self.used.note(how, at);
+        self.words[usize::from(at)] = value;
+    }
+
+    fn get(&mut self, how: Use, at: u16) -> u16 {
         match self.device(at) {
             Some(device) => device.load(at),
-            None => self.words[usize::from(at)],
+            None => self.take(how, at),
         }
     }
 
     pub fn load_pointer(&mut self, at: u16) -> u16 {
         self.reached.pointer = self.place(at);
-        self.get(at)
+        self.get(Use::Pointer, at)
     }
 
     pub fn load(&mut self, at: u16) -> u16 {
         self.reached.load = self.place(at);
-        self.get(at)
+        self.get(Use::Load, at)
     }
 
     pub fn store(&mut self, at: u16, value: u16) -> Result<(), NoRoom> {
         self.reached.store = self.place(at);
         match self.device(at) {
             Some(device) => device.store(at, value)?,
-            None => self.words[usize::from(at)] = value,
+            None => self.put(Use::Store, at, value),
         }
         Ok(())
     }

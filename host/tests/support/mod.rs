@@ -7,7 +7,7 @@ pub mod cases;
 pub mod program;
 
 use crate::reference::machine;
-use cases::Case;
+use cases::{Case, FAMILIES};
 use lc3::ffi::{self, Answer, LoggedAnswer, Report, RunCall, StepCall};
 use lc3::Record;
 use std::env;
@@ -296,5 +296,30 @@ impl Drop for Announce<'_> {
         if std::thread::panicking() {
             eprintln!("LC3_SEED={}, case {}: {:x?}", self.seed, self.number, self.case);
         }
+    }
+}
+
+/// Calls `law` with random cases and the template that they go over.
+pub fn for_cases(count: u64, law: impl FnMut(&mut Rng, &Case, &[u16])) {
+    let any = |rng: &mut Rng, _: &[u16]| {
+        let family = rng.pick(&FAMILIES);
+        cases::case(rng, family)
+    };
+    for_cases_by(count, any, law);
+}
+
+/// The same with cases that `make` makes for the template.
+pub fn for_cases_by(
+    count: u64,
+    mut make: impl FnMut(&mut Rng, &[u16]) -> Case,
+    mut law: impl FnMut(&mut Rng, &Case, &[u16]),
+) {
+    let seed = seed();
+    let template = cases::template(&mut Rng::of_case(!seed, 0));
+    for number in 0..runs(count) {
+        let mut rng = Rng::of_case(seed, number);
+        let case = make(&mut rng, &template);
+        let _announce = Announce { seed, number, case: &case };
+        law(&mut rng, &case, &template);
     }
 }
