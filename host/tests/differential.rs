@@ -11,8 +11,8 @@ use reference::bus::{DDR, DSR, REGISTERS, TIR, TSR};
 use reference::figure::FIGURE;
 use reference::machine::{self, Cause, Event, CAUSES, OUTPUT_FULL};
 use std::time::Instant;
-use support::cases::{self, accepted, Case, FAMILIES};
-use support::{assert_same_buffers, Announce, Buffers, Rng};
+use support::cases::{accepted, Case};
+use support::{assert_same_buffers, for_cases, Buffers};
 
 /// How often each thing was met that the runs are to meet.
 #[derive(Default)]
@@ -246,20 +246,19 @@ impl Tally {
 
 /// The buffers of the library and of the reference.
 struct Bench {
-    template: Vec<u16>,
     ours: Buffers,
     theirs: Buffers,
 }
 
 impl Bench {
-    fn new(template: Vec<u16>) -> Self {
-        Bench { template, ours: Buffers::new(), theirs: Buffers::new() }
+    fn new() -> Self {
+        Bench { ours: Buffers::new(), theirs: Buffers::new() }
     }
 
     /// Runs a case on both, and panics unless all that they answer and leave is the same.
-    fn compare(&mut self, case: &Case, tally: &mut Tally) -> Answer {
-        self.ours.set(case, &self.template);
-        self.theirs.set(case, &self.template);
+    fn compare(&mut self, case: &Case, template: &[u16], tally: &mut Tally) -> Answer {
+        self.ours.set(case, template);
+        self.theirs.set(case, template);
         let call = self.theirs.call(case.record, case.n);
         let objections = call.objections();
         let expected = machine::run(call, |event| tally.event(event));
@@ -272,40 +271,29 @@ impl Bench {
     }
 }
 
-/// Cases that share one template of memory.
-const CASES_PER_TEMPLATE: u64 = 4096;
-
 /// Runs from which on everything in the table is to be met.
 const ENOUGH: u64 = 100_000;
 
-fn compare_random_runs(runs: u64) {
-    let seed = support::seed();
+fn compare_random_runs(usual: u64) {
     let start = Instant::now();
-    let mut tally = Tally::default();
-    let mut bench = Bench::new(Vec::new());
-    for number in 0..runs {
-        if number % CASES_PER_TEMPLATE == 0 {
-            bench.template = cases::template(&mut Rng::of_case(!seed, number));
-        }
-        let mut rng = Rng::of_case(seed, number);
-        let family = rng.pick(&FAMILIES);
-        let case = cases::case(&mut rng, family);
-        let _announce = Announce { seed, number, case: &case };
-        bench.compare(&case, &mut tally);
-    }
+    let (mut bench, mut tally) = (Bench::new(), Tally::default());
+    for_cases(usual, |_, case, template| {
+        bench.compare(case, template, &mut tally);
+    });
+    let runs = support::runs(usual);
     println!("{runs} runs in {:.1} s", start.elapsed().as_secs_f64());
     tally.check(runs >= ENOUGH);
 }
 
 #[test]
 fn random_runs_agree_with_the_reference() {
-    compare_random_runs(support::runs(400_000));
+    compare_random_runs(400_000);
 }
 
 #[test]
 #[ignore = "takes several minutes"]
 fn soak() {
-    compare_random_runs(support::runs(20_000_000));
+    compare_random_runs(20_000_000);
 }
 
 #[test]
@@ -314,20 +302,20 @@ fn a_count_of_0_runs_is_no_test() {
     support::at_least_one(0);
 }
 
+/// Memory for a case that says itself what matters in it, with the one word more of a template.
+static ZEROS: [u16; WORDS + 1] = [0; WORDS + 1];
+
 /// Panics unless the accepted case, changed so, gets the refusal from both; 0 is none.
 fn expect(bench: &mut Bench, refusal: u32, change: impl FnOnce(&mut Case)) {
     let mut case = accepted();
     change(&mut case);
-    assert_eq!(bench.compare(&case, &mut Tally::default()).refusal, refusal, "{case:x?}");
-}
-
-fn bench() -> Bench {
-    Bench::new(vec![0; WORDS + 1])
+    let answer = bench.compare(&case, &ZEROS, &mut Tally::default());
+    assert_eq!(answer.refusal, refusal, "{case:x?}");
 }
 
 #[test]
 fn memory_of_any_other_length_is_refused() {
-    let mut bench = bench();
+    let mut bench = Bench::new();
     for words in [0, 1, WORDS / 2, WORDS - 1, WORDS + 1] {
         expect(&mut bench, 11, |case| case.memory_len = words);
     }
@@ -336,7 +324,7 @@ fn memory_of_any_other_length_is_refused() {
 
 #[test]
 fn each_undefined_bit_is_refused_and_each_defined_one_accepted() {
-    let mut bench = bench();
+    let mut bench = Bench::new();
     for bit in (0..16).map(|number| 1u16 << number) {
         let code = |defined: u16| if bit & defined != 0 { 0 } else { 12 };
         expect(&mut bench, code(0x8707), |case| case.record.psr |= bit);
@@ -349,7 +337,7 @@ fn each_undefined_bit_is_refused_and_each_defined_one_accepted() {
 
 #[test]
 fn a_busy_count_above_8_is_refused() {
-    let mut bench = bench();
+    let mut bench = Bench::new();
     for busy in 0..=u16::MAX {
         expect(&mut bench, if busy > 8 { 12 } else { 0 }, |case| case.record.busy = busy);
     }
@@ -358,7 +346,7 @@ fn a_busy_count_above_8_is_refused() {
 #[test]
 fn a_timer_count_is_within_its_interval() {
     const VALUES: [u16; 9] = [0, 1, 2, 3, 1000, 0x7FFF, 0x8000, 0xFFFE, 0xFFFF];
-    let mut bench = bench();
+    let mut bench = Bench::new();
     for (interval, count) in VALUES.iter().flat_map(|&i| VALUES.map(|count| (i, count))) {
         let refused = count > interval || (count == 0 && interval != 0);
         expect(&mut bench, if refused { 12 } else { 0 }, |case| {
@@ -369,7 +357,7 @@ fn a_timer_count_is_within_its_interval() {
 
 #[test]
 fn the_clock_ends_at_two_to_the_48() {
-    let mut bench = bench();
+    let mut bench = Bench::new();
     let mut at = |refusal, clock, n| {
         expect(&mut bench, refusal, |case| (case.record.clock, case.n) = (clock, n));
     };
@@ -386,7 +374,7 @@ fn the_clock_ends_at_two_to_the_48() {
 
 #[test]
 fn the_longest_run_is_made_and_one_step_more_is_refused() {
-    let mut bench = bench();
+    let mut bench = Bench::new();
     let mut run = |refusal, n| {
         expect(&mut bench, refusal, |case| {
             // ADD R0, R0, #1 and BR to it: a loop that never stops by itself.
@@ -401,7 +389,7 @@ fn the_longest_run_is_made_and_one_step_more_is_refused() {
 
 #[test]
 fn keys_must_come_in_order_and_not_before_the_clock() {
-    let mut bench = bench();
+    let mut bench = Bench::new();
     let mut keys = |refusal, times: &[u64], bytes: &[u8]| {
         expect(&mut bench, refusal, |case| {
             case.record.clock = 100;
@@ -432,7 +420,7 @@ const SPOILERS: [fn(&mut Case); REFUSALS.len()] = [
 
 #[test]
 fn of_several_refusals_the_first_is_answered() {
-    let mut bench = bench();
+    let mut bench = Bench::new();
     for set in 0..1u32 << SPOILERS.len() {
         let applies = |i: usize| set >> i & 1 == 1;
         let first = (0..SPOILERS.len()).find(|&i| applies(i));

@@ -6,8 +6,8 @@ mod support;
 use lc3::ffi::{Answer, LoggedAnswer};
 use lc3::{logged_steps, Keys, LoggedStep, Mode, Reason, Record, Stop, WORDS};
 use reference::machine::{self, Event, CAUSES, LOG_FULL};
-use support::cases::{self, Case, FAMILIES};
-use support::{assert_same_buffers, Announce, Buffers, Lent, Rng};
+use support::cases::Case;
+use support::{assert_same_buffers, for_cases, Buffers, Lent};
 
 /// What a log holds before a call.
 const LENT_WORD: u16 = 0xB00C;
@@ -25,7 +25,6 @@ fn at_x3000(memory: &mut [u16], mode: Mode) -> Record {
 
 /// The buffers of the library and of the reference, with a log for each.
 struct Bench {
-    template: Vec<u16>,
     ours: Buffers,
     theirs: Buffers,
     our_log: Lent<u16>,
@@ -33,9 +32,8 @@ struct Bench {
 }
 
 impl Bench {
-    fn new(template: Vec<u16>) -> Self {
+    fn new() -> Self {
         Bench {
-            template,
             ours: Buffers::new(),
             theirs: Buffers::new(),
             our_log: Lent::new(0x6A6A),
@@ -44,16 +42,22 @@ impl Bench {
     }
 
     /// The steps that a case makes where no log limits it.
-    fn steps(&mut self, case: &Case) -> u64 {
-        self.ours.set(case, &self.template);
+    fn steps(&mut self, case: &Case, template: &[u16]) -> u64 {
+        self.ours.set(case, template);
         self.ours.run(case.record, 0, 0, case.n).steps
     }
 
     /// Runs a case on both with logs of so many words, and panics unless all that they answer and
     /// leave is the same.
-    fn compare(&mut self, case: &Case, log: usize, watch: impl FnMut(&Event)) -> LoggedAnswer {
-        self.ours.set(case, &self.template);
-        self.theirs.set(case, &self.template);
+    fn compare(
+        &mut self,
+        case: &Case,
+        template: &[u16],
+        log: usize,
+        watch: impl FnMut(&Event),
+    ) -> LoggedAnswer {
+        self.ours.set(case, template);
+        self.theirs.set(case, template);
         self.their_log = vec![LENT_WORD; log];
         self.our_log.set(&self.their_log);
         let call = self.theirs.call(case.record, case.n);
@@ -70,9 +74,9 @@ impl Bench {
 
     /// Panics unless the case, run without a log, ends as the logged run did but for a stop by log
     /// full.
-    fn compare_with_run(&mut self, case: &Case, logged: &LoggedAnswer) {
+    fn compare_with_run(&mut self, case: &Case, template: &[u16], logged: &LoggedAnswer) {
         let full = logged.stop == LOG_FULL;
-        self.theirs.set(case, &self.template);
+        self.theirs.set(case, template);
         let n = if full { logged.steps } else { case.n };
         let run = self.theirs.run(case.record, 0, 0, n);
         let expected = Answer { stop: if full { LOG_FULL } else { run.stop }, ..run };
@@ -83,30 +87,25 @@ impl Bench {
 
 #[test]
 fn random_logged_runs_agree_with_the_reference_and_with_the_run() {
-    let seed = support::seed();
-    let mut bench = Bench::new(cases::template(&mut Rng::of_case(!seed, 0)));
+    let mut bench = Bench::new();
     let (mut reasons, mut stops, mut refused) = ([0u64; CAUSES], [0u64; 4], 0u64);
     let mut denied_fetches = 0u64;
-    for number in 0..support::runs(100_000) {
-        let mut rng = Rng::of_case(seed, number);
-        let family = rng.pick(&FAMILIES);
-        let case = cases::case(&mut rng, family);
-        let _announce = Announce { seed, number, case: &case };
+    for_cases(100_000, |rng, case, template| {
         // About as many words as the case needs, or room for all.
-        let needed = 3 * bench.steps(&case);
+        let needed = 3 * bench.steps(case, template);
         let words = if rng.once_in(2) { needed + rng.below(8) } else { rng.below(needed + 4) };
-        let answer = bench.compare(&case, words as usize, |event| {
+        let answer = bench.compare(case, template, words as usize, |event| {
             reasons[event.cause as usize] += 1;
             let is_access = event.cause == machine::Cause::Access;
             denied_fetches += u64::from(is_access && event.word.is_none());
         });
-        bench.compare_with_run(&case, &answer);
+        bench.compare_with_run(case, template, &answer);
         if answer.refusal == 0 {
             stops[answer.stop as usize] += 1;
         } else {
             refused += 1;
         }
-    }
+    });
     println!("steps by reason: {reasons:?}, of them denied fetches: {denied_fetches}");
     println!("stops: {stops:?}, refused: {refused}");
     let met = reasons.iter().chain(&stops).chain([&refused, &denied_fetches]);
@@ -257,23 +256,17 @@ fn the_word_logged_is_the_one_fetched() {
 
 #[test]
 fn the_log_of_two_runs_is_that_of_one() {
-    let seed = support::seed();
-    let template = cases::template(&mut Rng::of_case(!seed, 0));
     let (mut whole, mut split) = (Buffers::new(), Buffers::new());
     let mut log = Lent::new(0x6A6A);
-    for number in 0..support::runs(20_000) {
-        let mut rng = Rng::of_case(seed, number);
-        let family = rng.pick(&FAMILIES);
-        let case = cases::case(&mut rng, family);
-        let _announce = Announce { seed, number, case: &case };
+    for_cases(20_000, |rng, case, template| {
         let length = rng.below(3 * case.n.min(200) + 4) as usize;
-        whole.set(&case, &template);
+        whole.set(case, template);
         log.set(&vec![LENT_WORD; length]);
         let expected = whole.run_logged(case.record, &mut log, case.n);
         if expected.refusal != 0 {
-            continue;
+            return;
         }
-        split.set(&case, &template);
+        split.set(case, template);
         let mut parts = vec![LENT_WORD; length];
         let k = rng.below(case.n.min(200) + 1);
         let first = split.run_logged_after(case.record, 0, 0, &mut parts, k);
@@ -290,7 +283,7 @@ fn the_log_of_two_runs_is_that_of_one() {
         assert_eq!(joined, expected);
         assert_eq!(parts, log.get());
         assert_same_buffers(&split, &whole);
-    }
+    });
 }
 
 #[test]

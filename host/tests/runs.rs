@@ -7,7 +7,7 @@ use lc3::ffi::{Answer, Report};
 use lc3::{Keys, Record, Refusal};
 use reference::machine::{self, Cause, Entry, Event, CAUSES};
 use support::cases::{self, accepted, Case, Family};
-use support::{assert_same_buffers, for_cases, Announce, Buffers, Rng};
+use support::{assert_same_buffers, for_cases, for_cases_by, Buffers, Rng};
 
 /// The counts of a run and of the one that went on from it, with the answer of the latter.
 fn joined(first: Answer, second: Answer) -> Answer {
@@ -165,10 +165,10 @@ fn in_user_space(&(at, _): &(u16, u16)) -> bool {
     USER_SPACE.contains(&usize::from(at))
 }
 
-/// One run of a pair: a case over a template of its own, and the words that it is lent.
+/// One run of a pair.
 struct Side {
     case: Case,
-    template: Vec<u16>,
+    /// The words that it is lent: the template with the case's own words already in it.
     lent: Vec<u16>,
     buffers: Buffers,
 }
@@ -191,12 +191,12 @@ impl Meeting {
 }
 
 impl Side {
-    fn new(template: Vec<u16>) -> Self {
-        Side { case: accepted(), template, lent: Vec::new(), buffers: Buffers::new() }
+    fn new() -> Self {
+        Side { case: accepted(), lent: Vec::new(), buffers: Buffers::new() }
     }
 
-    fn take(&mut self, case: Case) {
-        self.buffers.set(&case, &self.template);
+    fn take(&mut self, case: Case, template: &[u16]) {
+        self.buffers.set(&case, template);
         self.lent.clear();
         self.lent.extend_from_slice(self.buffers.memory.get());
         self.case = case;
@@ -204,7 +204,7 @@ impl Side {
 
     /// The library's answer to `n` steps from the start.
     fn run(&mut self, n: u64) -> Answer {
-        self.buffers.set(&self.case, &self.template);
+        self.buffers.set(&self.case, &self.lent);
         let answer = self.buffers.run(self.case.record, 0, 0, n);
         self.buffers.check(&self.case);
         answer
@@ -212,7 +212,7 @@ impl Side {
 
     /// The words that the library logs for `n` steps from the start.
     fn log(&mut self, n: u64) -> Vec<u16> {
-        self.buffers.set(&self.case, &self.template);
+        self.buffers.set(&self.case, &self.lent);
         let mut log = vec![0; 3 * n as usize];
         let answer = self.buffers.run_logged_after(self.case.record, 0, 0, &mut log, n);
         assert_eq!(answer.logged, 3 * n);
@@ -220,7 +220,7 @@ impl Side {
     }
 
     fn meeting(&mut self) -> Meeting {
-        self.buffers.set(&self.case, &self.template);
+        self.buffers.set(&self.case, &self.lent);
         let mut meeting = Meeting { before: 0, first: None };
         machine::run(self.buffers.call(self.case.record, self.case.n), |event| {
             if meeting.first.is_none() && event.cause == Cause::Instruction {
@@ -299,6 +299,15 @@ fn privileged_twin(rng: &mut Rng, one: &Case) -> Case {
     other
 }
 
+/// The template for the twin: the privileged words one place further down, so that each address has
+/// another random word; to draw new ones for each pair would take too long.
+fn twin_template(template: &[u16]) -> Vec<u16> {
+    let mut twin = template.to_vec();
+    twin[..USER_SPACE.start].rotate_left(1);
+    twin[USER_SPACE.end..].rotate_left(1);
+    twin
+}
+
 /// Panics unless the library's two runs agree after `k` steps in all that a User program may see.
 fn check_after(one: &mut Side, other: &mut Side, k: u64) {
     let (first, second) = (one.run(k), other.run(k));
@@ -331,18 +340,13 @@ fn check_pair(one: &mut Side, other: &mut Side, meeting: &Meeting, other_meeting
 
 #[test]
 fn user_runs_that_differ_in_what_is_privileged_agree_up_to_a_trap_or_exception() {
-    let seed = support::seed();
-    let template = |number| cases::template(&mut Rng::of_case(!seed, number));
-    let (mut one, mut other) = (Side::new(template(0)), Side::new(template(1)));
-    other.template[USER_SPACE].copy_from_slice(&one.template[USER_SPACE]);
+    let (mut one, mut other) = (Side::new(), Side::new());
     let (mut met, mut steps) = ([0u64; CAUSES], 0);
     let (mut timers_differ, mut interrupted) = (0u64, 0u64);
-    for number in 0..support::runs(30_000) {
-        let mut rng = Rng::of_case(seed, number);
-        let case = user_case(&mut rng);
-        other.take(privileged_twin(&mut rng, &case));
-        one.take(case.clone());
-        let _announce = Announce { seed, number, case: &case };
+    let make = |rng: &mut Rng, _: &[u16]| user_case(rng);
+    for_cases_by(30_000, make, |rng, case, template| {
+        one.take(case.clone(), template);
+        other.take(privileged_twin(rng, case), &twin_template(template));
         let (meeting, other_meeting) = (one.meeting(), other.meeting());
         let causes = [meeting.cause(), other_meeting.cause()];
         if causes.iter().any(|cause| matches!(cause, Cause::Keyboard | Cause::Timer)) {
@@ -353,7 +357,7 @@ fn user_runs_that_differ_in_what_is_privileged_agree_up_to_a_trap_or_exception()
             steps += meeting.before;
             timers_differ += u64::from(timer(&one.case.record) != timer(&other.case.record));
         }
-    }
+    });
     println!("{steps} steps, pairs without cause, by trap and by exception: {:?}", &met[..5]);
     println!("pairs whose timers differ: {timers_differ}; passed over, interrupted: {interrupted}");
     assert!(met[..5].iter().all(|&pairs| pairs > 0), "a cause was never met");

@@ -4,13 +4,11 @@
 mod reference;
 mod support;
 
+use lc3::ffi::{Answer, Report};
 use lc3::{Keys, Mode, Record, WORDS};
 use reference::machine::{self, Difference, Edition, DIFFERENCES};
-use support::cases::{self, Case, FAMILIES};
-use support::{assert_same_buffers, Announce, Buffers, Rng};
-
-/// Cases that share one template of memory.
-const CASES_PER_TEMPLATE: u64 = 4096;
+use support::cases::Case;
+use support::{assert_same_buffers, for_cases, Buffers};
 
 /// Runs from which on everything that is counted is to be met.
 const ENOUGH: u64 = 100_000;
@@ -27,21 +25,23 @@ struct Tally {
     single_steps: u64,
 }
 
+/// The buffers of the library and of the reference.
 struct Bench {
-    template: Vec<u16>,
     ours: Buffers,
     theirs: Buffers,
 }
 
 impl Bench {
-    fn compare(&mut self, case: &Case, tally: &mut Tally) {
-        self.theirs.set(case, &self.template);
+    /// Runs a case on both, and panics unless all that they answer and leave is the same; then
+    /// likewise by the third edition and by the single step, where they are to do the same.
+    fn compare(&mut self, case: &Case, template: &[u16], tally: &mut Tally) {
+        self.theirs.set(case, template);
         let mut met = [false; DIFFERENCES];
         let meet = |difference: Difference| met[difference as usize] = true;
         let call = self.theirs.call(case.record, case.n);
         let expected = machine::run_by(Edition::Second, call, |_| (), meet);
 
-        self.ours.set(case, &self.template);
+        self.ours.set(case, template);
         let answer = self.ours.run_second(case.record, case.n);
         assert!(answer == expected, "library: {answer:x?}\nreference: {expected:x?}");
         self.ours.check(case);
@@ -55,57 +55,41 @@ impl Bench {
             tally.common_with_steps += u64::from(answer.steps > 1);
             tally.common_stopped += u64::from(answer.stop == machine::OUTPUT_FULL);
             tally.refused += u64::from(answer.refusal != 0);
-            self.ours.set(case, &self.template);
-            let newer = self.ours.run(case.record, 0, 0, case.n);
-            assert!(answer == newer, "second: {answer:x?}\nthird: {newer:x?}");
-            assert_same_buffers(&self.ours, &self.theirs);
+            self.compare_third(case, template, &answer);
         }
         if case.n == 1 {
             tally.single_steps += 1;
-            self.ours.set(case, &self.template);
-            let mut record = case.record;
-            let report = self.ours.step_second(&mut record);
-            assert_eq!(record, expected.record);
-            assert_eq!(
-                (
-                    report.steps,
-                    report.keys,
-                    report.shown,
-                    report.index,
-                    report.refusal,
-                    report.stop
-                ),
-                (
-                    expected.steps,
-                    expected.keys,
-                    expected.shown,
-                    expected.index,
-                    expected.refusal,
-                    expected.stop
-                )
-            );
-            self.ours.check(case);
-            assert_same_buffers(&self.ours, &self.theirs);
+            self.compare_step(case, template, &answer);
         }
+    }
+
+    /// Panics unless the third edition answers and leaves the same.
+    fn compare_third(&mut self, case: &Case, template: &[u16], answer: &Answer) {
+        self.ours.set(case, template);
+        let newer = self.ours.run(case.record, 0, 0, case.n);
+        assert!(*answer == newer, "second: {answer:x?}\nthird: {newer:x?}");
+        assert_same_buffers(&self.ours, &self.theirs);
+    }
+
+    /// Panics unless the single step answers and leaves the same as the run of one step.
+    fn compare_step(&mut self, case: &Case, template: &[u16], answer: &Answer) {
+        let &Answer { record: expected, steps, keys, shown, index, refusal, stop } = answer;
+        self.ours.set(case, template);
+        let mut record = case.record;
+        let report = self.ours.step_second(&mut record);
+        assert_eq!(record, expected);
+        assert_eq!(report, Report { steps, keys, shown, index, refusal, stop });
+        self.ours.check(case);
+        assert_same_buffers(&self.ours, &self.theirs);
     }
 }
 
 #[test]
 fn random_runs_agree_with_the_reference_and_common_ones_with_the_third_edition() {
-    let seed = support::seed();
-    let runs = support::runs(200_000);
     let mut tally = Tally::default();
-    let mut bench = Bench { template: Vec::new(), ours: Buffers::new(), theirs: Buffers::new() };
-    for number in 0..runs {
-        if number % CASES_PER_TEMPLATE == 0 {
-            bench.template = cases::template(&mut Rng::of_case(!seed, number));
-        }
-        let mut rng = Rng::of_case(seed, number);
-        let family = rng.pick(&FAMILIES);
-        let case = cases::case(&mut rng, family);
-        let _announce = Announce { seed, number, case: &case };
-        bench.compare(&case, &mut tally);
-    }
+    let mut bench = Bench { ours: Buffers::new(), theirs: Buffers::new() };
+    for_cases(200_000, |_, case, template| bench.compare(case, template, &mut tally));
+    let runs = support::runs(200_000);
     println!("{runs} runs by the second edition: {tally:?}");
     let Tally { met, common, common_with_steps, common_stopped, refused, single_steps } = tally;
     let counts = [common, common_with_steps, common_stopped, refused, single_steps];

@@ -285,10 +285,10 @@ pub fn assert_same_buffers(ours: &Buffers, theirs: &Buffers) {
 }
 
 /// Names the case on standard error if its test panics.
-pub struct Announce<'a> {
-    pub seed: u64,
-    pub number: u64,
-    pub case: &'a Case,
+struct Announce<'a> {
+    seed: u64,
+    number: u64,
+    case: &'a Case,
 }
 
 impl Drop for Announce<'_> {
@@ -298,6 +298,10 @@ impl Drop for Announce<'_> {
         }
     }
 }
+
+/// Cases that share one template of memory. To make one takes longer than to run a case over it;
+/// one for all cases would leave every word that none of them plants the same throughout a test.
+const CASES_PER_TEMPLATE: u64 = 4096;
 
 /// Calls `law` with random cases and the template that they go over.
 pub fn for_cases(count: u64, law: impl FnMut(&mut Rng, &Case, &[u16])) {
@@ -315,8 +319,11 @@ pub fn for_cases_by(
     mut law: impl FnMut(&mut Rng, &Case, &[u16]),
 ) {
     let seed = seed();
-    let template = cases::template(&mut Rng::of_case(!seed, 0));
+    let mut template = Vec::new();
     for number in 0..runs(count) {
+        if number % CASES_PER_TEMPLATE == 0 {
+            template = cases::template(&mut Rng::of_case(!seed, number));
+        }
         let mut rng = Rng::of_case(seed, number);
         let case = make(&mut rng, &template);
         let _announce = Announce { seed, number, case: &case };
