@@ -43,9 +43,9 @@ pub fn run_logged(
         ≡ loggedCallOf (startOf m (now (memory .entry)) (now (times .entry)) (now (bytes .entry))
         (now (output .entry))) (now (log .entry)) n ⌝ }
 {
-    let admission = runner::refusals::admission(m, memory, times, bytes, n);
+    let admission = refusals::admission(m, memory, times, bytes, n);
     match admission {
         Admission::Accepted => stepping::run_accepted(m, memory, times, bytes, output, log, n),
-        Admission::Rejected(refusal) => refused(runner::refusals::refused(m, refusal)),
+        Admission::Rejected(refusal) => refused(refusals::refused(m, refusal)),
     }
 }

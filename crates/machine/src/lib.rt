@@ -1,5 +1,5 @@
 // The LC-3 machine: its record, and the types that its definitions share with the code.
-// What one step does is defined in specs/, in the order of document 01; the crate `step` computes it.
+// What one step does is defined in specs/, in the order of document 01; the crates `parts` and `step` compute it.
 ghost use mathlib.Core.Path.{_≡_};
 ghost use mathlib.Core.List.{List};
 ghost use Prim.Native.Nat.{ℕ, _-_};

@@ -1,3 +1,2 @@
--- Laws that the functions' proofs cite, and what a caller of `step` may use of its contract.
-pub mod KeyLaws
-pub mod DeliveryLaws
+-- A law that the functions' proofs cite.
+mod FetchLaws

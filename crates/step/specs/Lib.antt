@@ -1,1 +1,2 @@
-pub mod Delivery
+-- What a fetch and a whole step answer and leave.
+pub mod Taken

@@ -1,13 +1,13 @@
 // What each instruction asks for, from registers, PC and PSR alone.
-use crate::edition::jsrr_target;
-use crate::edition::lea_plan;
-use crate::psr::is_taken;
-use crate::words::bit_and;
-use crate::words::complement;
-use crate::words::next;
-use crate::words::register;
-use crate::words::sum;
 use machine::Plan;
+use parts::edition::jsrr_target;
+use parts::edition::lea_plan;
+use parts::psr::is_taken;
+use parts::words::bit_and;
+use parts::words::complement;
+use parts::words::next;
+use parts::words::register;
+use parts::words::sum;
 use word::Instruction;
 ghost use mathlib.Core.Path.{_≡_};
 ghost use mathlib.Core.Bool.{cond};

@@ -1,0 +1,21 @@
+-- `step::access::load_allowed` meets its contract: the value loaded goes to its register.
+use mathlib.Core.Path.{_∙_}
+use borrow.Author.Needs.{needs}
+use Rattle.parts.proofs.access.load_allowed.Statement.{statement}
+use Rattle.parts.proofs.access.load_allowed.Tie as tie
+
+returns : tie.Need-returns
+returns c =
+    λ clock.
+    let a = c .before .before .before .before .before .before .args in
+    c .move-to .ensures clock
+    ∙ rw (
+      c .before .next .ensures,
+      c .before .before .before .after-load .ensures (a .regs .now) clock,
+      c .before .before .before .before .load .ensures (a .regs .now) clock,
+    )
+
+pub load-allowed-spec : {M : Type 1} → statement M
+load-allowed-spec =
+    tie.close
+    (tie.spec (λ c κs. search needs) (λ c κs. search needs) (λ c κs. search needs) (λ c κs. search needs) returns)

@@ -1,0 +1,46 @@
+-- `step::access::store_by` meets its contract: the pointer is denied as the definition denies it, or loaded, and the
+-- rest is `store_at`.
+use mathlib.Core.Path.{refl, ap, _∙_}
+use borrow.Author.Needs.{needs}
+use Rattle.machine.specs.Outcome.{access, withReads}
+use Rattle.machine.specs.Access.{byPointerBy}
+use Rattle.parts.specs.Delivery.{delivered}
+use Rattle.parts.proofs.DeliveryLaws.{raise-delivered}
+use Rattle.parts.proofs.access.store_by.Statement.{statement}
+use Rattle.parts.proofs.access.store_by.Tie as tie
+
+returns : tie.Need-returns
+unfolding byPointerBy
+returns c =
+    λ clock.
+    let a = c .before .before .before .before .before .before .before .before .before .before .args in
+    rw (
+      ← c .before .before .before .before .before .before .before .is-denied .ensures,
+      c .before .before .before .before .before .before .if1 .taken,
+      c .unshown .ensures,
+    )
+    (raise-delivered (a .regs .now) (a .memory .now) (a .output .now) access _ _ _ _
+    (c .before .before .before .raise .ensures clock access refl))
+
+returns-2 : tie.Need-returns-2
+unfolding byPointerBy withReads
+returns-2 c =
+    λ clock.
+    let a = c .before .before .before .before .before .before .before .before .before .before .before .before .before
+    .before .before .args in
+    let after-load = c .before .before .before .before .before .before .before .before .after-load in
+    let load = c .before .before .before .before .before .before .before .before .before .load in
+    rw (
+      ← c .before .before .before .before .before .before .before .before .before .before .before .before .is-denied
+          .ensures,
+      c .before .before .before .before .before .before .before .before .before .before .before .if1 .left,
+    )
+    (c .before .before .before .before .store-at .ensures clock
+    ∙ rw (after-load .ensures (a .regs .now) clock, load .ensures (a .regs .now) clock))
+
+pub store-by-spec : {M : Type 1} → statement M
+store-by-spec =
+    tie.close
+    (tie.spec (λ c κs. search needs) (λ c κs. search needs) (λ c κs. search needs) (λ c. search needs) returns
+    (λ c κs. search needs) (λ c κs. search needs) (λ c κs. search needs) (λ c. search needs) (λ c. search needs)
+    returns-2)

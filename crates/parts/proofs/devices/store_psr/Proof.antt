@@ -1,0 +1,35 @@
+-- `step::devices::store_psr` meets its contract: by the edition, whether xFFFC is the PSR's address.
+use mathlib.Core.Path.{ap}
+use Rattle.machine.specs.declared.Machine.{Machine}
+use Rattle.machine.specs.Edition.{editionOf}
+use Rattle.machine.specs.Devices.{psrStore, deviceStore, storedBy}
+use Rattle.machine.proofs.DeviceLaws.{psr-is-device}
+use Rattle.parts.specs.Delivery.{quiet}
+use borrow.Author.Needs.{needs}
+use Rattle.parts.proofs.devices.store_psr.Statement.{statement}
+use Rattle.parts.proofs.devices.store_psr.Tie as tie
+
+returns : tie.Need-returns
+unfolding storedBy
+returns c =
+    λ regs clock.
+    let a = c .before .before .before .before .before .before .args in
+    rw (
+      psr-is-device (editionOf (a .second)),
+      c .before .before .before .before .if1 .taken,
+      c .before .before .set-word .ensures,
+    )
+
+returns-2 : tie.Need-returns-2
+unfolding storedBy deviceStore psrStore
+returns-2 c =
+    λ regs clock.
+    let a = c .before .before .before .before .args in
+    rw (psr-is-device (editionOf (a .second)), c .before .before .if1 .left)
+    (ap (λ (m : Machine). quiet m (a .memory .now)) (c .with-psr .ensures regs clock))
+
+pub store-psr-spec : {M : Type 1} → statement M
+store-psr-spec =
+    tie.close
+    (tie.spec (λ c κs. search needs) (λ c. search needs) returns (λ c. search needs) (λ c. search needs)
+    (λ c. search needs) (λ c. search needs) (λ c κs. search needs) returns-2)

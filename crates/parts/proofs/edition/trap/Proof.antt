@@ -1,0 +1,37 @@
+-- `step::edition::trap` meets its contract: by the edition, each of them its callee.
+use mathlib.Core.Path.{refl, ap}
+use Rattle.machine.specs.declared.Rule.the-variants.{Instruction}
+use Rattle.machine.specs.Edition.{linked}
+use Rattle.machine.specs.Outcome.{trap}
+use Rattle.parts.specs.Delivery.{Effect, deliver}
+use Rattle.parts.proofs.DeliveryLaws.{raise-delivered}
+use borrow.Author.Needs.{needs}
+use Rattle.parts.proofs.edition.trap.Statement.{statement}
+use Rattle.parts.proofs.edition.trap.Tie as tie
+
+returns : tie.Need-returns
+unfolding linked
+returns c =
+    λ clock output.
+    let a = c .before .before .before .before .before .before .args in
+    rw (c .before .before .before .before .if1 .taken, c .unshown .ensures)
+    (ap (λ (e : Effect). deliver (a .regs .now) (a .memory .now) output (e .machine) (e .memory) Instruction (e .shown))
+    (c .before .link .ensures clock))
+
+returns-2 : tie.Need-returns-2
+returns-2 c =
+    λ clock output.
+    let a = c .before .before .before .before .before .before .before .before .before .args in
+    rw (
+      c .before .before .before .before .before .before .before .if1 .left,
+      c .unshown2 .ensures,
+      ← c .before .before .before .before .next .ensures,
+    )
+    (raise-delivered (a .regs .now) (a .memory .now) output (trap (a .vector)) _ _ _ _
+    (c .before .before .before .raise .ensures clock (trap (a .vector)) refl))
+
+pub trap-spec : {M : Type 1} → statement M
+trap-spec =
+    tie.close
+    (tie.spec (λ c κs. search needs) (λ c κs. search needs) (λ c. search needs) returns (λ c κs. search needs)
+    (λ c κs. search needs) (λ c κs. search needs) (λ c. search needs) returns-2)
