@@ -7,8 +7,8 @@
  *                to run it
  *   lc3_run      runs up to n steps over lent memory
  *   lc3_step     runs one step and alters the host's own record
- *   lc3_run_logged   runs as lc3_run does, and logs for each step what it did and by which rule
  *   lc3_run_second, lc3_step_second   the same by the rules of the book's second edition
+ *   lc3_run_logged   runs as lc3_run does, and logs for each step what it did and by which rule
  *   lc3_read     reads a word as an instruction, and tells which fixed bits are wrong
  *   lc3_write    writes an instruction as a word
  *   lc3_line     writes a word as a line of text; lc3_line_length counts its bytes

@@ -5,8 +5,8 @@
 //! - [`version()`], the version of the interface;
 //! - [`start`] for an object file and a machine that is to run it, [`run`](run()) for a number of
 //!   steps over lent memory, and [`step`] for one step, which alters the record that it is lent;
-//! - [`run_logged`] for a run that logs each step, with [`logged_steps`] to read the log;
 //! - [`run_second`] and [`step_second`], the same by the rules of the book's second edition;
+//! - [`run_logged`] for a run that logs each step, with [`logged_steps`] to read the log;
 //! - [`read`] for a word as an instruction, [`write`](write()) for an instruction as a word;
 //! - [`line`](line()) for a word as a line of text, [`line_length`] for the bytes of that line, and
 //!   [`page`] for a range of memory as lines;
