@@ -4,7 +4,7 @@
 # make bench  time against C: runs, lines of text, and object files
 # make soak   many more random runs against the reference simulator
 
-EXPORTS = lc3_machine lc3_logging lc3_second lc3_words lc3_lines lc3_objects lc3_monitor lc3_version
+EXPORTS = lc3_machine lc3_logging lc3_long lc3_second lc3_words lc3_lines lc3_objects lc3_monitor lc3_version
 ARCHIVES = $(EXPORTS:%=target/staticlib/lib%.a)
 # The shared library has the name by which hosts ask for it: it ends in the version of the header.
 SONAME := liblc3.so.$(shell sed -n 's/^.define LC3_VERSION //p' include/lc3.h)
@@ -36,6 +36,7 @@ host: lib
 	host/c/run.sh
 	host/bench/symbols.sh lc3_run '*::run' '*::go' '*::run_accepted' '*::quiet_steps'
 	host/bench/symbols.sh lc3_run_logged '*::run_logged' '*::go' '*::run_accepted'
+	host/bench/symbols.sh lc3_run_long '*::run' '*::go' '*::run_accepted' '*::visit' '*::read_in'
 	host/bench/symbols.sh lc3_run_second '*::call' '*::run_by' '*::go' '*::run_accepted'
 	host/bench/count.sh
 	$(CARGO) -- --nocapture
@@ -70,6 +71,7 @@ bench: lib
 
 soak: lib
 	LC3_RUNS=20000000 $(CARGO) --test differential soak -- --ignored --nocapture
+	LC3_RUNS=2000000 $(CARGO) --test long soak -- --ignored --nocapture
 
 clean:
 	rm -rf target build

@@ -5,7 +5,8 @@
  *   lc3_version  the version of the interface that the library was built for
  *   lc3_start    loads an object file into lent memory, and makes the record of a machine that is
  *                to run it
- *   lc3_run      runs up to n steps over lent memory
+ *   lc3_run      runs up to n steps over lent memory; lc3_run_long does the same, faster for long
+ *                sittings
  *   lc3_step     runs one step and alters the host's own record
  *   lc3_run_second, lc3_step_second   the same by the rules of the book's second edition
  *   lc3_run_logged   runs as lc3_run does, and logs for each step what it did and by which rule
@@ -27,10 +28,9 @@
  *   aligned pointer but NULL. Memory, times, bytes, output, log, file and the record lent to
  *   lc3_step may not overlap.
  * - Several threads may call at once. What a call only reads they may share while nobody writes
- *   it: times and bytes of lc3_run, lc3_step and lc3_run_logged, file of lc3_start, memory of
- *   lc3_page and lc3_save. What a call writes is that call's alone: memory of lc3_run, lc3_step,
- *   lc3_run_logged, lc3_start and lc3_monitor, every output, the log, and the record lent to
- *   lc3_step.
+ *   it: times and bytes of every run and step, file of lc3_start, memory of lc3_page and lc3_save.
+ *   What a call writes is that call's alone: memory of every run and step, of lc3_start and of
+ *   lc3_monitor, every output, the log, and the record lent to a step.
  * - Every call is answered. One that cannot be obeyed is refused with a number that says why, and
  *   a refused call leaves every field of the record and every buffer as it was.
  * - Padding means nothing. The bytes of a struct that belong to no field may hold anything and may
@@ -111,8 +111,8 @@ extern "C" {
  * answered:
  *
  *   lc3_write           1, 2, 3
- *   lc3_run, lc3_step   11, 12, 13, 14, then 15 and 19 together, entry by entry; lc3_run_logged,
- *                       lc3_run_second and lc3_step_second likewise
+ *   lc3_run, lc3_step   11, 12, 13, 14, then 15 and 19 together, entry by entry; lc3_run_long,
+ *                       lc3_run_logged, lc3_run_second and lc3_step_second likewise
  *   lc3_line            16
  *   lc3_page            11, 20, 16
  *   lc3_start           11, 17, 18
@@ -348,6 +348,16 @@ lc3_started lc3_start(const uint8_t *file, size_t file_len, uint16_t *memory, si
 lc3_answer lc3_run(lc3_record record, uint16_t *memory, size_t memory_len, const uint64_t *times,
                    size_t times_len, const uint8_t *bytes, size_t bytes_len, uint8_t *output,
                    size_t output_len, uint64_t n);
+
+/*
+ * Runs for long sittings: answers and leaves what lc3_run does, on every call. It keeps the
+ * instructions of 256 words, read in advance, so it is faster where a program stays in loops of up
+ * to 256 words, and a little slower where it does not. A call of fewer than 256 steps reads none in
+ * advance.
+ */
+lc3_answer lc3_run_long(lc3_record record, uint16_t *memory, size_t memory_len,
+                        const uint64_t *times, size_t times_len, const uint8_t *bytes,
+                        size_t bytes_len, uint8_t *output, size_t output_len, uint64_t n);
 
 /*
  * Runs one step on the host's own record. It does what lc3_run does with n = 1, and stores the

@@ -1,10 +1,10 @@
 /*
- * Times the library against the C interpreters of plain.c and tuned.c.
+ * Times the library's run and long run against the C interpreters of plain.c and tuned.c.
  *
- *   bench check CASES       compares all three on random cases; exits 1 at the first difference
+ *   bench check CASES       compares all four on random cases; exits 1 at the first difference
  *   bench time REPEATS MS   prints one measurement a line: name, nanoseconds
  *
- * Every measurement is the best of REPEATS stretches of about MS milliseconds. The three take
+ * Every measurement is the best of REPEATS stretches of about MS milliseconds. The four take
  * turns in one process, so that whatever slows the computer down meets all.
  */
 #define _POSIX_C_SOURCE 199309L /* clock_gettime */
@@ -18,7 +18,8 @@
 static const struct {
     const char *name;
     run_function *run;
-} engines[] = {{"library", lc3_run}, {"plain", plain_run}, {"tuned", tuned_run}};
+} engines[] = {
+    {"library", lc3_run}, {"long", lc3_run_long}, {"plain", plain_run}, {"tuned", tuned_run}};
 
 enum { ENGINES = sizeof engines / sizeof *engines };
 
@@ -124,7 +125,7 @@ static bool same_answer(const lc3_answer *a, const lc3_answer *b) {
            a->stop == b->stop;
 }
 
-/* Compares whole answers, memories and outputs of the library and one interpreter. */
+/* Compares whole answers, memories and outputs of lc3_run and another engine. */
 static bool agree(unsigned number, const random_case *c, const lc3_answer *a,
                   const uint8_t *our_output, unsigned engine) {
     uint8_t their_output[OUTPUT];
@@ -188,7 +189,7 @@ static double time_steps(run_function *run, const program *p, double ns) {
 
 static void time_programs(unsigned repeats, double ns) {
     for (int p = 0; p < PROGRAMS; p++) {
-        double best[ENGINES] = {1e9, 1e9, 1e9};
+        double best[ENGINES] = {1e9, 1e9, 1e9, 1e9};
         for (unsigned i = 0; i < repeats; i++) {
             for (unsigned e = 0; e < ENGINES; e++) {
                 double time = time_steps(engines[e].run, &programs[p], ns);

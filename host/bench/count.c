@@ -1,4 +1,7 @@
-/* count ENGINE PROGRAM STEPS: that many steps of a program, for an exact count of instructions. */
+/*
+ * count ENGINE PROGRAM STEPS CALLS: so many calls of that many steps each, one going on from the
+ * other, for an exact count of instructions.
+ */
 #include "interpreters.h"
 #include "programs.h"
 
@@ -18,24 +21,39 @@ static lc3_answer logged_run(lc3_record record, uint16_t *words, size_t words_le
     return (lc3_answer){.record = a.record, .steps = a.steps};
 }
 
+static const struct {
+    const char *name;
+    run_function *run;
+} engines[] = {{"library", lc3_run},
+               {"long", lc3_run_long},
+               {"logged", logged_run},
+               {"plain", plain_run},
+               {"tuned", tuned_run}};
+
+/* Whether every call made all its steps. */
+static bool makes_all(run_function *run, const program *p, uint64_t steps, unsigned long calls) {
+    const uint64_t time = 0;
+    const uint8_t byte = 0;
+    lc3_answer a = {.record = start_program(memory, p), .steps = steps};
+    while (calls-- && a.steps == steps) {
+        a = run(a.record, memory, LC3_MEMORY_WORDS, &time, 0, &byte, 0, output, sizeof output,
+                steps);
+    }
+    return a.steps == steps;
+}
+
 int main(int argc, char **argv) {
-    if (argc != 4) {
-        fprintf(stderr, "usage: count library|logged|plain|tuned PROGRAM STEPS\n");
+    run_function *run = NULL;
+    const program *p = NULL;
+    for (size_t e = 0; argc == 5 && e < sizeof engines / sizeof *engines; e++) {
+        if (!strcmp(argv[1], engines[e].name)) run = engines[e].run;
+    }
+    for (size_t i = 0; argc == 5 && i < PROGRAMS; i++) {
+        if (!strcmp(argv[2], programs[i].name)) p = &programs[i];
+    }
+    if (!run || !p) {
+        fprintf(stderr, "usage: count library|long|logged|plain|tuned PROGRAM STEPS CALLS\n");
         return 2;
     }
-    run_function *run = !strcmp(argv[1], "library")  ? lc3_run
-                        : !strcmp(argv[1], "logged") ? logged_run
-                        : !strcmp(argv[1], "plain")  ? plain_run
-                                                     : tuned_run;
-    uint64_t steps = strtoull(argv[3], NULL, 10), time = 0;
-    uint8_t byte = 0;
-    for (int p = 0; p < PROGRAMS; p++) {
-        if (strcmp(argv[2], programs[p].name)) continue;
-        lc3_record record = start_program(memory, &programs[p]);
-        lc3_answer a =
-            run(record, memory, LC3_MEMORY_WORDS, &time, 0, &byte, 0, output, sizeof output, steps);
-        return a.steps != steps;
-    }
-    fprintf(stderr, "no program is named %s\n", argv[2]);
-    return 2;
+    return !makes_all(run, p, strtoull(argv[3], NULL, 10), strtoul(argv[4], NULL, 10));
 }

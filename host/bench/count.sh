@@ -1,24 +1,35 @@
 #!/bin/sh
 # Counts the library's processor instructions per step, which no load on the computer disturbs.
 # Exits 1 where a program takes more than the limit. `poll` and `show` wait for a device: `poll` loads a device register
-# in every second step, which is an ordinary step after a quiet one was tried, and `show` somewhat less often. They have
-# a limit of their own. `timer` is `count` with the timer on, at an interval of 1000 steps.
+# in every second step, which is an ordinary step after a quiet one was tried, and `show` somewhat less often; `last`
+# stands among the device registers, where no step is quiet. They have a limit of their own. `timer` is `count` with the
+# timer on, at an interval of 1000 steps.
+#
+# The run for long sittings is held against the run. `count`, `timer`, `copy` and `sieve` are loops that fit its window,
+# and it must be faster there by far; elsewhere, and in a call with n = 1, it may be a little slower.
 #
 # The cost of starting and of the call itself is the same for any number of steps, so the
-# difference between two lengths counts steps alone.
+# difference between two lengths counts steps alone, and that between two numbers of calls, calls.
 #
-#   LC3_LIB_DIR   where liblc3.a is      build
-#   CC            C compiler             gcc
-#   COUNT_LIMIT   instructions per step  40
-#   POLL_LIMIT    for poll and show      100
-#   LOG_LIMIT     for logged runs        110
+#   LC3_LIB_DIR   where liblc3.a is                               build
+#   CC            C compiler                                      gcc
+#   COUNT_LIMIT   instructions per step                           40
+#   POLL_LIMIT    for last, poll and show                         100
+#   LOG_LIMIT     for logged runs                                 110
+#   LOOP_RATIO    of the long run's to the run's, in hundredths   65
+#   OTHER_RATIO   for programs that are no loops in the window    125
+#   CALL_RATIO    for calls with n = 1                            130
 set -eu
 cd "$(dirname "$0")/../.."
 
 limit=${COUNT_LIMIT:-40}
 poll_limit=${POLL_LIMIT:-100}
 log_limit=${LOG_LIMIT:-110}
+loop_ratio=${LOOP_RATIO:-65}
+other_ratio=${OTHER_RATIO:-125}
+call_ratio=${CALL_RATIO:-130}
 steps=20000
+calls=1000
 lib=${LC3_LIB_DIR:-build}/liblc3.a
 cc=${CC:-gcc}
 work=$(mktemp -d)
@@ -30,7 +41,7 @@ command -v valgrind >/dev/null || { echo "host/bench/count.sh: no valgrind" >&2;
 $cc -std=c11 -O3 -Iinclude host/bench/count.c host/bench/plain.c host/bench/tuned.c \
     "$lib" -o "$work/count"
 
-# instructions ENGINE PROGRAM STEPS: all instructions of the process.
+# instructions ENGINE PROGRAM STEPS CALLS: all instructions of the process.
 instructions() {
     valgrind --tool=callgrind --callgrind-out-file=/dev/null "$work/count" "$@" 2>"$work/log" ||
         { cat "$work/log" >&2; exit 2; }
@@ -39,32 +50,63 @@ instructions() {
 
 # per_step ENGINE PROGRAM: instructions per step, in hundredths.
 per_step() {
-    short=$(instructions "$1" "$2" $steps)
-    long=$(instructions "$1" "$2" $((2 * steps)))
-    echo $(((long - short) * 100 / steps))
+    once=$(instructions "$1" "$2" $steps 1)
+    twice=$(instructions "$1" "$2" $((2 * steps)) 1)
+    echo $(((twice - once) * 100 / steps))
 }
+
+# per_call ENGINE: instructions of a call with n = 1, in hundredths.
+per_call() {
+    one=$(instructions "$1" count 1 1)
+    more=$(instructions "$1" count 1 $((calls + 1)))
+    echo $(((more - one) * 100 / calls))
+}
+
+# ratio NUMBER BASE: in hundredths, rounded.
+ratio() { echo $((($1 * 100 + $2 / 2) / $2)); }
 
 decimal() { printf '%d.%02d' $(($1 / 100)) $(($1 % 100)); }
 
-status=0
-echo "instructions per step, limit $limit, for poll and show $poll_limit, for logged runs $log_limit"
-for program in count timer copy sieve calls poll show; do
-    library=$(per_step library $program)
-    logged=$(per_step logged $program)
-    plain=$(per_step plain $program)
-    tuned=$(per_step tuned $program)
+# within LIMIT NUMBER NAME: names what is over its limit, which fails the script.
+within() {
+    [ "$2" -le "$1" ] && return
+    verdict="$verdict  $3 over the limit"
+    status=1
+}
+
+# count_program PROGRAM LIMIT RATIO: a line of the table, held against the limits.
+count_program() {
+    library=$(per_step library "$1")
+    long=$(per_step long "$1")
+    logged=$(per_step logged "$1")
+    plain=$(per_step plain "$1")
+    tuned=$(per_step tuned "$1")
+    longer=$(ratio "$long" "$library")
     verdict=
-    [ $program = poll ] && limit=$poll_limit
-    if [ "$library" -gt $((limit * 100)) ]; then
-        verdict="over the limit"
-        status=1
-    fi
-    if [ "$logged" -gt $((log_limit * 100)) ]; then
-        verdict="over the limit of logged runs"
-        status=1
-    fi
-    printf '%-8s library %8s   logged %8s   plain C %8s   tuned C %8s   %s\n' \
-        $program "$(decimal "$library")" "$(decimal "$logged")" "$(decimal "$plain")" \
-        "$(decimal "$tuned")" "$verdict"
-done
+    within $(($2 * 100)) "$library" library
+    within "$3" "$longer" long
+    within $((log_limit * 100)) "$logged" logged
+    printf '%-7s library %6s   long %6s, ratio %s   logged %6s   plain C %6s   tuned C %6s%s\n' "$1" \
+        "$(decimal "$library")" "$(decimal "$long")" "$(decimal "$longer")" "$(decimal "$logged")" \
+        "$(decimal "$plain")" "$(decimal "$tuned")" "$verdict"
+}
+
+count_calls() {
+    library=$(per_call library)
+    long=$(per_call long)
+    longer=$(ratio "$long" "$library")
+    verdict=
+    within "$call_ratio" "$longer" long
+    printf 'instructions of a call with n = 1: library %s   long %s, ratio %s%s\n' \
+        "$(decimal "$library")" "$(decimal "$long")" "$(decimal "$longer")" "$verdict"
+}
+
+status=0
+echo "instructions per step, limit $limit, for last, poll and show $poll_limit, for logged runs $log_limit;"
+echo "ratio of the long run, limit $(decimal "$loop_ratio") for count, timer, copy and sieve," \
+    "$(decimal "$other_ratio") for others, $(decimal "$call_ratio") for calls with n = 1"
+for program in count timer copy sieve; do count_program $program "$limit" "$loop_ratio"; done
+for program in self calls outs wander; do count_program $program "$limit" "$other_ratio"; done
+for program in last poll show; do count_program $program "$poll_limit" "$other_ratio"; done
+count_calls
 exit $status

@@ -1,7 +1,8 @@
 /*
- * The programs that are timed and counted: words from x3000 up, in User mode, without end. TRAP x25
- * leads to an RTI at x0200, TRAP x20 to a routine that waits for a key, TRAP x21 to one that waits
- * for the display and shows a byte, the timer's interrupt to one that clears ready.
+ * The programs that are timed and counted: most are words from x3000 up, in User mode, all without
+ * end. TRAP x25 leads to an RTI at x0200, TRAP x20 to a routine that waits for a key, TRAP x21 to
+ * one that waits for the display and shows a byte, TRAP x22 to one that needs no device, the
+ * timer's interrupt to one that clears ready.
  */
 #ifndef PROGRAMS_H
 #define PROGRAMS_H
@@ -133,6 +134,68 @@ static const uint16_t timer_words[] = {
     0xFE08, /* TSR     .FILL  xFE08 */
 };
 
+/* A loop that rewrites itself: of two instructions it puts one and the other into its way. */
+static const uint16_t self_words[] = {
+    0x2207, /*         LD     R1, ONE */
+    0x2407, /*         LD     R2, OTHER */
+    0x3200, /* AGAIN   ST     R1, PLACE */
+    0x16E0, /* PLACE   ADD    R3, R3, #0 */
+    0x1060, /*         ADD    R0, R1, #0 */
+    0x12A0, /*         ADD    R1, R2, #0 */
+    0x1420, /*         ADD    R2, R0, #0 */
+    0x0FFA, /*         BRnzp  AGAIN */
+    0x16E1, /* ONE     ADD    R3, R3, #1 */
+    0x16FF, /* OTHER   ADD    R3, R3, #-1 */
+};
+
+/* Four steps in each page of User memory: a copy stands in each, whose NEXT is the next copy. */
+static const uint16_t wander_words[] = {
+    0x1021, /*         ADD    R0, R0, #1 */
+    0x1480, /*         ADD    R2, R2, R0 */
+    0x2201, /*         LD     R1, NEXT */
+    0xC040, /*         JMP    R1 */
+    0x3000, /* NEXT    .FILL  x3000 */
+};
+
+/* To a routine and back all the time, as a program that shows a text; but without a device. */
+static const uint16_t outs_words[] = {
+    0xF022, /* AGAIN   TRAP   x22 */
+    0x1021, /*         ADD    R0, R0, #1 */
+    0x0FFD, /*         BRnzp  AGAIN */
+};
+
+static const uint16_t service_words[] = {
+    0x1DBF, /*         ADD    R6, R6, #-1 */
+    0x7180, /*         STR    R0, R6, #0 */
+    0x1DBF, /*         ADD    R6, R6, #-1 */
+    0x7380, /*         STR    R1, R6, #0 */
+    0x927F, /*         NOT    R1, R1 */
+    0x526F, /*         AND    R1, R1, #15 */
+    0x1201, /*         ADD    R1, R0, R1 */
+    0x6380, /*         LDR    R1, R6, #0 */
+    0x1DA1, /*         ADD    R6, R6, #1 */
+    0x6180, /*         LDR    R0, R6, #0 */
+    0x1DA1, /*         ADD    R6, R6, #1 */
+    0x8000, /*         RTI */
+};
+
+/* The end of memory, xFF80 to xFFFF, in Supervisor mode: a fetch reaches the words at xFFFC and
+ * xFFFE, though a load would reach device registers. */
+static const uint16_t last_words[] = {
+    0x5020,         /* xFF80   AND    R0, R0, #0 */
+    0x1021,         /* AGAIN   ADD    R0, R0, #1 */
+    0x1280,         /*         ADD    R1, R2, R0 */
+    0x0E74,         /*         BRnzp  END */
+    [120] = 0x14A1, /* END     ADD    R2, R2, #1 */
+    0x5680,         /*         AND    R3, R2, R0 */
+    0x98FF,         /*         NOT    R4, R3 */
+    0x16C4,         /*         ADD    R3, R3, R4 */
+    0x1B7F,         /* xFFFC   ADD    R5, R5, #-1 */
+    0x1B61,         /*         ADD    R5, R5, #1 */
+    0x1021,         /* xFFFE   ADD    R0, R0, #1 */
+    0x0F81,         /* xFFFF   BRnzp  AGAIN */
+};
+
 /* A byte takes ten steps or more. */
 enum { MOST_SHOWN = LC3_MAX_STEPS / 10 };
 
@@ -140,29 +203,33 @@ typedef struct {
     const char *name;
     const uint16_t *words;
     size_t length;
+    uint16_t origin;
+    bool user;
     uint16_t interval; /* of the timer, which interrupts; 0 where it is off */
+    uint16_t spacing;  /* from copy to copy, up to the end of User memory; 0 where there is one */
 } program;
 
 #define WORDS_OF(name) name##_words, sizeof name##_words / sizeof *name##_words
+#define USUAL 0x3000, true
 
 static const program programs[] = {
-    {"count", WORDS_OF(count), 0}, {"timer", WORDS_OF(count), 1000}, {"copy", WORDS_OF(copy), 0},
-    {"sieve", WORDS_OF(sieve), 0}, {"calls", WORDS_OF(calls), 0},    {"poll", WORDS_OF(poll), 0},
-    {"show", WORDS_OF(show), 0},
+    {"count", WORDS_OF(count), USUAL, 0, 0},
+    {"timer", WORDS_OF(count), USUAL, 1000, 0},
+    {"copy", WORDS_OF(copy), USUAL, 0, 0},
+    {"sieve", WORDS_OF(sieve), USUAL, 0, 0},
+    {"self", WORDS_OF(self), USUAL, 0, 0},
+    {"calls", WORDS_OF(calls), USUAL, 0, 0},
+    {"outs", WORDS_OF(outs), USUAL, 0, 0},
+    {"wander", WORDS_OF(wander), USUAL, 0, 256},
+    {"last", WORDS_OF(last), 0xFF80, false, 0, 0},
+    {"poll", WORDS_OF(poll), USUAL, 0, 0},
+    {"show", WORDS_OF(show), USUAL, 0, 0},
 };
 
 enum { PROGRAMS = sizeof programs / sizeof *programs };
 
-/*
- * Starts a program as the object file of its words, over the vectors and routines of traps and timer
- * in memory that is otherwise cleared. Answers the record to start with.
- */
-static inline lc3_record start_program(uint16_t *memory, const program *p) {
-    uint8_t file[2 + 2 * 64] = {0x30, 0x00};
-    for (size_t i = 0; i < p->length; i++) {
-        file[2 + 2 * i] = p->words[i] >> 8;
-        file[3 + 2 * i] = p->words[i] & 0xFF;
-    }
+/* The vectors and routines of traps and timer, in memory that is otherwise cleared. */
+static inline void put_routines(uint16_t *memory) {
     memset(memory, 0, LC3_MEMORY_WORDS * sizeof *memory);
     memory[0x0025] = 0x0200;
     memory[0x0200] = 0x8000; /* RTI */
@@ -170,10 +237,32 @@ static inline lc3_record start_program(uint16_t *memory, const program *p) {
     memcpy(memory + 0x0210, getc_words, sizeof getc_words);
     memory[0x0021] = 0x0220;
     memcpy(memory + 0x0220, out_words, sizeof out_words);
+    memory[0x0022] = 0x0240;
+    memcpy(memory + 0x0240, service_words, sizeof service_words);
     memory[0x0181] = 0x0230;
     memcpy(memory + 0x0230, timer_words, sizeof timer_words);
+}
+
+/* Copies of a program throughout User memory. The last word of each is where the next begins. */
+static inline void put_copies(uint16_t *memory, const program *p) {
+    for (unsigned at = p->origin; at < 0xFE00; at += p->spacing) {
+        unsigned next = at + p->spacing;
+        memcpy(memory + at, p->words, p->length * sizeof *p->words);
+        memory[at + p->length - 1] = next < 0xFE00 ? next : p->origin;
+    }
+}
+
+/* Starts a program as the object file of its words. Answers the record to start with. */
+static inline lc3_record start_program(uint16_t *memory, const program *p) {
+    uint8_t file[2 + 2 * 128] = {p->origin >> 8, p->origin & 0xFF};
+    for (size_t i = 0; i < p->length; i++) {
+        file[2 + 2 * i] = p->words[i] >> 8;
+        file[3 + 2 * i] = p->words[i] & 0xFF;
+    }
+    put_routines(memory);
     lc3_record record =
-        lc3_start(file, 2 + 2 * p->length, memory, LC3_MEMORY_WORDS, true, 0xFDFF).record;
+        lc3_start(file, 2 + 2 * p->length, memory, LC3_MEMORY_WORDS, p->user, 0xFDFF).record;
+    if (p->spacing) put_copies(memory, p);
     record.timer_interval = record.timer_count = p->interval;
     if (p->interval) record.timer_status = LC3_TSR_INTERRUPT;
     return record;

@@ -1,5 +1,5 @@
 #!/bin/sh
-# Times the library against the two C interpreters and prints a table.
+# Times the library's run and long run against the two C interpreters and prints a table.
 #
 # An object that the linker moves by 16 to 48 bytes can run a quarter slower or faster, so one
 # binary says little. The benchmark is linked in several layouts, with padding before and between
@@ -67,16 +67,19 @@ awk -v limit="${BENCH_LIMIT:-1.00}" -v target="${BENCH_TARGET:-0.85}" '
         printf "%-28s %8.1f ns %14.0f calls a second\n", text, ns[name], 1e9 / ns[name]
     }
     END {
-        printf "%-8s %16s %15s %7s %15s %7s\n", "program", "library ns/step", "plain C ns/step",
-            "ratio", "tuned C ns/step", "ratio"
-        programs = split("count timer copy sieve calls poll show", program, " ")
+        printf "%-8s %16s %12s %7s %15s %7s %15s %7s\n", "program", "library ns/step", "long ns/step",
+            "ratio", "plain C ns/step", "ratio", "tuned C ns/step", "ratio"
+        programs = split("count timer copy sieve self calls outs wander last poll show", program, " ")
         for (i = 1; i <= programs; i++) {
             a = ns[program[i] ".library"]
+            l = ns[program[i] ".long"]
             b = ns[program[i] ".plain"]
             c = ns[program[i] ".tuned"]
             if (a / b > worst) worst = a / b
-            printf "%-8s %16.2f %15.2f %7.2f %15.2f %7.2f\n", program[i], a, b, a / b, c, a / c
+            printf "%-8s %16.2f %12.2f %7.2f %15.2f %7.2f %15.2f %7.2f\n", program[i], a, l, l / a, b,
+                a / b, c, a / c
         }
+        print "ratios: the long run to the run; the run to each C interpreter"
         print ""
         call("lc3_run", "lc3_run with n = 1")
         call("lc3_step", "lc3_step")

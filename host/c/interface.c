@@ -110,6 +110,11 @@ static lc3_answer run(const arguments *c) {
                    c->bytes_len, output, c->output_len, c->n);
 }
 
+static lc3_answer run_long(const arguments *c) {
+    return lc3_run_long(c->record, memory, c->memory_len, c->times, c->times_len, c->bytes,
+                        c->bytes_len, output, c->output_len, c->n);
+}
+
 /* lc3_step on a copy of the record, answered in lc3_run's form. */
 static lc3_answer step(const arguments *c) {
     lc3_answer a = {.record = c->record};
@@ -265,6 +270,7 @@ static void test_examples(void) {
     CHECK(i.value, 7);
     for (size_t e = 0; e < sizeof examples / sizeof *examples; e++) {
         test_example(&examples[e], run);
+        test_example(&examples[e], run_long);
         test_example(&examples[e], step);
     }
 }
@@ -284,7 +290,7 @@ static void check_refused(const lc3_answer *got, const arguments *c, uint32_t nu
     check_buffers();
 }
 
-/* By lc3_run and, where n is 1, by lc3_step. A step that is made pushes two words. */
+/* By lc3_run_long, lc3_run and, where n is 1, lc3_step. A step that is made pushes two words. */
 static void check_refusal_at(const char *name, const arguments *c, uint32_t number,
                              uint64_t index) {
     part = name;
@@ -292,7 +298,9 @@ static void check_refusal_at(const char *name, const arguments *c, uint32_t numb
     fill_memory();
     memory[0x3000] = 0xF025; /* TRAP x25 */
     keep_buffers();
-    lc3_answer got = run(c);
+    lc3_answer got = run_long(c);
+    check_refused(&got, c, number, index);
+    got = run(c);
     check_refused(&got, c, number, index);
     if (c->n != 1) return;
     got = step(c);
@@ -743,6 +751,45 @@ static void test_steps_are_run(void) {
         CHECK(shown, whole.shown);
         check_buffers();
     }
+}
+
+/* ---- Runs for long sittings ---- */
+
+/* Calls lc3_run_long, and holds what it answers and leaves against lc3_run. */
+static lc3_answer check_long(const arguments *c) {
+    lc3_answer by_run = run_and_restore(c), by_long = run_long(c);
+    check_answer(&by_long, &by_run);
+    check_buffers();
+    return by_long;
+}
+
+static void test_long_is_run(void) {
+    part = "a long run against the run";
+    for (int i = 0; i < 500; i++) {
+        fill_memory();
+        arguments c = any_arguments();
+        c.n = any() % 2000;
+        check_long(&c);
+    }
+}
+
+/* A loop whose fourth instruction is another one each turn. */
+static void test_long_of_altered_code(void) {
+    part = "a long run of a loop that alters itself";
+    static const uint16_t words[] = {
+        0x2002, /* AGAIN   LD     R0, OTHER */
+        0x1021, /*         ADD    R0, R0, #1 */
+        0x3000, /*         ST     R0, OTHER */
+        0x1260, /* OTHER   ADD    R1, R1, #0 */
+        0x0FFB, /*         BRnzp  AGAIN */
+    };
+    clear_buffers();
+    memcpy(memory + 0x3000, words, sizeof words);
+    arguments c = usual();
+    c.n = 5000;
+    lc3_answer a = check_long(&c);
+    CHECK(a.steps, 5000);
+    CHECK(memory[0x3003], 0x1260 + 1000);
 }
 
 /* ---- Logged runs ---- */
@@ -1221,6 +1268,8 @@ int main(void) {
     test_keys();
     test_step_is_run();
     test_steps_are_run();
+    test_long_is_run();
+    test_long_of_altered_code();
     test_logged_is_run();
     test_log_full();
     test_second_edition();

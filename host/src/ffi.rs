@@ -199,7 +199,7 @@ const _: () = assert!(offset_of!(Routines, putsp) == 8 && offset_of!(Routines, h
 const _: () = assert!(offset_of!(Routines, trap) == 12 && offset_of!(Routines, exception) == 14);
 const _: () = assert!(offset_of!(Routines, interrupt) == 16);
 
-/// The type of [`lc3_run`] and of [`lc3_run_second`].
+/// The type of [`lc3_run`], of [`lc3_run_long`] and of [`lc3_run_second`].
 pub type RunCall = unsafe extern "C" fn(
     record: Record,
     memory: *mut u16,
@@ -268,6 +268,24 @@ unsafe extern "C" {
     /// Each pointer must be valid for its number of elements, `memory` and `output` also for
     /// writing, and no two of the four buffers may overlap.
     pub fn lc3_run(
+        record: Record,
+        memory: *mut u16,
+        memory_len: usize,
+        times: *const u64,
+        times_len: usize,
+        bytes: *const u8,
+        bytes_len: usize,
+        output: *mut u8,
+        output_len: usize,
+        n: u64,
+    ) -> Answer;
+
+    /// Runs up to `n` steps: what [`lc3_run`] does, faster for long sittings.
+    ///
+    /// # Safety
+    ///
+    /// As for [`lc3_run`].
+    pub fn lc3_run_long(
         record: Record,
         memory: *mut u16,
         memory_len: usize,

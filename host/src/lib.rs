@@ -1,10 +1,11 @@
 //! The LC-3 with privilege, interrupts, a console and a timer.
 //!
-//! This crate is a safe wrapper of the static library `liblc3.a`. It has the library's sixteen calls:
+//! This crate is a safe wrapper of the static library `liblc3.a`. It has the library's seventeen calls:
 //!
 //! - [`version()`], the version of the interface;
 //! - [`start`] for an object file and a machine that is to run it, [`run`](run()) for a number of
 //!   steps over lent memory, and [`step`] for one step, which alters the record that it is lent;
+//! - [`run_long`], which does what [`run`](run()) does, faster for long sittings;
 //! - [`run_second`] and [`step_second`], the same by the rules of the book's second edition;
 //! - [`run_logged`] for a run that logs each step, with [`logged_steps`] to read the log;
 //! - [`read`] for a word as an instruction, [`write`](write()) for an instruction as a word;
@@ -73,7 +74,8 @@ pub use monitor::{
 pub use object::{save, start, ObjectRefusal, Started};
 pub use reach::{reach, Fate, Reach, Replacing, Taking};
 pub use record::{Mode, Record};
-pub use run::{run, run_second, step, step_second, Keys, Refusal, Run, StepReport, Stop};
+pub use run::{run, run_long, run_second, step, step_second};
+pub use run::{Keys, Refusal, Run, StepReport, Stop};
 pub use run::{CLOCK_LIMIT, STEP_LIMIT, WORDS};
 
 /// The version of the interface that the library was built for.

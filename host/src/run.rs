@@ -253,6 +253,32 @@ pub fn run(
     run_by(ffi::lc3_run, record, memory, keys, output, n)
 }
 
+/// Runs for long sittings: answers and leaves what [`run`] does, on every call.
+///
+/// It keeps the instructions of 256 words, read in advance: faster where a program stays in loops of
+/// up to 256 words, a little slower where it does not. A call of fewer than 256 steps reads none in
+/// advance.
+///
+/// ```
+/// use lc3::{Keys, Mode};
+///
+/// let mut memory = vec![0; lc3::WORDS];
+/// let file = [0x30, 0x00, 0x10, 0x21, 0x0F, 0xFE]; // at x3000: ADD R0, R0, #1; BRnzp #-2
+/// let record = lc3::start(&file, &mut memory, Mode::User, 0xFDFF)?.record;
+/// let long = lc3::run_long(record, &mut memory, Keys::NONE, &mut [], lc3::STEP_LIMIT)?;
+/// assert_eq!(long, lc3::run(record, &mut memory, Keys::NONE, &mut [], lc3::STEP_LIMIT)?);
+/// # Ok::<(), lc3::Error>(())
+/// ```
+pub fn run_long(
+    record: Record,
+    memory: &mut [u16],
+    keys: Keys<'_>,
+    output: &mut [u8],
+    n: u64,
+) -> Result<Run, Refusal> {
+    run_by(ffi::lc3_run_long, record, memory, keys, output, n)
+}
+
 /// Makes a single step, and alters `record` itself: otherwise [`run`] with `n` = 1.
 ///
 /// A refused step alters neither the record nor a buffer.
@@ -329,7 +355,7 @@ pub fn step_second(
     step_by(ffi::lc3_step_second, record, memory, keys, output)
 }
 
-/// Runs by the call of one of the editions.
+/// Runs by one of the calls that take and answer the same.
 fn run_by(
     call: ffi::RunCall,
     record: Record,

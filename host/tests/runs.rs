@@ -7,17 +7,7 @@ use lc3::ffi::{Answer, Report};
 use lc3::{Keys, Record, Refusal};
 use reference::machine::{self, Cause, Entry, Event, CAUSES};
 use support::cases::{self, accepted, Case, Family};
-use support::{assert_same_buffers, for_cases, for_cases_by, Buffers, Rng};
-
-/// The counts of a run and of the one that went on from it, with the answer of the latter.
-fn joined(first: Answer, second: Answer) -> Answer {
-    Answer {
-        steps: first.steps + second.steps,
-        keys: first.keys + second.keys,
-        shown: first.shown + second.shown,
-        ..second
-    }
-}
+use support::{assert_same_buffers, for_cases, for_cases_by, joined, Buffers, Rng};
 
 #[test]
 fn a_run_split_in_two_equals_the_whole() {

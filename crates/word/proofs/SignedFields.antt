@@ -49,14 +49,14 @@ number-size h v p = go (ltb v h) refl
     go true e = ltb-true v h e
     go false e = omega (arith, ltb-false v h e)
 
-pattern-back : (h v : ℕ) → v < h + h → bits h (signed h v) ≡ v
+pub pattern-back : (h v : ℕ) → v < h + h → bits h (signed h v) ≡ v
 pattern-back h v p = go (ltb v h)
   where
     go : (t : Bool) → bits h (cond t (pos v) (negsuc (h + h - suc v))) ≡ v
     go true = refl
     go false = omega arith
 
-number-back : (h : ℕ) (n : ℤ) → mag n < h → signed h (bits h n) ≡ n
+pub number-back : (h : ℕ) (n : ℤ) → mag n < h → signed h (bits h n) ≡ n
 number-back h (pos n) p = signed-low h n p
 number-back h (negsuc n) p = signed-high h (h + h - suc n) (omega arith) ∙ ap negsuc (omega arith)
 

@@ -5,6 +5,7 @@
 
 pub mod cases;
 pub mod program;
+pub mod sittings;
 
 use crate::reference::machine;
 use cases::{Case, FAMILIES};
@@ -158,6 +159,11 @@ impl Buffers {
         self.run_by(ffi::lc3_run, record, keys, shown, n)
     }
 
+    /// Calls `lc3_run_long` likewise.
+    pub fn run_long(&mut self, record: Record, keys: usize, shown: usize, n: u64) -> Answer {
+        self.run_by(ffi::lc3_run_long, record, keys, shown, n)
+    }
+
     /// Calls `lc3_step` likewise.
     pub fn step(&mut self, record: &mut Record, keys: usize, shown: usize) -> Report {
         self.step_by(ffi::lc3_step, record, keys, shown)
@@ -270,6 +276,16 @@ impl Buffers {
             output: self.output.get_mut(),
             n,
         }
+    }
+}
+
+/// The counts of a run and of the one that went on from it, with the answer of the latter.
+pub fn joined(first: Answer, second: Answer) -> Answer {
+    Answer {
+        steps: first.steps + second.steps,
+        keys: first.keys + second.keys,
+        shown: first.shown + second.shown,
+        ..second
     }
 }
 

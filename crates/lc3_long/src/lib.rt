@@ -1,0 +1,35 @@
+// The run for long sittings, for hosts in C and Rust. It answers and leaves what `lc3_run` does, for every call; it
+// takes less time where a program stays in loops. Nothing is required of a caller.
+use lc3_machine::Lc3Answer;
+use machine::Machine;
+ghost use mathlib.Core.Path.{_≡_};
+ghost use Rattle.run.specs.Call.{startOf, callOf};
+ghost use Rattle.lc3_machine.specs.Answer.{answerOf, answered};
+
+// The run of n steps. A call that is turned down answers its number and leaves everything as it was handed in.
+#[no_mangle]
+pub extern "C" fn lc3_run_long(
+    m: Machine,
+    memory: &mut [u16],
+    times: &[u64],
+    bytes: &[u8],
+    output: &mut [u8],
+    n: u64,
+) -> Lc3Answer
+    ensures { λ r. ⌜ answered r (now (memory .exit)) (now (output .exit))
+        ≡ answerOf (callOf (startOf m (now (memory .entry)) (now (times .entry)) (now (bytes .entry))
+        (now (output .entry))) n) ⌝ }
+{
+    let a = long::run(m, memory, times, bytes, output, n);
+    let machine = a.machine;
+    let r = lc3_machine::report_of(a.report);
+    Lc3Answer {
+        machine,
+        steps: r.steps,
+        keys: r.keys,
+        shown: r.shown,
+        index: r.index,
+        refusal: r.refusal,
+        stop: r.stop,
+    }
+}

@@ -1,0 +1,3 @@
+-- The laws of the run with a window.
+mod VisitLaws
+mod StepLaws

@@ -1,0 +1,2 @@
+-- What the functions of the run with a window promise.
+pub mod Visits
