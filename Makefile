@@ -1,26 +1,60 @@
-# make run    the demonstration: a candidate's program beside the examiner's monitor
-# make test   everything: formatting, the proofs with the wrong programs that must be refused, the host tests
-# make lib    build/liblc3.a and build/liblc3.so; the header is include/lc3.h
-# make bench  time against C: runs, lines of text, and object files
-# make soak   many more random runs against the reference simulator
+# make run        the demonstration: the command lc3 on the programs of examples/
+# make demo       the proved demonstration: a candidate's program beside the examiner's monitor
+# make test       everything: formatting, the proofs with the wrong programs that must be refused, the host tests
+# make lib        build/liblc3.a and build/liblc3.so; the header is include/lc3.h
+# make install    library, header, lc3.pc, module, command and manual page, under DESTDIR and PREFIX
+# make uninstall  takes away what `make install` put there
+# make bench      time against C: runs, lines of text, and object files
+# make rate       time of the Python module and of the command beside that of lc3_run alone
+# make soak       many more random runs against the reference simulator
 
 EXPORTS = lc3_machine lc3_logging lc3_long lc3_second lc3_words lc3_lines lc3_objects lc3_monitor lc3_version
 ARCHIVES = $(EXPORTS:%=target/staticlib/lib%.a)
 # The shared library has the name by which hosts ask for it: it ends in the version of the header.
-SONAME := liblc3.so.$(shell sed -n 's/^.define LC3_VERSION //p' include/lc3.h)
+VERSION := $(shell sed -n 's/^.define LC3_VERSION //p' include/lc3.h)
+SONAME := liblc3.so.$(VERSION)
 CARGO = cargo test --quiet --offline --release --manifest-path host/Cargo.toml --target-dir build/cargo
 
-.PHONY: run test lib bench soak format host clean
+# Where things are installed. Debian's own Python is taken where it is there: the command runs by it.
+PREFIX = /usr/local
+DESTDIR =
+LIBDIR = $(PREFIX)/lib
+PYTHON = $(or $(wildcard /usr/bin/python3),python3)
+IN = $(DESTDIR)$(PREFIX)
+IN_LIB = $(DESTDIR)$(LIBDIR)
+PACKAGE = $(DESTDIR)$(MODULES)/lc3
+# The folder under PREFIX/lib in which this Python looks for modules by itself: on Debian 12 that is
+# python3.11/dist-packages in /usr/local, and python3/dist-packages in /usr. Where it looks in none, the latter is
+# taken: the command finds its module anyway.
+MODULES = $(or $(shell $(PYTHON) -c 'import site, sys; lib = sys.argv[1].rstrip("/") + "/lib/"; \
+    places = [*site.getsitepackages(), site.getusersitepackages()]; \
+    print(next((p for p in places if p.startswith(lib)), lib + "python3/dist-packages"))' \
+    "$(PREFIX)"),$(error $(PYTHON) does not run: name another by PYTHON=))
+# What may be left empty of a staged tree, and goes as well then; folders of a system stay.
+FOLDERS = $(LIBDIR)/pkgconfig $(PREFIX)/include $(PREFIX)/bin $(PREFIX)/share/man/man1 $(MODULES)
+# Tells the system's loader of the library, unless the tree is only staged.
+LOADER = @[ -n "$(DESTDIR)" ] || /sbin/ldconfig 2>/dev/null || \
+    echo "Run ldconfig as root, so that programs find $(SONAME)."
 
-run:
+.PHONY: run told demo test lib install uninstall bench rate soak format host clean
+
+run: told lib
+	@examples/run.sh
+
+told:
+	@command -v python3 >/dev/null || { echo "The command needs python3, and none is found." >&2; exit 2; }
+	@[ -e build/liblc3.so ] || echo "The library is proved and built first: about 6 minutes on two cores, once."
+
+# `make test` compares what it prints with crates/demo/stdout.
+demo:
 	@echo "The demonstration. It is proved before it runs: about 3 minutes on two cores the first time, then seconds."
-	@tools/progress build/run.log rt check demo
+	@tools/progress build/demo.log rt check demo
 	@cd crates/demo/data && ../../../target/bin/demo
 
 # The archives are built from the crates that `rt ci` has just proved. Its verdict is repeated as the last line of all.
 test:
 	@echo "Everything: formatting, all proofs from nothing, wrong programs that must be refused, and then the host tests."
-	@echo "That takes about 40 minutes on two cores."
+	@echo "That takes about 50 minutes on two cores."
 	@tools/prerequisites
 	@$(MAKE) --no-print-directory format
 	@tools/progress build/ci.log rt ci
@@ -43,6 +77,7 @@ host: lib
 	$(subst cargo test,cargo run,$(CARGO)) --example log | diff host/examples/log.txt -
 	RUSTDOCFLAGS="-D warnings" \
 	    cargo doc --quiet --no-deps --offline --manifest-path host/Cargo.toml --target-dir build/cargo
+	python3 -m unittest discover -s python/tests -t python
 
 lib: build/liblc3.so
 
@@ -64,10 +99,39 @@ build/$(SONAME): build/liblc3.a
 build/liblc3.so: build/$(SONAME)
 	ln -sf $(SONAME) $@
 
+# `make -o lib install` takes the library as it stands.
+install: lib
+	install -d "$(IN_LIB)/pkgconfig" "$(IN)/include" "$(IN)/bin" "$(IN)/share/man/man1"
+	install -m 644 build/liblc3.a build/$(SONAME) "$(IN_LIB)"
+	ln -sf $(SONAME) "$(IN_LIB)/liblc3.so"
+	install -m 644 include/lc3.h "$(IN)/include"
+	sed 's|@PREFIX@|$(PREFIX)|; s|@LIBDIR@|$(LIBDIR:$(PREFIX)/%=$${prefix}/%)|; s|@VERSION@|$(VERSION)|' \
+	    tools/lc3.pc.in | install -m 644 /dev/stdin "$(IN_LIB)/pkgconfig/lc3.pc"
+	rm -rf "$(PACKAGE)"
+	find python/lc3 -type f ! -path '*/__pycache__/*' -printf '%P\n' | while read -r file; do \
+	    install -D -m 644 "python/lc3/$$file" "$(PACKAGE)/$$file" || exit; done
+	umask 022 && $(PYTHON) -m compileall -q -s "$(DESTDIR)" -p / "$(PACKAGE)"
+	sed "s|@PYTHON@|$$($(PYTHON) -c 'import sys; print(sys.executable)')|; s|@MODULES@|$(MODULES:$(PREFIX)/%=%)|" \
+	    tools/lc3.in | install -m 755 /dev/stdin "$(IN)/bin/lc3"
+	install -m 644 docs/lc3.1 "$(IN)/share/man/man1"
+	$(LOADER)
+
+uninstall:
+	rm -f "$(IN_LIB)/liblc3.a" "$(IN_LIB)/$(SONAME)" "$(IN_LIB)/liblc3.so" "$(IN_LIB)/pkgconfig/lc3.pc" \
+	    "$(IN)/include/lc3.h" "$(IN)/bin/lc3" "$(IN)/share/man/man1/lc3.1"
+	rm -rf "$(PACKAGE)"
+	@[ -z "$(DESTDIR)" ] || for folder in $(FOLDERS); do \
+	    (cd "$(DESTDIR)" && rmdir -p --ignore-fail-on-non-empty ".$$folder") 2>/dev/null || true; done
+	$(LOADER)
+
 bench: lib
 	host/bench/run.sh
 	host/bench/lines.sh
 	host/bench/objects.sh
+
+rate: lib
+	cd python && python3 -m tests.rate
+	cd python && python3 -m tests.rate_command
 
 soak: lib
 	LC3_RUNS=20000000 $(CARGO) --test differential soak -- --ignored --nocapture

@@ -3,7 +3,8 @@
 
 - Each wrong program, crates/CRATE/must-fail/NAME.edit, stands once in the tables of docs/PROOFS.md whose first heading
   is Edit, as `CRATE/NAME`; and these tables name no other.
-- Each rule that a document, a crate, the header or the Rust wrapper cites (M4.1) is in docs/MACHINE.md, once.
+- Each rule that a document, a crate, the header, the Rust wrapper or the Python module cites (M4.1) is in
+  docs/MACHINE.md, once.
 - Each relative link of a document leads to a file.
 
 With an argument, the root of the repository to check; otherwise the one that this file is in.
@@ -20,7 +21,7 @@ RULE = re.compile(r"\bM\d+\.\d+\b")
 DEFINED_RULE = re.compile(r"\*\*(M\d+\.\d+)\*\*")
 LINK = re.compile(r"\]\(([^)\s]+)\)")
 FENCE = re.compile(r"^```.*?^```$", re.MULTILINE | re.DOTALL)
-CITING = ("crates/*/src/**/*.rt", "crates/*/*/**/*.antt", "include/*.h", "host/src/*.rs")
+CITING = ("crates/*/src/**/*.rt", "crates/*/*/**/*.antt", "include/*.h", "host/src/*.rs", "python/*/*.py")
 
 
 def rows(markdown: str) -> Iterator[list[str]]:

@@ -1,0 +1,140 @@
+"""The LC-3 of Patt and Patel with privilege, interrupts, a console and a timer, over liblc3.so.
+
+``Sitting`` is a machine to sit down at: load object files, type, run, look, go back.
+
+>>> import lc3
+>>> sitting = lc3.Sitting(bytes.fromhex("3000 F020 F021 F025"))  # GETC, OUT, HALT at x3000
+>>> sitting.type("A")
+>>> sitting.run(1000).stop.text
+'the machine is halted'
+>>> sitting.display
+'AHalted\\n'
+
+``word`` and ``line`` turn lines of text into words and back.
+
+>>> lc3.line(0x14E7), hex(lc3.word("ADD R2, R3, #7"))
+('ADD R2, R3, #7', '0x14e7')
+
+The calls of lc3.h are here one to one, for hosts that lend buffers of their own: ``version``,
+``start``, ``run``, ``run_long``, ``step``, ``run_logged``, ``run_second``, ``step_second``,
+``read``, ``write``, ``line``, ``line_length``, ``page``, ``save``, ``monitor``,
+``monitor_routines``, ``vectors``; with ``logged_steps`` to read a log. A call that is refused raises
+``Refused`` and alters nothing.
+
+The library is found as ``lc3._library`` says. docs/MACHINE.md has the rules of the machine.
+"""
+
+from .calls import (
+    line,
+    line_length,
+    monitor,
+    monitor_routines,
+    page,
+    read,
+    run,
+    run_logged,
+    run_long,
+    run_second,
+    save,
+    start,
+    step,
+    step_second,
+    vectors,
+    version,
+    write,
+)
+from .constants import (
+    LOG_WORDS,
+    MAX_BUSY,
+    MAX_CLOCK,
+    MAX_LINE,
+    MAX_STEPS,
+    MEMORY_WORDS,
+    MONITOR_WORDS,
+    USER_ORIGIN,
+    USER_STACK,
+    VECTOR_WORDS,
+    VERSION,
+)
+from .log import LoggedStep, logged_steps
+from .memory import Line, Memory
+from .recording import Program, Recording, RecordingError
+from .records import (
+    Edition,
+    Instruction,
+    Kind,
+    LoggedRun,
+    Mode,
+    Reading,
+    Reason,
+    Record,
+    Refusal,
+    Refused,
+    Report,
+    Routines,
+    Run,
+    Started,
+    Stop,
+)
+from .sitting import Key, Sitting
+from .steps import Change, TracedStep
+from .words import LineError, word
+
+__all__ = [
+    "Change",
+    "Edition",
+    "Instruction",
+    "Key",
+    "Kind",
+    "LOG_WORDS",
+    "Line",
+    "LineError",
+    "LoggedRun",
+    "LoggedStep",
+    "MAX_BUSY",
+    "MAX_CLOCK",
+    "MAX_LINE",
+    "MAX_STEPS",
+    "MEMORY_WORDS",
+    "MONITOR_WORDS",
+    "Memory",
+    "Mode",
+    "Program",
+    "Reading",
+    "Reason",
+    "Record",
+    "Recording",
+    "RecordingError",
+    "Refusal",
+    "Refused",
+    "Report",
+    "Routines",
+    "Run",
+    "Sitting",
+    "Started",
+    "Stop",
+    "TracedStep",
+    "USER_ORIGIN",
+    "USER_STACK",
+    "VECTOR_WORDS",
+    "VERSION",
+    "line",
+    "line_length",
+    "logged_steps",
+    "monitor",
+    "monitor_routines",
+    "page",
+    "read",
+    "run",
+    "run_logged",
+    "run_long",
+    "run_second",
+    "save",
+    "start",
+    "step",
+    "step_second",
+    "vectors",
+    "version",
+    "word",
+    "write",
+]

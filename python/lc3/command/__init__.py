@@ -1,0 +1,77 @@
+"""The command ``lc3``: run, list, log and mark object files.
+
+``lc3 run FILE.obj...``              runs a program on the terminal, or with the bytes of a pipe
+``lc3 list FILE.obj...``             lists the words of files with their lines
+``lc3 log FILE.obj...``              tells of every step what it did
+``lc3 mark --cases CASES FILE...``   marks many programs against cases
+
+``lc3 COMMAND --help`` says more. Of each command one module has the work; the others are
+
+``options``   what may stand on the command line
+``files``     object files and saved sittings as the command takes them
+``seat``      a sitting with keyboard and display, run until something ends it
+``terminal``  where keys come from, and signals
+``messages``  what is said to people, and the exit codes
+``cases``     the cases of a marking
+``marking``   one candidate against them
+``report``    results as a table, as CSV and as JSON
+"""
+
+from __future__ import annotations
+
+import errno
+import os
+import sys
+from importlib import import_module
+from typing import Sequence
+
+from .messages import Code, CommandError, let_go, of_os_error, say
+from .options import parser
+
+
+def main(argv: Sequence[str] | None = None) -> int:
+    """Obeys a command line, by default the one of this process, and answers the exit code.
+
+    Whatever is wrong with a file or an option is said in one line on standard error.
+
+    >>> main(["--version"])
+    lc3, interface 7
+    0
+    """
+    _set_up_streams()
+    try:
+        options = parser().parse_args(argv)
+    except SystemExit as ended:
+        return int(ended.code or 0)
+    # Each command's module is loaded when it is asked for: a short run shall not wait for all.
+    command = import_module(f"lc3.command.{options.module}")
+    try:
+        code = int(command.command(options))
+        sys.stdout.flush()
+        return code
+    except CommandError as error:
+        say(str(error))
+        return int(error.code)
+    except BrokenPipeError:
+        let_go(sys.stdout)
+        return int(Code.NOT_HALTED)
+    except OSError as error:
+        if error.filename is None and error.errno == errno.ENOSPC:
+            error.filename = "standard output"
+            let_go(sys.stdout)
+        say(of_os_error(error))
+        return int(Code.REFUSED)
+    except KeyboardInterrupt:
+        say("stopped by Ctrl-C")
+        return int(Code.NOT_HALTED)
+
+
+def _set_up_streams() -> None:
+    """Opens the standard streams that are closed, for else the next file would take their place;
+    and has bytes in the names of files that are no text written as escapes."""
+    for name, mode in (("stdin", "r"), ("stdout", "w"), ("stderr", "w")):
+        if getattr(sys, name) is None:
+            setattr(sys, name, open(os.devnull, mode))
+    for stream in (sys.stdout, sys.stderr):
+        if hasattr(stream, "reconfigure"):
+            stream.reconfigure(errors="backslashreplace")

@@ -1,0 +1,112 @@
+"""Object files and sittings as the command takes them: what is wrong with one is said in a line.
+
+The library takes any file of an origin and words that fit memory, and many a text would. A file
+that is plainly text or a program of this computer is refused here; ``lc3.Sitting`` loads any.
+"""
+
+from __future__ import annotations
+
+import argparse
+import unicodedata
+from os import PathLike, fspath
+from typing import Sequence
+
+from ..records import Edition, Mode, Refused
+from ..recording import Program, Recording, RecordingError
+from ..sitting import LONGEST_FILE, Sitting
+from .messages import Code, CommandError, of_os_error
+
+# A shorter file is taken for what it says it is.
+SHORTEST_TEXT = 8
+
+# A longer file of keys or cases is taken for one that never ends.
+LONGEST = 1 << 28
+
+# Why our monitor is not put beside a program of the second edition, and what to do.
+NO_SECOND_MONITOR = (
+    "--edition 2: the ready-made monitor returns by RTI, and a TRAP of the second edition pushes "
+    "nothing to return to; add --no-monitor, and name your class's monitor before the program, "
+    "as in: lc3 run --edition 2 --no-monitor MONITOR.obj PROGRAM.obj"
+)
+
+
+def other_format(data: bytes) -> str:
+    """What a file plainly is that is no object file; empty where it may be one.
+
+    >>> other_format(b".ORIG x3000\\nHALT\\n.END\\n")
+    'it is text, and an object file is words: assemble it first'
+    >>> other_format(bytes.fromhex("3000 F025"))
+    ''
+    """
+    if data.startswith(b"\x7fELF"):
+        return "it is a program for this computer (ELF), and no object file of the LC-3"
+    if len(data) < SHORTEST_TEXT:
+        return ""
+    try:
+        text = data.decode("utf-8")
+    except UnicodeDecodeError:
+        return ""
+    # Categories that begin with C are control characters and such: words have many of them.
+    if any(unicodedata.category(letter)[0] == "C" and letter not in "\t\n\f\r" for letter in text):
+        return ""
+    return "it is text, and an object file is words: assemble it first"
+
+
+def object_file(path: str) -> bytes:
+    """The bytes of an object file; of a longer file no more than is needed to refuse it."""
+    try:
+        with open(path, "rb") as stream:
+            data = stream.read(LONGEST_FILE)
+    except OSError as error:
+        raise CommandError(of_os_error(error)) from None
+    except ValueError as error:
+        # A name with a byte 0 in it is no name of a file.
+        raise CommandError(f"{path!r}: {error}: check its name") from None
+    problem = other_format(data)
+    if problem:
+        raise CommandError(f"{path}: refused: {problem}")
+    return data
+
+
+def whole_file(path: str | PathLike[str]) -> bytes:
+    """The bytes of a file of keys or cases."""
+    with open(path, "rb") as stream:
+        data = stream.read(LONGEST + 1)
+    if len(data) > LONGEST:
+        text = f"{fspath(path)}: refused: it is longer than {LONGEST >> 20} MiB: name a shorter file"
+        raise CommandError(text)
+    return data
+
+
+def load(sitting: Sitting, path: str, data: bytes) -> Program:
+    """Loads the bytes of an object file, or says what is wrong with it."""
+    try:
+        return sitting.load(data, name=path)
+    except Refused as refused:
+        raise CommandError(str(refused)) from None
+
+
+def check_edition(options: argparse.Namespace) -> None:
+    """That our monitor is not asked to serve the second edition."""
+    if options.edition == Edition.SECOND and options.monitor:
+        raise CommandError(NO_SECOND_MONITOR, Code.WRONG_USE)
+
+
+def sitting_of(options: argparse.Namespace, files: Sequence[tuple[str, bytes]]) -> Sitting:
+    """A sitting with files loaded, each given by its name and its bytes, as the options have it."""
+    sitting = Sitting(monitor=options.monitor, edition=options.edition)
+    for path, data in files:
+        load(sitting, path, data)
+    mode = Mode.SUPERVISOR if options.supervisor else Mode.USER
+    sitting.start(options.pc, mode, options.stack)
+    return sitting
+
+
+def recording_of(path: str) -> Recording:
+    """A saved sitting, or what is wrong with the file."""
+    try:
+        return Recording.load(path)
+    except RecordingError as error:
+        raise CommandError(f"{error}; name a file that --save-sitting wrote") from None
+    except OSError as error:
+        raise CommandError(of_os_error(error)) from None

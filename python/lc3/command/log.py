@@ -1,0 +1,89 @@
+"""``lc3 log``: what every step did, and by which rule."""
+
+from __future__ import annotations
+
+import argparse
+
+from ..records import Stop
+from ..sitting import Sitting
+from ..steps import TracedStep
+from .messages import Code
+from .seat import RUNNING, TRACING, Ending, Seat, finish, registers_of, seat_of, sit
+from .terminal import Display, Signals
+
+HEADER = "    step  PC     word   line              reason               what changed"
+
+
+def row(step: TracedStep) -> str:
+    """A step as a line of the log.
+
+    >>> from ..records import Reason
+    >>> from ..steps import Change
+    >>> row(TracedStep(0x3000, 0xF021, Reason.TRAP, 7, (Change("R6", 0, 1),), b"a", b""))
+    "       7  x3000  xF021  TRAP x21          trap                 R6 x0000 -> x0001, key 'a'"
+    """
+    did = [str(change) for change in step.changes]
+    did += [f"key {repr(bytes([key]))[1:]}" for key in step.keys]
+    did += [f"shows {repr(step.shown)[1:]}"] if step.shown else []
+    word = "-" if step.word is None else f"x{step.word:04X}"
+    columns = f"{step.clock:>8}  x{step.pc:04X}  {word:<5}  {step.line:<16}  {step.reason.text:<19}"
+    return f"{columns}  {', '.join(did)}".rstrip()
+
+
+def command(options: argparse.Namespace) -> Code:
+    """Logs as the options have it, and answers the exit code."""
+    signals = Signals()
+    seat, display = seat_of(options, signals), Display(signals)
+    with signals:
+        _write(display, HEADER)
+        with seat.keyboard:
+            if options.last is None:
+                ending = _every_step(seat, signals, display)
+            else:
+                ending = _run(seat, signals)
+        if options.last is not None:
+            _last_steps(seat.sitting, options.last, signals, display)
+        display.show(registers_of(options, seat).encode())
+        return finish(options, seat, ending)
+
+
+def _write(display: Display, line: str) -> None:
+    """Writes a line of the log."""
+    display.show(f"{line}\n".encode())
+
+
+def _every_step(seat: Seat, signals: Signals, display: Display) -> Ending:
+    """Runs a step at a time, and writes a line for each."""
+
+    def advance(steps: int) -> Stop:
+        """Makes steps, and writes them."""
+        for step in seat.sitting.trace(steps):
+            _write(display, row(step))
+            if signals.caught or display.gone:
+                return Stop.INTERRUPTED
+        return seat.sitting.stop
+
+    return sit(seat.sitting, seat.keyboard, signals, seat.end, advance, TRACING, seat.patient)
+
+
+def _run(seat: Seat, signals: Signals) -> Ending:
+    """Runs at full speed, and writes nothing."""
+
+    def advance(steps: int) -> Stop:
+        """Makes steps."""
+        return seat.sitting.run(steps).stop
+
+    return sit(seat.sitting, seat.keyboard, signals, seat.end, advance, RUNNING, seat.patient)
+
+
+def _last_steps(sitting: Sitting, count: int, signals: Signals, display: Display) -> None:
+    """Writes the last steps. What they changed is known when they are made once more."""
+    recording = sitting.recording()
+    again, before = Sitting.of(recording), signals.count
+    count = min(count, recording.steps)
+    again.run(recording.steps - count)
+    # Ctrl-C may have ended the run itself; one more ends this too.
+    for step in again.trace(count) if signals.count == before else ():
+        _write(display, row(step))
+        if signals.count != before or display.gone:
+            return

@@ -1,0 +1,28 @@
+"""``lc3 run``: a program with the keyboard and display of this process."""
+
+from __future__ import annotations
+
+import argparse
+
+from ..records import Stop
+from .messages import Code
+from .seat import finish, registers_of, seat_of, sit
+from .terminal import Display, Signals
+
+
+def command(options: argparse.Namespace) -> Code:
+    """Runs as the options have it, and answers the exit code."""
+    signals = Signals()
+    seat, display = seat_of(options, signals), Display(signals)
+
+    def advance(steps: int) -> Stop:
+        """Makes steps, and shows what they showed."""
+        stop = seat.sitting.run(steps).stop
+        display.show(seat.sitting.take_display())
+        return Stop.INTERRUPTED if display.gone else stop
+
+    with signals:
+        with seat.keyboard:
+            ending = sit(*seat[:2], signals, seat.end, advance, patient=seat.patient)
+        before = display.line_feed() + registers_of(options, seat)
+        return finish(options, seat, ending, before)

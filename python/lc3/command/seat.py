@@ -1,0 +1,207 @@
+"""A sitting with its keyboard and display, run until something ends it: what run, log and mark
+have in common."""
+
+from __future__ import annotations
+
+import argparse
+import os
+import signal
+from typing import Callable, NamedTuple
+
+from ..constants import MAX_CLOCK, MAX_STEPS, USER_STACK
+from ..recording import Recording
+from ..records import Stop
+from ..sitting import Sitting
+from .files import check_edition, object_file, recording_of, sitting_of, whole_file
+from .messages import Code, CommandError, end_line, of_os_error, registers, say, tell
+from .terminal import Keyboard, Signals, die, standard_keyboard
+
+WAITS = "the program does nothing but wait, and no more keys come"
+
+
+class Pace(NamedTuple):
+    """How often a run is looked at, in steps.
+
+    ``first`` are the steps until it is asked whether the program does nothing but wait for a key.
+    Each time that it does not, there are ``growth`` times as many to the next time, up to
+    ``longest``: to ask costs as much as some hundred thousand steps. Keys and display are seen to
+    every ``chunk`` steps at the latest.
+    """
+
+    first: int
+    growth: int
+    longest: int
+    chunk: int
+
+
+RUNNING = Pace(1 << 8, 16, 1 << 24, MAX_STEPS)
+TRACING = Pace(1 << 6, 4, 1 << 14, 1 << 10)
+# Nobody waits for what a candidate shows.
+MARKING = Pace(1 << 16, 16, 1 << 24, MAX_STEPS)
+
+
+class Ending(NamedTuple):
+    """Why a run is over, in words, and the signal that ended it, if any."""
+
+    text: str
+    signal: int = 0
+
+
+Advance = Callable[[int], Stop]
+
+
+def sit(
+    sitting: Sitting,
+    keyboard: Keyboard,
+    signals: Signals,
+    end: int,
+    advance: Advance,
+    pace: Pace = RUNNING,
+    patient: bool = False,
+) -> Ending:
+    """Runs to a clock unless something ends it before. ``advance`` makes so many steps.
+
+    A program that waits for a key costs nothing: the process waits for keys as well. Where no more
+    come, that is the end; but who is ``patient`` has all steps made.
+    """
+    apart, keys = pace.first, keyboard.first
+    look = sitting.clock + apart
+    while True:
+        keys = keys or (b"" if sitting.typed else keyboard.poll())
+        if keys:
+            # Only then: even to type nothing is to depart from a replay.
+            sitting.type(keys)
+            apart, keys = pace.first, b""
+            look = sitting.clock + apart
+        goal = min(end, look, sitting.clock + pace.chunk)
+        ending = _ended(sitting, signals, advance(goal - sitting.clock), end)
+        if ending is not None:
+            return ending
+        if sitting.clock < look:
+            continue
+        apart = min(apart * pace.growth, pace.longest)
+        if sitting.waits():
+            keys = keyboard.wait()
+            ending = None if keys else _ended(sitting, signals, Stop.DONE, end)
+            if ending is not None or not (keys or patient):
+                return ending or Ending(WAITS)
+        look = sitting.clock + apart
+
+
+def _ended(sitting: Sitting, signals: Signals, stop: Stop, end: int) -> Ending | None:
+    """Why a run is over after some steps, if it is."""
+    if signals.caught:
+        return Ending(f"stopped by {signals.name}", signals.caught)
+    if sitting.halted:
+        return Ending(Stop.HALTED.text)
+    if stop is Stop.INTERRUPTED:
+        return Ending("nobody reads the display any more")
+    if stop is not Stop.DONE or sitting.clock >= end:
+        return Ending(stop.text)
+    return None
+
+
+class Seat(NamedTuple):
+    """What a command line asks for: a sitting, its keys, the clock at which it is over, and whether
+    that is to be reached whatever happens: a number was given, or a recording has it."""
+
+    sitting: Sitting
+    keyboard: Keyboard
+    end: int
+    patient: bool
+    recording: Recording | None = None
+
+
+def seat_of(options: argparse.Namespace, signals: Signals) -> Seat:
+    """The seat that the options of run and log ask for."""
+    check_use(options)
+    if options.replay is not None:
+        recording = recording_of(options.replay)
+        sitting, keyboard, steps = Sitting.of(recording), Keyboard(), recording.steps
+        steps = steps if options.steps is None else min(steps, options.steps)
+        seat = Seat(sitting, keyboard, sitting.clock + steps, True, recording)
+    else:
+        files = [(path, object_file(path)) for path in options.files]
+        sitting = sitting_of(options, files)
+        keyboard = _keyboard(options.keys, signals)
+        asked = options.steps is not None
+        seat = Seat(sitting, keyboard, options.steps if asked else MAX_CLOCK, asked)
+    if options.save_sitting is not None:
+        _check_saving(options)
+    return seat
+
+
+def _check_saving(options: argparse.Namespace) -> None:
+    """That the sitting can be saved, and that its file is none of those that are read: better to
+    know before a long run than after it."""
+    keys = [options.keys[1:]] if (options.keys or "").startswith("@") else []
+    replayed = [options.replay] if options.replay is not None else []
+    inputs = [os.path.realpath(path) for path in [*options.files, *keys, *replayed]]
+    if os.path.realpath(options.save_sitting) in inputs:
+        text = f"--save-sitting would overwrite {options.save_sitting}: name another file"
+        raise CommandError(text, Code.WRONG_USE)
+    with open(options.save_sitting, "ab"):
+        pass
+
+
+def check_use(options: argparse.Namespace) -> None:
+    """That the options of run and log go together."""
+    if options.replay is None:
+        if not options.files:
+            text = "no file is named; name object files, or a sitting to replay by --replay"
+            raise CommandError(text, Code.WRONG_USE)
+        check_edition(options)
+        return
+    others = {
+        "object files": bool(options.files),
+        "--keys": options.keys is not None,
+        "--edition": options.edition != 3,
+        "--supervisor": options.supervisor,
+        "--pc": options.pc is not None,
+        "--stack": options.stack != USER_STACK,
+        "--no-monitor": not options.monitor,
+    }
+    wrong = [name for name, given in others.items() if given]
+    if wrong:
+        text = f"--replay has its own machine and keys; leave out {' and '.join(wrong)}"
+        raise CommandError(text, Code.WRONG_USE)
+
+
+def _keyboard(keys: str | None, signals: Signals) -> Keyboard:
+    """The keys that are given, or else those of standard input."""
+    if keys is None:
+        return standard_keyboard(signals)
+    if not keys.startswith("@"):
+        return Keyboard(os.fsencode(keys))
+    try:
+        return Keyboard(whole_file(keys[1:]))
+    except OSError as error:
+        raise CommandError(f"--keys: {of_os_error(error)}") from None
+
+
+def finish(options: argparse.Namespace, seat: Seat, ending: Ending, before: str = "") -> Code:
+    """Tells of the end, saves the sitting where that is asked for, and answers the exit code."""
+    tell(before)
+    say(end_line(seat.sitting, ending.text))
+    if options.save_sitting is not None:
+        seat.sitting.save(options.save_sitting)
+    if ending.signal not in (0, signal.SIGINT):
+        # The terminal is set back: whoever sent the signal shall see that it was obeyed.
+        die(ending.signal)
+    if seat.recording is not None and seat.sitting.clock >= seat.recording.end.record.clock:
+        _check_end(options.replay, seat.sitting, seat.recording)
+    return Code.HALTED if seat.sitting.halted else Code.NOT_HALTED
+
+
+def _check_end(path: str, sitting: Sitting, recording: Recording) -> None:
+    """That a replay came to the end of its recording."""
+    came, end = sitting.recording().end, recording.end
+    for name in ("record", "memory", "display", "shown"):
+        if getattr(came, name) != getattr(end, name):
+            text = f"{path}: the replay comes to another {name} than the sitting; the file was "
+            raise CommandError(text + "altered, or the library is another: save the sitting anew")
+
+
+def registers_of(options: argparse.Namespace, seat: Seat) -> str:
+    """The registers and a line feed, where they are asked for."""
+    return registers(seat.sitting) + "\n" if options.registers else ""

@@ -1,0 +1,218 @@
+"""A machine in buffers that stay in place, so that a run copies nothing and checks nothing twice.
+
+``Sitting`` is made of it. A host that lends buffers of its own calls ``lc3.run`` and the others.
+"""
+
+from __future__ import annotations
+
+import ctypes
+from array import array
+from typing import Any, Callable, NamedTuple, Sequence
+
+from ._library import LIBRARY, RecordStruct
+from .buffers import NOWHERE
+from .constants import LOG_WORDS, MEMORY_WORDS
+from .log import LoggedStep, logged_steps
+from .records import Edition, Record, Refused, Stop
+from .steps import SHORT_BYTES, TracedStep, changes, logged_by_second, may_replace
+
+MEMORY_BYTES = 2 * MEMORY_WORDS
+
+# The room of a new display. It doubles when it is full.
+FIRST_ROOM = 4096
+
+# The steps of a logged run in one call: three words each, 384 KiB.
+LOGGED_AT_ONCE = 65536
+
+# The call by which a machine of each edition runs, and so every sitting and every marking.
+RUNS_BY = {Edition.THIRD: LIBRARY.lc3_run_long, Edition.SECOND: LIBRARY.lc3_run_second}
+
+
+class Snapshot(NamedTuple):
+    """A machine at one time: enough to go on from there once more."""
+
+    clock: int
+    record: bytes
+    memory: bytes
+    arrived: int
+    shown: int
+
+
+class Machine:
+    """Record, memory, keys and display of one machine.
+
+    ``times`` and ``keys`` are the lists of all keys, of which the first ``arrived`` have arrived;
+    ``output`` holds the ``shown`` bytes of the display and room for more, but where ``limit`` is
+    set never for more than that.
+    """
+
+    def __init__(self, edition: Edition) -> None:
+        """A halted machine with empty memory."""
+        self.edition = edition
+        self.record = RecordStruct()
+        self.words = array("H", bytes(MEMORY_BYTES))
+        # An array that is viewed can't be resized, and so its address stays.
+        self._view = memoryview(self.words)
+        self._memory = self.words.buffer_info()[0]
+        self._log = array("H")
+        self.times, self.keys, self.arrived = array("Q"), array("B"), 0
+        self.output, self.shown = array("B", bytes(FIRST_ROOM)), 0
+        self.limit: int | None = None
+        self._run = RUNS_BY[edition]
+
+    def _lent(self) -> tuple[int, ...]:
+        """Memory, the keys that have not arrived, and the free bytes of the output."""
+        count = len(self.times) - self.arrived
+        times = keys = NOWHERE
+        if count:
+            times = self.times.buffer_info()[0] + 8 * self.arrived
+            keys = self.keys.buffer_info()[0] + self.arrived
+        room = len(self.output) if self.limit is None else min(len(self.output), self.limit)
+        free = max(room - self.shown, 0)
+        output = self.output.buffer_info()[0] + self.shown if free else NOWHERE
+        return self._memory, MEMORY_WORDS, times, count, keys, count, output, free
+
+    def _enlarged(self) -> bool:
+        """Makes room for more bytes of the display, unless the limit is met."""
+        if self.limit is not None and self.limit <= self.shown:
+            return False
+        if len(self.output) <= self.shown:
+            self.output.frombytes(bytes(len(self.output)))
+        return True
+
+    def _answer(self, call: Callable[..., Any], *more: int) -> Any:
+        """What a call answers to which all is lent, with record and counts booked.
+
+        What is lent is viewed meanwhile: another thread that would resize it, and so move it away
+        under the call, gets a ``BufferError``.
+        """
+        views = memoryview(self.times), memoryview(self.keys), memoryview(self.output)
+        answer = call(self.record, *self._lent(), *more)
+        del views
+        if answer.refusal:
+            raise Refused(answer.refusal, answer.index)
+        self.record = answer.record
+        self.arrived += answer.keys
+        self.shown += answer.shown
+        return answer
+
+    def advance(self, n: int) -> Stop:
+        """Makes up to n steps, at most ``MAX_STEPS``, and enlarges the display where it is full."""
+        while True:
+            answer = self._answer(self._run, n)
+            n -= answer.steps
+            if answer.stop != Stop.OUTPUT_FULL or not self._enlarged():
+                return Stop(answer.stop)
+
+    def advance_logged(self, n: int) -> tuple[Stop, array[int]]:
+        """Makes up to n steps, at most ``LOGGED_AT_ONCE``, with the words of their log."""
+        if self.edition is Edition.SECOND:
+            return self._advance_second(n)
+        if len(self._log) < LOG_WORDS * n:
+            self._log = array("H", bytes(2 * LOG_WORDS * n))
+        address, logged, asked = self._log.buffer_info()[0] if n else NOWHERE, 0, n
+        while True:
+            room = (address + 2 * logged, LOG_WORDS * asked - logged)
+            answer = self._answer(LIBRARY.lc3_run_logged, *room, n)
+            n -= answer.steps
+            logged += answer.logged
+            if answer.stop != Stop.OUTPUT_FULL or not self._enlarged():
+                return Stop(answer.stop), self._log[:logged]
+
+    def _advance_second(self, n: int) -> tuple[Stop, array[int]]:
+        """The same by single steps: the library has no logged run for the second edition."""
+        log: array[int] = array("H")
+        while n:
+            before, word, arrived = self.record, self.words[self.record.pc], self.arrived
+            stop = self.advance(1)
+            if stop is not Stop.DONE:
+                return stop, log
+            log.extend(logged_by_second(before, word, self.arrived > arrived))
+            n -= 1
+        return Stop.DONE, log
+
+    def advance_to(self, n: int, addresses: Sequence[int]) -> Stop:
+        """Makes up to n steps, but stops before a step whose PC is one of the addresses. The first
+        step is made whatever its PC.
+
+        The log of a run tells where PC was. Where it was at one of the addresses, the machine is
+        put back and makes the steps before that once more. By the second edition's rules, which
+        have no logged run, these are single steps.
+        """
+        before = self.snapshot()
+        stop, log = self.advance_logged(min(n, LOGGED_AT_ONCE))
+        # The first step is left out: what precedes it is not asked for.
+        counters = log[LOG_WORDS::LOG_WORDS].tobytes()
+        found = [place for place in (_first(counters, at) for at in addresses) if place >= 0]
+        if found:
+            self.restore(before)
+            self.advance(min(found) + 1)
+            return Stop.BREAKPOINT
+        return stop
+
+    def steps_logged(self, n: int) -> list[LoggedStep]:
+        """Makes n steps and tells of each, in as many calls as it takes."""
+        steps: list[LoggedStep] = []
+        while len(steps) < n:
+            stop, log = self.advance_logged(min(n - len(steps), LOGGED_AT_ONCE))
+            steps += logged_steps(log)
+            if stop is not Stop.DONE:
+                break
+        return steps
+
+    def step_traced(self) -> TracedStep | Stop:
+        """Makes one step and tells all that it did; or why it was not made."""
+        before, arrived, shown = self.record, self.arrived, self.shown
+        old = {address: self.words[address] for address in may_replace(before, self.words)}
+        stop, log = self.advance_logged(1)
+        if not log:
+            return stop
+        step = logged_steps(log)[0]
+        return TracedStep(
+            step.pc,
+            step.word,
+            step.reason,
+            before.clock,
+            changes(before, self.record, old, self.words),
+            self.keys[arrived : self.arrived].tobytes(),
+            self.output[shown : self.shown].tobytes(),
+        )
+
+    def snapshot(self) -> Snapshot:
+        """The machine as it stands."""
+        clock = self.record.clock
+        return Snapshot(clock, bytes(self.record), self.words.tobytes(), self.arrived, self.shown)
+
+    def restore(self, snapshot: Snapshot) -> None:
+        """Puts the machine back to where it stood; the keys stay in their lists."""
+        self.record = RecordStruct.from_buffer_copy(snapshot.record)
+        ctypes.memmove(self._memory, snapshot.memory, MEMORY_BYTES)
+        self.arrived, self.shown = snapshot.arrived, snapshot.shown
+
+    def accepts(self, record: RecordStruct) -> None:
+        """Nothing if a run takes the record; else the library's refusal."""
+        refusal = self._run(record, self._memory, MEMORY_WORDS, *(NOWHERE, 0) * 3, 0).refusal
+        if refusal:
+            raise Refused(refusal)
+
+    def state(self) -> bytes:
+        """All fields of the record but the clock: what the next steps depend on beside memory and
+        keys."""
+        return bytes(self.record)[:SHORT_BYTES]
+
+    def plain_record(self) -> Record:
+        """The record as a dataclass of its own."""
+        return Record.from_c(self.record)
+
+
+def _first(counters: bytes, address: int) -> int:
+    """The place of the first word that is the address, or -1; words are this machine's own.
+
+    >>> _first(bytes([0x00, 0x30, 0x30, 0x30]), 0x3030)
+    1
+    """
+    word = address.to_bytes(2, "little")
+    at = counters.find(word)
+    while at >= 0 and at % 2:
+        at = counters.find(word, at + 1)
+    return at // 2

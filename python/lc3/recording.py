@@ -1,0 +1,359 @@
+"""Recordings: sittings as files, to be replayed exactly.
+
+A sitting file is JSON in UTF-8, one object with these members:
+
+``format``       ``"lc3 sitting"``
+``version``      1, the version of this format
+``edition``      2 or 3, the book's edition by whose rules the machine runs
+``programs``     what was loaded, for people: a list of ``{"name", "origin", "words"}``
+``start``        the machine before the first step: ``record``, an object with the fields of
+                 ``Record``, and ``memory``, its 65,536 words with the high byte first, compressed
+                 by zlib, in base64
+``keys``         a list of ``[time, byte]`` in order: each key with the clock at which it arrived,
+                 or is to arrive where that is not below the clock at the end
+``alterations``  what was altered from outside between two steps, in order: ``{"clock",
+                 "register", "value"}`` for a register, ``{"clock", "address", "words"}`` for words
+                 of memory, in hexadecimal digits, four each
+``steps``        the steps made
+``end``          the machine after them, to hold a replay against: ``record``; ``memory`` and
+                 ``display``, the SHA-256 in hexadecimal digits of the words with the high byte
+                 first and of the bytes shown; ``shown``, their number
+``typed``        typed text that has not arrived: ``bytes`` in base64, and ``look`` and ``since``,
+                 the clock at which the keyboard is looked at next and that of the last key
+
+What a machine does follows from its start, its keys and these alterations alone, so a replay comes
+to the same end in one run or in any pieces.
+"""
+
+from __future__ import annotations
+
+import base64
+import binascii
+import hashlib
+import json
+import zlib
+from array import array
+from dataclasses import asdict, dataclass, field
+from os import PathLike
+from pathlib import Path
+from sys import byteorder
+from typing import Any, Sequence, Union
+
+from ._library import RecordStruct
+from .constants import MAX_CLOCK, MAX_STEPS, MEMORY_WORDS
+from .log import LoggedStep
+from .machine import MEMORY_BYTES, Machine
+from .records import LONG_LIMIT, SHORT_FIELDS, WORD_LIMIT, Edition, Record, Refused, Stop, whole
+from .steps import NAMES
+
+FORMAT, FORMAT_VERSION = "lc3 sitting", 1
+
+# A longer file is taken for one that never ends.
+LONGEST = 1 << 28
+
+
+class RecordingError(ValueError):
+    """A file that is no recording of a sitting, or a replay that did not come to its end."""
+
+
+@dataclass(frozen=True)
+class Program:
+    """An object file that was loaded: its name, its origin and its number of words."""
+
+    name: str
+    origin: int
+    words: int
+
+
+@dataclass(frozen=True)
+class RegisterAlteration:
+    """A register that was set from outside, before the step of this clock."""
+
+    clock: int
+    register: str
+    value: int
+
+    def altered(self, record: RecordStruct) -> RecordStruct:
+        """A copy of the record with the register set; TIR begins to count, as after a store."""
+        copy = RecordStruct.from_buffer_copy(record)
+        place = NAMES[self.register]
+        if isinstance(place, int):
+            copy.regs[place] = self.value
+        else:
+            setattr(copy, place, self.value)
+        if self.register == "TIR":
+            copy.timer_count = self.value
+        return copy
+
+    def make(self, machine: Machine) -> None:
+        """Makes the alteration, or raises ``Refused`` where no run would take the record."""
+        record = self.altered(machine.record)
+        machine.accepts(record)
+        machine.record = record
+
+
+@dataclass(frozen=True)
+class WordsAlteration:
+    """Words of memory that were replaced from outside, before the step of this clock."""
+
+    clock: int
+    address: int
+    words: array[int]
+
+    def make(self, machine: Machine) -> None:
+        """Makes the alteration."""
+        machine.words[self.address : self.address + len(self.words)] = self.words
+
+
+Alteration = Union[RegisterAlteration, WordsAlteration]
+
+
+@dataclass(frozen=True)
+class Typed:
+    """Typed text that has not arrived, and when the keyboard is looked at next."""
+
+    text: bytes = b""
+    look: int = 0
+    since: int = 0
+
+
+@dataclass(frozen=True)
+class End:
+    """The end of a sitting: its record, and digests of its memory and its display."""
+
+    record: Record
+    memory: str
+    display: str
+    shown: int
+
+    @classmethod
+    def of(cls, machine: Machine) -> End:
+        """Where a machine stands."""
+        memory = hashlib.sha256(high_first(machine.words)).hexdigest()
+        display = hashlib.sha256(machine.output[: machine.shown]).hexdigest()
+        return cls(machine.plain_record(), memory, display, machine.shown)
+
+
+def high_first(words: array[int]) -> bytes:
+    """Words as bytes, the high byte first in each.
+
+    >>> high_first(array("H", [0x3000, 0xF025])).hex()
+    '3000f025'
+    """
+    copy = array("H", words)
+    if byteorder == "little":
+        copy.byteswap()
+    return copy.tobytes()
+
+
+def from_high_first(data: bytes) -> array[int]:
+    """The words of bytes with the high byte first in each.
+
+    >>> from_high_first(bytes.fromhex("3000f025")).tolist() == [0x3000, 0xF025]
+    True
+    """
+    words = array("H", data)
+    if byteorder == "little":
+        words.byteswap()
+    return words
+
+
+@dataclass(frozen=True)
+class Recording:
+    """A sitting from its start to its end. ``save`` and ``load`` write and read it as a file."""
+
+    edition: Edition
+    start: Record
+    memory: array[int]
+    keys: tuple[tuple[int, int], ...]
+    alterations: tuple[Alteration, ...]
+    end: End
+    typed: Typed = Typed()
+    programs: tuple[Program, ...] = field(default=())
+
+    @property
+    def steps(self) -> int:
+        """The steps from the start to the end."""
+        return self.end.record.clock - self.start.clock
+
+    def to_json(self) -> str:
+        """The text of the file."""
+        data = {
+            "format": FORMAT,
+            "version": FORMAT_VERSION,
+            "edition": int(self.edition),
+            "programs": [asdict(program) for program in self.programs],
+            "start": {
+                "record": asdict(self.start),
+                "memory": _base64(zlib.compress(high_first(self.memory), 9)),
+            },
+            "keys": [list(key) for key in self.keys],
+            "alterations": [_altered(alteration) for alteration in self.alterations],
+            "steps": self.steps,
+            "end": asdict(self.end),
+            "typed": {
+                "bytes": _base64(self.typed.text),
+                "look": self.typed.look,
+                "since": self.typed.since,
+            },
+        }
+        return json.dumps(data, indent=1) + "\n"
+
+    @classmethod
+    def from_json(cls, text: str | bytes) -> Recording:
+        """The recording of a file's text, or a ``RecordingError`` that says what is wrong in it.
+
+        >>> Recording.from_json("{}")
+        Traceback (most recent call last):
+        lc3.recording.RecordingError: no recording of a sitting: 'format' is missing
+        """
+        try:
+            return _recording(json.loads(text))
+        except (KeyError, TypeError, ValueError, RecursionError) as error:
+            problem = f"{error.args[0]!r} is missing" if isinstance(error, KeyError) else error
+            raise RecordingError(f"no recording of a sitting: {problem}") from None
+
+    def save(self, path: str | PathLike[str]) -> None:
+        """Writes the file."""
+        Path(path).write_text(self.to_json(), encoding="utf-8")
+
+    @classmethod
+    def load(cls, path: str | PathLike[str]) -> Recording:
+        """Reads a file; what is wrong with it is said with its name."""
+        with open(path, "rb") as stream:
+            text = stream.read(LONGEST + 1)
+        try:
+            if len(text) > LONGEST:
+                raise RecordingError(f"no recording of a sitting: over {LONGEST >> 20} MiB")
+            return cls.from_json(text)
+        except RecordingError as error:
+            raise RecordingError(f"{path}: {error}") from None
+
+
+def _base64(data: bytes) -> str:
+    """Bytes as text in base64."""
+    return base64.b64encode(data).decode("ascii")
+
+
+def _altered(alteration: Alteration) -> dict[str, Any]:
+    """An alteration as the file has it."""
+    if isinstance(alteration, RegisterAlteration):
+        return asdict(alteration)
+    words = high_first(alteration.words).hex()
+    return {"clock": alteration.clock, "address": alteration.address, "words": words}
+
+
+def _decoded(text: Any, name: str) -> bytes:
+    """The bytes of a text in base64."""
+    try:
+        return base64.b64decode(text, validate=True)
+    except (binascii.Error, TypeError, ValueError):
+        raise ValueError(f"{name} is not in base64") from None
+
+
+def _memory(text: Any) -> array[int]:
+    """The words of compressed memory."""
+    inflater = zlib.decompressobj()
+    try:
+        # One byte more than memory has is enough to know that there are too many.
+        data = inflater.decompress(_decoded(text, "memory"), MEMORY_BYTES + 1)
+    except zlib.error:
+        raise ValueError("memory is not compressed by zlib") from None
+    if len(data) != MEMORY_BYTES:
+        raise ValueError(f"memory is not {MEMORY_WORDS} words")
+    return from_high_first(data)
+
+
+def _record(data: Any) -> Record:
+    """A record of the file that a run takes."""
+    regs = [whole(value, WORD_LIMIT, "a register") for value in data["regs"]]
+    shorts = {name: whole(data[name], WORD_LIMIT, name) for name in SHORT_FIELDS}
+    record = Record(regs=regs, clock=whole(data["clock"], MAX_CLOCK, "clock"), **shorts)
+    _accepted(record.to_c())
+    return record
+
+
+def _accepted(record: RecordStruct) -> None:
+    """Nothing if a run takes the record, or a ``ValueError`` that says why not."""
+    try:
+        Machine(Edition.THIRD).accepts(record)
+    except Refused as refused:
+        raise ValueError(refused.text) from None
+
+
+def _alteration(data: Any) -> Alteration:
+    """An alteration of the file."""
+    clock = whole(data["clock"], MAX_CLOCK, "clock")
+    if "register" in data:
+        if data["register"] not in NAMES:
+            raise ValueError(f"{data['register']!r} is no register")
+        value = whole(data["value"], WORD_LIMIT, data["register"])
+        alteration = RegisterAlteration(clock, data["register"], value)
+        # Which bits a register has does not depend on the others.
+        _accepted(alteration.altered(RecordStruct()))
+        return alteration
+    address, digits = whole(data["address"], WORD_LIMIT, "address"), data["words"]
+    if not isinstance(digits, str) or len(digits) % 4:
+        raise ValueError("the words of an alteration have four hexadecimal digits each")
+    words = from_high_first(bytes.fromhex(digits))
+    if address + len(words) > MEMORY_WORDS:
+        raise ValueError("an alteration goes beyond the last word of memory")
+    return WordsAlteration(clock, address, words)
+
+
+def _in_order(clocks: Sequence[int], least: int, name: str) -> None:
+    """Nothing if the clocks are in order and none is below the least."""
+    for before, clock in zip([least, *clocks], clocks):
+        if clock < before:
+            raise ValueError(f"the {name} are not in order of time from the start on")
+
+
+def _recording(data: Any) -> Recording:
+    """The recording of a file's data. What is missing is a ``KeyError``, and what is wrong a
+    ``TypeError`` or ``ValueError``."""
+    if not isinstance(data, dict):
+        raise ValueError("it is not an object")
+    if data["format"] != FORMAT:
+        raise ValueError(f"its format is {data['format']!r}, not {FORMAT!r}")
+    if data["version"] != FORMAT_VERSION:
+        raise ValueError(f"its version is {data['version']!r}, and this is {FORMAT_VERSION}")
+    start, end, typed = data["start"], data["end"], data["typed"]
+    recording = Recording(
+        edition=Edition(data["edition"]),
+        start=_record(start["record"]),
+        memory=_memory(start["memory"]),
+        keys=tuple((whole(t, LONG_LIMIT, "time"), whole(k, 255, "key")) for t, k in data["keys"]),
+        alterations=tuple(_alteration(item) for item in data["alterations"]),
+        end=End(_record(end["record"]), end["memory"], end["display"], end["shown"]),
+        typed=Typed(
+            _decoded(typed["bytes"], "typed text"),
+            whole(typed["look"], MAX_CLOCK * 2, "look"),
+            whole(typed["since"], MAX_CLOCK, "since"),
+        ),
+        programs=tuple(Program(p["name"], p["origin"], p["words"]) for p in data["programs"]),
+    )
+    if recording.typed.look < recording.typed.since:
+        raise ValueError("the keyboard is not looked at before the last key")
+    _in_order([time for time, _ in recording.keys], recording.start.clock, "keys")
+    _in_order([a.clock for a in recording.alterations], recording.start.clock, "alterations")
+    if data["steps"] != recording.steps or recording.steps < 0:
+        raise ValueError("its steps are not those from its start to its end")
+    return recording
+
+
+def follow(
+    machine: Machine, alterations: Sequence[Alteration], until: int, logged_from: int
+) -> list[LoggedStep]:
+    """Runs a machine to a clock, makes each alteration at its time, and tells of the steps from
+    another clock on."""
+    steps: list[LoggedStep] = []
+    for alteration in [*alterations, None]:
+        goal = until if alteration is None else min(alteration.clock, until)
+        while machine.record.clock < min(goal, logged_from):
+            left = min(goal, logged_from) - machine.record.clock
+            if machine.advance(min(left, MAX_STEPS)) is not Stop.DONE:
+                raise RecordingError("the machine stops before the end of what is followed")
+        steps += machine.steps_logged(goal - machine.record.clock)
+        if alteration is not None:
+            alteration.make(machine)
+    return steps

@@ -1,0 +1,585 @@
+"""``Sitting``: a machine with its programs, keyboard and display, to run, stop, look at and replay.
+
+>>> hello = bytes.fromhex("3000 E002 F022 F025 0048 0069 000A 0000")
+>>> sitting = Sitting(hello)
+>>> report = sitting.run(10_000)
+>>> report.stop, sitting.display
+(<Stop.HALTED: 1>, 'Hi\\nHalted\\n')
+"""
+
+from __future__ import annotations
+
+import re
+from array import array
+from bisect import bisect_right
+from os import PathLike, fspath
+from typing import TYPE_CHECKING, Iterator, NamedTuple, Union
+
+from . import calls
+from .constants import KBSR_READY, MAX_CLOCK, MAX_STEPS, MCR_CLOCK, MEMORY_WORDS, USER_ORIGIN
+from .constants import USER_STACK
+from .interrupts import Held
+from .log import LoggedStep
+from .machine import Machine, Snapshot
+from .memory import Line, Memory
+from .recording import Alteration, End, Program, Recording, RecordingError, RegisterAlteration
+from .recording import Typed, WordsAlteration, follow
+from .records import LONG_LIMIT, WORD_LIMIT, Edition, Mode, Record, Refusal, Refused, Report
+from .records import Stop, whole
+from .steps import NAMES, TracedStep, value_of
+
+if TYPE_CHECKING:
+    from _typeshed import ReadableBuffer
+
+File = Union[str, "PathLike[str]", "ReadableBuffer"]
+
+# A longer file fits at no origin. No more of it is read, so that a host can be handed anything.
+LONGEST_FILE = 2 + 2 * MEMORY_WORDS + 2
+
+# Steps between two snapshots that the log of the last steps is made from.
+MARK_EVERY = 1 << 20
+
+# The first steps of a run with breakpoints that are made at once; they double from call to call.
+FIRST_SEARCH = 256
+
+# The steps of the longest loop that is taken for waiting.
+LONGEST_WAIT = 64
+
+# The steps after a key at which the keyboard is looked at for the first time.
+FIRST_LOOK = 32
+
+_BY_CAPITALS = {name.upper(): name for name in NAMES}
+_ADDRESS = re.compile(r"x([0-9A-F]{4})", re.IGNORECASE | re.ASCII)
+
+
+class Key(NamedTuple):
+    """A key and the clock at which it arrived."""
+
+    time: int
+    byte: int
+
+
+class Sitting:
+    """Memory, record, monitor, programs, keys and display in one object.
+
+    ``Sitting("hello.obj")`` has the ready-made monitor in memory, the file loaded, and a fresh
+    machine in User mode at the file's origin. Of several files the last one runs. Files are paths,
+    or buffers of bytes. ``pc`` sets another address to start at, ``stack`` the user's stack,
+    ``mode`` Supervisor mode, ``edition`` the rules of the book's second edition, and ``monitor``
+    may be left out. A file that is refused raises ``Refused``, which names it.
+
+    The ready-made monitor returns by RTI. By the second edition's rules a TRAP pushes nothing for
+    an RTI to return to, so there HALT is the only one of its routines that serves: a class that
+    uses that edition loads its monitor's object file before the program's.
+
+    **Keys.** ``type`` takes text. Its keys arrive one at a time, each only when the last one has
+    been read, that is when KBSR's ready bit is clear. The keyboard is looked at 32 steps after the
+    last key, and then after ever more steps, an eighth of those since that key; so when a key
+    arrives depends on the program and not on how a run is divided. ``press`` makes keys arrive at
+    given times instead, whether the last one was read or not. ``keys`` are those that arrived.
+
+    **Display.** ``display`` is all that was shown, as text with one character for each byte. It
+    grows as needed; with ``display_limit`` a run stops before the byte that is too many.
+
+    **Alterations.** ``sitting["R0"]`` and ``sitting.memory[0x3000]`` can be read and set between
+    runs. What is set after the first step is kept for the recording.
+
+    **Breakpoints.** ``breakpoints`` is a set of addresses. A run stops before the instruction at
+    one of them, and the run after that goes on with it.
+
+    **Recording.** ``save`` writes a file that ``replay`` and ``of`` make the same sitting of.
+
+    **Threads.** A sitting is for one thread at a time; several sittings may run at once, each in a
+    thread, since a call lets the other threads run.
+    """
+
+    def __init__(
+        self,
+        *files: File,
+        monitor: bool = True,
+        mode: Mode = Mode.USER,
+        pc: int | None = None,
+        stack: int = USER_STACK,
+        edition: int = Edition.THIRD,
+        display_limit: int | None = None,
+    ) -> None:
+        """Loads the files and starts a machine."""
+        self._machine = Machine(Edition(edition))
+        self.memory = Memory(self._machine.words, self._alter_words)
+        self.breakpoints: set[int] = set()
+        self.programs: list[Program] = []
+        self.stop = Stop.DONE
+        self._mode, self._stack = Mode.USER, USER_STACK
+        self._marks: list[tuple[Snapshot, int]] = []
+        self.display_limit = display_limit
+        if monitor:
+            calls.monitor(self._machine.words)
+        for file in files:
+            self.load(file)
+        self.start(pc, mode, stack)
+
+    # Loading and starting.
+
+    def load(self, file: File, name: str = "") -> Program:
+        """Loads an object file: a path, or the bytes themselves. The record stays as it is, so
+        ``start`` follows where the file is to run.
+
+        >>> Sitting().load(b"\\x30", name="half.obj")
+        Traceback (most recent call last):
+        lc3.records.Refused: half.obj: refused (17): the file has an odd number of bytes, or fewer \
+than two: an object file is an origin and words, of two bytes each
+        """
+        if isinstance(file, (str, PathLike)):
+            name = name or fspath(file)
+            with open(file, "rb") as stream:
+                file = stream.read(LONGEST_FILE)
+        try:
+            started = calls.start(file, self._machine.words, True, USER_STACK)
+        except Refused as refused:
+            raise Refused(refused.number, subject=name) from None
+        program = Program(name, started.record.pc, started.words)
+        if self._marks:
+            words = self._machine.words[program.origin : program.origin + program.words]
+            self._keep(WordsAlteration(self.clock, program.origin, words))
+        self.programs.append(program)
+        return program
+
+    def start(
+        self, pc: int | None = None, mode: Mode | None = None, stack: int | None = None
+    ) -> None:
+        """Starts anew over memory as it stands: a fresh record at ``pc``, or else at the origin of
+        the file that was loaded last, clock 0, an empty display and no keys. Mode and stack are
+        those of the last start unless they are given."""
+        origin = self.programs[-1].origin if self.programs else USER_ORIGIN
+        at = whole(origin if pc is None else pc, WORD_LIMIT, "pc")
+        mode = self._mode if mode is None else Mode(mode)
+        stack = self._stack if stack is None else stack
+        started = calls.start(at.to_bytes(2, "big"), self._machine.words, bool(mode), stack)
+        self._mode, self._stack = mode, stack
+        machine = self._machine
+        machine.record = started.record.to_c()
+        machine.times, machine.keys, machine.arrived = array("Q"), array("B"), 0
+        machine.shown = self._taken = 0
+        self._typed, self._look, self._since = bytearray(), 0, 0
+        self._left: Typed | None = None
+        self._left_until = 0
+        self._alterations: list[Alteration] = []
+        self._made = 0
+        self._marks = []
+        self._passed: tuple[int, int] | None = None
+        self.stop = Stop.DONE
+
+    # Looking at the machine, and altering it.
+
+    @property
+    def edition(self) -> Edition:
+        """The edition of the book by whose rules the machine runs."""
+        return self._machine.edition
+
+    @property
+    def record(self) -> Record:
+        """The record, as a copy."""
+        return self._machine.plain_record()
+
+    @property
+    def clock(self) -> int:
+        """The steps made."""
+        return self._machine.record.clock
+
+    @property
+    def halted(self) -> bool:
+        """Whether the machine is halted: MCR's clock enable is clear."""
+        return not self._machine.record.mcr & MCR_CLOCK
+
+    def __getitem__(self, name: str) -> int:
+        """The register of a name: R0 to R7, PC, PSR, Saved_SSP, Saved_USP, KBSR, KBDR, MCR, TSR or
+        TIR, in small letters or capitals; or the word of memory at an address as x3000.
+
+        >>> sitting = Sitting(pc=0x4000)
+        >>> sitting["R3"] = sitting["x4000"] = 7
+        >>> sitting["R3"], hex(sitting["pc"]), sitting["x4000"], sitting.memory[0x4000]
+        (7, '0x4000', 7, 7)
+        """
+        name = self._name(name)
+        if name in NAMES:
+            return value_of(self._machine.record, name)
+        return self.memory[int(name[1:], 16)]
+
+    def __setitem__(self, name: str, value: int | str) -> None:
+        """Sets a register or a word. A bit that a register does not have is refused with 12."""
+        name = self._name(name)
+        if name not in NAMES:
+            self.memory[int(name[1:], 16)] = value
+            return
+        change = RegisterAlteration(self.clock, name, whole(value, WORD_LIMIT, name))
+        change.make(self._machine)
+        self._keep(change)
+
+    @staticmethod
+    def _name(name: str) -> str:
+        """The name of a register as the book has it, or that of a word."""
+        if isinstance(name, str):
+            known = _BY_CAPITALS.get(name.upper())
+            if known or _ADDRESS.fullmatch(name):
+                return known or name
+        names = ", ".join(NAMES)
+        raise KeyError(f"{name!r} is no register; one of {names}, or an address as x3000")
+
+    def _alter_words(self, address: int, words: array[int]) -> None:
+        """Replaces words of memory."""
+        change = WordsAlteration(self.clock, address, words)
+        change.make(self._machine)
+        self._keep(change)
+
+    def _keep(self, alteration: Alteration) -> None:
+        """Keeps an alteration for the recording, which begins with the first step."""
+        if self._marks:
+            self._alterations.insert(self._made, alteration)
+            self._made += 1
+
+    def lines(self, first: int, count: int) -> list[Line]:
+        """The lines of a range of memory.
+
+        >>> print(*Sitting().lines(0x0204, 2), sep="\\n")
+        x0204  x1DBF  ADD R6, R6, #-1
+        x0205  x7380  STR R1, R6, #0
+        """
+        return self.memory.lines(first, count)
+
+    def here(self) -> Line:
+        """The word that PC points to, with its line."""
+        return self.lines(self["PC"], 1)[0]
+
+    # Keyboard and display.
+
+    def type(self, text: str | bytes) -> None:
+        """Types text; in a ``str`` each character is the key of its number, at most 255.
+
+        >>> echo = bytes.fromhex("3000 F020 F021 0FFD")
+        >>> sitting = Sitting(echo)
+        >>> sitting.type("ada")
+        >>> _ = sitting.run(1000)
+        >>> sitting.display, sitting.keys[0]
+        ('ada', Key(time=0, byte=97))
+        """
+        keys = text.encode("latin-1") if isinstance(text, str) else memoryview(text).tobytes()
+        # Who types at a replay departs from it.
+        self._left = None
+        if keys and not self._typed:
+            if not self._machine.record.kbsr & KBSR_READY:
+                self._look = self.clock
+            while self._look < self.clock:
+                self._put_off()
+        self._typed += keys
+
+    @property
+    def typed(self) -> bytes:
+        """Typed text whose time has not come."""
+        return bytes(self._typed)
+
+    def press(self, keys: bytes, at: int) -> None:
+        """Presses keys at a time on the clock, whether the ones before were read or not."""
+        pressed = memoryview(keys).tobytes()
+        if whole(at, LONG_LIMIT, "at") < self.clock:
+            raise Refused(Refusal.TIME)
+        machine = self._machine
+        place = bisect_right(machine.times, at, machine.arrived)
+        for key in reversed(pressed):
+            machine.times.insert(place, at)
+            machine.keys.insert(place, key)
+
+    @property
+    def keys(self) -> list[Key]:
+        """The keys that have arrived, with their times."""
+        machine = self._machine
+        arrived = slice(0, machine.arrived)
+        return [Key(*key) for key in zip(machine.times[arrived], machine.keys[arrived])]
+
+    def _put_off(self) -> None:
+        """Sets the time of the next look at the keyboard, further off the longer a key waits."""
+        self._look += max(FIRST_LOOK, (self._look - self._since) >> 3)
+
+    def _look_at_keyboard(self) -> None:
+        """Where it is time to look and the last key was read, the next one typed arrives."""
+        while self._typed and self._look <= self.clock:
+            if self._machine.record.kbsr & KBSR_READY:
+                self._put_off()
+                continue
+            self.press(self._typed[:1], self.clock)
+            del self._typed[0]
+            self._since, self._look = self.clock, self.clock + FIRST_LOOK
+
+    @property
+    def display(self) -> str:
+        """All that was shown, one character for each byte."""
+        return self.display_bytes.decode("latin-1")
+
+    @property
+    def display_bytes(self) -> bytes:
+        """All that was shown."""
+        return self._machine.output[: self._machine.shown].tobytes()
+
+    def take_display(self) -> bytes:
+        """What was shown since this was asked last: for a host that shows it as it comes."""
+        taken, self._taken = self._taken, self._machine.shown
+        return self._machine.output[taken : self._taken].tobytes()
+
+    @property
+    def display_limit(self) -> int | None:
+        """The most bytes that may be shown; without it the display grows as needed."""
+        return self._machine.limit
+
+    @display_limit.setter
+    def display_limit(self, limit: int | None) -> None:
+        """Sets the limit, or takes it away."""
+        self._machine.limit = None if limit is None else whole(limit, LONG_LIMIT, "display_limit")
+
+    # Running.
+
+    def run(self, steps: int | None = None) -> Report:
+        """Runs so many steps, or without a number until the machine stops of itself.
+
+        It stops earlier where the machine is halted, before an instruction at a breakpoint, or at
+        the limit of the display. Ctrl-C stops it between two steps: the sitting is whole then and
+        can go on, and the usual handler is called, which raises ``KeyboardInterrupt``. Where a
+        handler of the host's own raises nothing, the stop is ``INTERRUPTED``.
+
+        >>> sitting = Sitting(bytes.fromhex("3000 1021 0FFE"))
+        >>> sitting.breakpoints.add(0x3001)
+        >>> sitting.run().stop, sitting.here().text
+        (<Stop.BREAKPOINT: -1>, 'BRnzp #-2')
+        >>> sitting.run(3), sitting["R0"]
+        (Report(steps=2, keys=0, shown=0, stop=<Stop.BREAKPOINT: -1>), 2)
+        """
+        end = self._end(steps)
+        self._begin()
+        machine, begun = self._machine, self.clock
+        arrived, shown = machine.arrived, machine.shown
+        with Held() as held:
+            self.stop = self._go(end, held)
+        made = self.clock - begun
+        return Report(made, machine.arrived - arrived, machine.shown - shown, self.stop)
+
+    def step(self) -> Report:
+        """Makes one step, also at a breakpoint."""
+        self._passed = (self.clock, self["PC"])
+        return self.run(1)
+
+    def trace(self, steps: int | None = None) -> Iterator[TracedStep]:
+        """Runs as ``run`` does, a step at a time, and tells of each what it did. ``stop`` says at
+        the end why it is over.
+
+        >>> sitting = Sitting(bytes.fromhex("3000 1021 F021 F025"))
+        >>> for step in sitting.trace(2):
+        ...     print(step)
+             0  x3000  x1021  ADD R0, R0, #1    instruction  R0 x0000 -> x0001, PSR x8002 -> x8001
+             1  x3001  xF021  TRAP x21          trap  R6 xFDFF -> x2FFE, PC x3001 -> x0204, \
+PSR x8001 -> x0001, Saved_USP x0000 -> xFDFF, x2FFE x0000 -> x3002, x2FFF x0000 -> x8001
+        """
+        end = self._end(steps)
+        self._begin()
+        while True:
+            with Held():
+                step = self._trace_one(end)
+            if isinstance(step, Stop):
+                self.stop = step
+                return
+            yield step
+
+    def _trace_one(self, end: int) -> TracedStep | Stop:
+        """Makes the next step, or says why it is not made."""
+        self._settle()
+        if self.clock >= end:
+            return Stop.DONE
+        if self._at_breakpoint():
+            return Stop.BREAKPOINT
+        self._look_at_keyboard()
+        return self._machine.step_traced()
+
+    def _end(self, steps: int | None) -> int:
+        """The clock at which a run of so many steps is over."""
+        if steps is None:
+            return MAX_CLOCK
+        end = self.clock + whole(steps, LONG_LIMIT, "steps")
+        if end > MAX_CLOCK:
+            raise Refused(Refusal.STEPS)
+        return end
+
+    def _begin(self) -> None:
+        """Keeps the machine as it stands before the first step: there the recording begins."""
+        for address in self.breakpoints:
+            whole(address, WORD_LIMIT, "a breakpoint")
+        if not self._marks:
+            self._marks = [(self._machine.snapshot(), 0)]
+
+    def _go(self, end: int, held: Held) -> Stop:
+        """Runs to a clock, in as many calls as it takes, unless something stops it."""
+        machine, search = self._machine, FIRST_SEARCH
+        while True:
+            self._settle()
+            if self.clock >= end:
+                return Stop.DONE
+            if held.pressed:
+                return Stop.INTERRUPTED
+            if self._at_breakpoint():
+                return Stop.BREAKPOINT
+            self._look_at_keyboard()
+            n = self._reach(end)
+            if self.breakpoints:
+                stop = machine.advance_to(min(n, search), tuple(self.breakpoints))
+                search *= 2
+            else:
+                stop = machine.advance(n)
+            if stop not in (Stop.DONE, Stop.BREAKPOINT):
+                return stop
+
+    def _reach(self, end: int) -> int:
+        """The steps up to a clock, or to where something is to be done before."""
+        goal = min(end, self.clock + MAX_STEPS)
+        if self._typed:
+            goal = min(goal, self._look)
+        if self._made < len(self._alterations):
+            goal = min(goal, self._alterations[self._made].clock)
+        if self._left is not None:
+            goal = min(goal, self._left_until)
+        return goal - self.clock
+
+    def _at_breakpoint(self) -> bool:
+        """Whether to stop here: PC is at a breakpoint that no run has stopped at just now."""
+        here = (self.clock, self["PC"])
+        if here[1] not in self.breakpoints or here == self._passed:
+            return False
+        self._passed = here
+        return True
+
+    def _settle(self) -> None:
+        """Makes what a replay alters at this clock, and takes a snapshot where the last one is far
+        back."""
+        while self._made < len(self._alterations):
+            if self._alterations[self._made].clock > self.clock:
+                break
+            self._alterations[self._made].make(self._machine)
+            self._made += 1
+        if self._left is not None and self.clock >= self._left_until:
+            self._typed = bytearray(self._left.text)
+            self._look, self._since, self._left = self._left.look, self._left.since, None
+        if self.clock - self._marks[-1][0].clock >= MARK_EVERY:
+            self._marks.append((self._machine.snapshot(), self._made))
+            # The start is kept, and two more: the log may reach back beyond the last.
+            del self._marks[1:-2]
+
+    # The past.
+
+    def last_steps(self, count: int) -> list[LoggedStep]:
+        """The log of the last steps, at most so many. They are made once more, from a snapshot
+        that lies before them, on a machine of their own.
+
+        >>> sitting = Sitting(bytes.fromhex("3000 1021 0FFE"))
+        >>> _ = sitting.run(10_000_001)
+        >>> [hex(step.pc) for step in sitting.last_steps(2)]
+        ['0x3001', '0x3000']
+        """
+        whole(count, LONG_LIMIT, "count")
+        if not self._marks:
+            return []
+        first = max(self.clock - count, self._marks[0][0].clock)
+        snapshot, made = [mark for mark in self._marks if mark[0].clock <= first][-1]
+        twin = self._twin(snapshot)
+        return follow(twin, self._alterations[made : self._made], self.clock, first)
+
+    def _twin(self, snapshot: Snapshot) -> Machine:
+        """A machine of its own at a snapshot, with the same keys."""
+        machine, twin = self._machine, Machine(self.edition)
+        twin.times, twin.keys = machine.times[:], machine.keys[:]
+        twin.output = array("B", bytes(len(machine.output)))
+        twin.restore(snapshot)
+        return twin
+
+    def waits(self) -> bool:
+        """Whether the machine does nothing but wait for a key: it goes round and round in a few
+        steps, and nothing but a key can change that. A host that has none can let it be.
+
+        >>> sitting = Sitting(bytes.fromhex("3000 F020 F025"))
+        >>> sitting.waits(), sitting.run(100).stop, sitting.waits()
+        (False, <Stop.DONE: 0>, True)
+        """
+        machine = self._machine
+        if self._typed or self._left or machine.arrived < len(machine.times):
+            return False
+        twin = self._twin(machine.snapshot())
+        # A busy display counts its steps, and no record would come again.
+        twin.advance(twin.record.busy)
+        state, shown, words = twin.state(), twin.shown, twin.words.tobytes()
+        for _ in range(LONGEST_WAIT):
+            if twin.advance(1) is not Stop.DONE or twin.shown != shown:
+                return False
+            if twin.state() == state and twin.words.tobytes() == words:
+                return True
+        return False
+
+    # Recordings.
+
+    def recording(self) -> Recording:
+        """The sitting so far as a recording: see ``lc3.recording``."""
+        self._begin()
+        machine, left = self._machine, self._left
+        begun = Machine(self.edition)
+        begun.restore(self._marks[0][0])
+        return Recording(
+            edition=self.edition,
+            start=begun.plain_record(),
+            memory=begun.words,
+            keys=tuple(zip(machine.times, machine.keys)),
+            alterations=tuple(self._alterations),
+            end=End.of(machine),
+            typed=left or Typed(bytes(self._typed), self._look, self._since),
+            programs=tuple(self.programs),
+        )
+
+    def save(self, path: str | PathLike[str]) -> None:
+        """Writes the sitting so far as a file: see ``lc3.recording``."""
+        self.recording().save(path)
+
+    @classmethod
+    def of(cls, recording: Recording | str | PathLike[str]) -> Sitting:
+        """A sitting at the start of a recording or of a file: its keys and alterations come at
+        their times, however it is run. Beyond the recording's end it goes on as any other.
+
+        >>> echo = Sitting(bytes.fromhex("3000 F020 F021 0FFD"))
+        >>> echo.type("ada")
+        >>> _ = echo.run(1000)
+        >>> again = Sitting.of(echo.recording())
+        >>> again.run(400).steps, again.run(600).steps, again.display
+        (400, 600, 'ada')
+        """
+        if not isinstance(recording, Recording):
+            recording = Recording.load(recording)
+        sitting = cls(monitor=False, edition=recording.edition)
+        machine = sitting._machine
+        machine.record, machine.words[:] = recording.start.to_c(), recording.memory
+        machine.times = array("Q", [time for time, _ in recording.keys])
+        machine.keys = array("B", [key for _, key in recording.keys])
+        sitting.programs = list(recording.programs)
+        sitting._begin()
+        sitting._alterations = list(recording.alterations)
+        sitting._left, sitting._left_until = recording.typed, recording.end.record.clock
+        return sitting
+
+    @classmethod
+    def replay(cls, recording: Recording | str | PathLike[str]) -> Sitting:
+        """Replays a recording or a file to its end, and answers the sitting there, to look at or
+        to go on with; or a ``RecordingError`` that says in what it came to another end."""
+        if not isinstance(recording, Recording):
+            recording = Recording.load(recording)
+        sitting = cls.of(recording)
+        report = sitting.run(recording.steps)
+        end, came = recording.end, End.of(sitting._machine)
+        if report.stop is not Stop.DONE:
+            raise RecordingError(
+                f"the replay stops after {report.steps} of {recording.steps} steps: "
+                f"{report.stop.text}"
+            )
+        for name in ("record", "memory", "display", "shown"):
+            if getattr(came, name) != getattr(end, name):
+                raise RecordingError(f"the replay comes to another {name} than the recording")
+        return sitting

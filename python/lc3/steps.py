@@ -1,0 +1,163 @@
+"""What one step did: by which rule it was made, and which registers and words it changed."""
+
+from __future__ import annotations
+
+from array import array
+from dataclasses import dataclass
+from typing import Iterable, Sequence
+
+from ._library import RecordStruct
+from .calls import read
+from .constants import ADDRESS_DDR, ADDRESS_DSR, ADDRESS_KBDR, ADDRESS_KBSR, ADDRESS_MCR
+from .constants import ADDRESS_PSR, ADDRESS_TIR, ADDRESS_TSR, KBSR_READY, MEMORY_WORDS
+from .constants import PSR_PRIORITY, PSR_USER, TSR_READY
+from .log import LoggedStep
+from .records import Kind, Reason
+
+# The registers of the record under the names of the book. What only counts steps is left out.
+NAMES: dict[str, int | str] = {
+    **{f"R{number}": number for number in range(8)},
+    "PC": "pc",
+    "PSR": "psr",
+    "Saved_SSP": "saved_ssp",
+    "Saved_USP": "saved_usp",
+    "KBSR": "kbsr",
+    "KBDR": "kbdr",
+    "MCR": "mcr",
+    "TSR": "timer_status",
+    "TIR": "timer_interval",
+}
+
+# The bytes of a record's fields of 16 bits, which stand before its clock.
+SHORT_BYTES = RecordStruct.timer_count.offset + 2
+
+# The place of each register among them.
+_PLACES = {
+    name: place if isinstance(place, int) else getattr(RecordStruct, place).offset // 2
+    for name, place in NAMES.items()
+}
+
+# The opcodes of ST, STR and STI.
+STORES = (3, 7, 11)
+
+DEVICES = {
+    ADDRESS_KBSR,
+    ADDRESS_KBDR,
+    ADDRESS_DSR,
+    ADDRESS_DDR,
+    ADDRESS_TSR,
+    ADDRESS_TIR,
+    ADDRESS_PSR,
+    ADDRESS_MCR,
+}
+
+
+def value_of(record: RecordStruct, name: str) -> int:
+    """The register of a record that has one of the ``NAMES``."""
+    place = NAMES[name]
+    return record.regs[place] if isinstance(place, int) else getattr(record, place)
+
+
+def reason_by_second(record: RecordStruct, word: int, key_arrived: bool) -> Reason:
+    """The reason of a step by the second edition's rules: from the record before it, the word at
+    PC, and whether a key arrived in it. They know no access exception, and a TRAP is no entry but
+    an instruction, obeyed to its end.
+
+    The keys of its time arrive and the timer counts before a step asks for interrupts (M5, M24).
+    """
+    priority = (record.psr & PSR_PRIORITY) >> 8
+    passed = TSR_READY if record.timer_interval and record.timer_count == 1 else 0
+    if record.timer_status | passed >= 0xC000 and priority < 6:
+        return Reason.TIMER
+    if record.kbsr | (KBSR_READY if key_arrived else 0) >= 0xC000 and priority < 4:
+        return Reason.KEYBOARD
+    opcode = word >> 12
+    if opcode == 8 and record.psr & PSR_USER:
+        return Reason.PRIVILEGE
+    return Reason.ILLEGAL if opcode == 13 else Reason.INSTRUCTION
+
+
+def logged_by_second(record: RecordStruct, word: int, key_arrived: bool) -> tuple[int, int, int]:
+    """The three words of a log for a step by the second edition's rules."""
+    reason = reason_by_second(record, word, key_arrived)
+    fetched = reason not in (Reason.KEYBOARD, Reason.TIMER)
+    return record.pc, word if fetched else 0, reason
+
+
+@dataclass(frozen=True)
+class Change:
+    """A register or a word of memory that a step changed, as ``R0`` or ``x3000``."""
+
+    name: str
+    before: int
+    after: int
+
+    def __str__(self) -> str:
+        """The name and both values.
+
+        >>> print(Change("R0", 1, 2))
+        R0 x0001 -> x0002
+        """
+        return f"{self.name} x{self.before:04X} -> x{self.after:04X}"
+
+
+@dataclass(frozen=True)
+class TracedStep(LoggedStep):
+    """One step with all that it did.
+
+    ``clock`` is the step's number. ``changes`` are the registers and words that are not what they
+    were, PC only where it is not simply the next address. ``keys`` are the bytes that arrived and
+    ``shown`` the byte that was shown, if any.
+    """
+
+    clock: int
+    changes: tuple[Change, ...]
+    keys: bytes
+    shown: bytes
+
+    def __str__(self) -> str:
+        """The step as one line of a log.
+
+        >>> print(TracedStep(0x3000, 0xF021, Reason.TRAP, 7, (Change("R6", 0, 1),), b"a", b""))
+             7  x3000  xF021  TRAP x21          trap  R6 x0000 -> x0001, key 'a'
+        """
+        did = [str(change) for change in self.changes]
+        did += [f"key {repr(bytes([key]))[1:]}" for key in self.keys]
+        did += [f"shows {repr(self.shown)[1:]}"] if self.shown else []
+        return f"{self.clock:>6}  {super().__str__()}  {', '.join(did)}".rstrip()
+
+
+def may_replace(record: RecordStruct, words: Sequence[int]) -> Iterable[int]:
+    """Addresses among which are all those whose words the next step may replace.
+
+    An entry pushes two words on the supervisor's stack; a store replaces one word.
+    """
+    stack = record.saved_ssp if record.psr & PSR_USER else record.regs[6]
+    pushed = {(stack - 1) & 0xFFFF, (stack - 2) & 0xFFFF}
+    word = words[record.pc]
+    if word >> 12 not in STORES:
+        return pushed
+    instruction = read(word).instruction
+    near = (record.pc + 1 + instruction.value) & 0xFFFF
+    if instruction.kind is Kind.ST:
+        return pushed | {near}
+    if instruction.kind is Kind.STR:
+        return pushed | {(record.regs[instruction.b] + instruction.value) & 0xFFFF}
+    # A pointer out of a device register may be a key that arrives in this very step.
+    return range(MEMORY_WORDS) if near in DEVICES else pushed | {words[near]}
+
+
+def changes(
+    before: RecordStruct, after: RecordStruct, old: dict[int, int], words: array[int]
+) -> tuple[Change, ...]:
+    """What is not as it was: registers in the order of ``NAMES``, then words by address. ``old``
+    are words that may have been replaced, as they were."""
+    found = []
+    was, now = (array("H", bytes(record)[:SHORT_BYTES]) for record in (before, after))
+    for name, at in _PLACES.items():
+        if was[at] != now[at] and not (name == "PC" and now[at] == (was[at] + 1) & 0xFFFF):
+            found.append(Change(name, was[at], now[at]))
+    for address in sorted(old):
+        if old[address] != words[address]:
+            found.append(Change(f"x{address:04X}", old[address], words[address]))
+    return tuple(found)

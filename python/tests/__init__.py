@@ -1,0 +1,11 @@
+"""Tests of the package: ``python3 -m unittest discover -s python/tests -t python``.
+
+The library is that of the source tree, unless ``LC3_LIBRARY`` names another.
+"""
+
+import os
+from pathlib import Path
+
+ROOT = Path(__file__).resolve().parent.parent.parent
+
+os.environ.setdefault("LC3_LIBRARY", str(ROOT / "build" / "liblc3.so"))

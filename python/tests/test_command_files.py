@@ -1,0 +1,151 @@
+"""Hostile files: each is refused in one line that names it, and no traceback is ever seen."""
+
+from __future__ import annotations
+
+import errno
+import os
+import random
+import unittest
+from pathlib import Path
+from unittest import mock
+
+from lc3.command.files import other_format
+
+from .command_support import HELLO, Folder, Ran, ran
+from .support import object_file
+
+TEXT = b".ORIG x3000\nLEA R0, HELLO\nPUTS\nHALT\nHELLO .STRINGZ \"Hi\"\n.END\n"
+
+
+class Hostile(Folder):
+    """Files that are no object files."""
+
+    def hostile(self) -> dict[Path, str]:
+        """The files, and what is said of each."""
+        link = self.folder / "circle.obj"
+        link.symlink_to(link)
+        return {
+            self.file("empty.obj", b""): "refused (17)",
+            self.file("one.obj", b"\x30"): "refused (17)",
+            self.file("odd.obj", HELLO + b"\x00"): "refused (17)",
+            self.file("long.obj", b"\x30\x00" + bytes(2 * 0xD000 + 2)): "refused (18)",
+            self.file("longer.obj", bytes(1 << 20)): "refused (18)",
+            self.file("high.obj", b"\xFF\xFF" + bytes(4)): "refused (18)",
+            self.file("hello.asm", TEXT): "it is text",
+            self.file("accents.asm", TEXT + "; sí, señor\n".encode()): "it is text",
+            self.file("hello.bin", b"0011000000000000\n1111000000100101\n"): "it is text",
+            self.file("elf", b"\x7fELF\x02\x01\x01" + bytes(200)): "ELF",
+            self.folder: "it is a directory",
+            self.folder / "none.obj": "no such file",
+            self.file("file", HELLO) / "below.obj": "no such file",
+            self.folder / ("n" * 300): "name is too long",
+            link: "symbolic links",
+            Path("/dev/zero"): "refused (18)",
+            Path("/dev/null"): "refused (17)",
+        }
+
+    def check(self, done: Ran, path: Path, said: str) -> None:
+        """That a refusal is one line that names the file, and nothing else is written."""
+        self.assertEqual((done.code, done.out), (3, b""), (path, done))
+        self.assertEqual(done.err.count("\n"), 1, done.err)
+        self.assertTrue(done.err.startswith(f"lc3: {path}: "), done.err)
+        self.assertIn(said, done.err)
+
+    def test_every_command(self) -> None:
+        good = self.file("good.obj", HELLO)
+        for path, said in self.hostile().items():
+            self.check(ran("run", path), path, said)
+            self.check(ran("run", path, good), path, said)
+            self.check(ran("run", good, path), path, said)
+            self.check(ran("list", path), path, said)
+            self.check(ran("log", path), path, said)
+            self.check(ran("log", "--last", 3, path), path, said)
+
+    def test_keys_sittings_and_cases(self) -> None:
+        good, folder = self.file("good.obj", HELLO), self.folder
+        sitting = self.folder / "sitting.json"
+        self.assertEqual(ran("run", "--save-sitting", sitting, good).code, 0)
+        altered = sitting.read_text().replace('"shown": 10', '"shown": 11')
+        cut = self.file("cut.json", sitting.read_bytes()[:1000])
+        changed = self.file("changed.json", altered)
+        for arguments, said in (
+            (("run", "--keys", f"@{folder}", good), f"--keys: {folder}: it is a directory"),
+            (("run", "--keys", "@", good), "no such file"),
+            (("run", "--save-sitting", folder, good), f"{folder}: it is a directory"),
+            (("run", "--save-sitting", folder / "a" / "b", good), "no such file"),
+            (("run", "--replay", folder), f"{folder}: it is a directory"),
+            (("run", "--replay", folder / "none"), "no such file"),
+            (("run", "--replay", good), f"{good}: no recording of a sitting"),
+            (("run", "--replay", cut), f"{cut}: no recording of a sitting"),
+            (("log", "--replay", cut), "name a file that --save-sitting wrote"),
+            (("mark", "--cases", folder / "none", good), "no such file"),
+            (("mark", "--cases", good, good), f"{good}: no cases: it is not JSON"),
+            (("run", "--replay", "/dev/zero"), "/dev/zero: no recording of a sitting: over"),
+            (("run", "--keys", "@/dev/zero", good), "/dev/zero: refused: it is longer than"),
+            (("mark", "--cases", "/dev/zero", good), "/dev/zero: refused: it is longer than"),
+        ):
+            code, out, err = ran(*arguments)
+            self.assertEqual((code, out, err.count("\n")), (3, b"", 1), (arguments, err))
+            self.assertIn(said, err)
+        code, out, err = ran("run", "--replay", changed)
+        self.assertEqual((code, out), (3, b"Hi\nHalted\n"))
+        self.assertIn("the replay comes to another shown than the sitting", err)
+
+    def test_no_permission(self) -> None:
+        secret = self.file("secret.obj", HELLO)
+        denied = PermissionError(errno.EACCES, "Permission denied", str(secret))
+        with mock.patch("lc3.command.files.open", side_effect=denied, create=True):
+            self.check(ran("list", secret), secret, "permission denied")
+
+    @unittest.skipIf(os.geteuid(), "only root can become another user")
+    def test_no_permission_of_the_system(self) -> None:
+        secret = self.file("secret.obj", HELLO)
+        secret.chmod(0)
+        self.folder.chmod(0o755)
+        self.assertEqual(ran("list", secret).code, 0)
+        os.seteuid(65534)
+        try:
+            self.check(ran("list", secret), secret, "permission denied")
+            self.check(ran("run", secret), secret, "permission denied")
+            self.check(ran("log", secret), secret, "permission denied")
+        finally:
+            os.seteuid(0)
+
+    def test_names_that_are_no_text(self) -> None:
+        name = os.fsdecode(os.fsencode(str(self.folder)) + b"/\xff\xfe.obj")
+        Path(name).write_bytes(HELLO)
+        self.assertEqual(ran("run", name)[:2], (0, b"Hi\nHalted\n"))
+        self.assertIn(b"\\udcff", ran("list", name, name).out)
+        code, _, err = ran("run", name + "x")
+        self.assertEqual((code, "\\udcff" in err), (3, True))
+        sitting = self.folder / "sitting.json"
+        self.assertEqual(ran("run", "--save-sitting", sitting, name).code, 0)
+        self.assertEqual(ran("run", "--replay", sitting).code, 0)
+        self.file("cases/a.expected", "Hi\nHalted\n")
+        for form in ((), ("--json",), ("--csv",), ("--one",)):
+            self.assertEqual(ran("mark", "--cases", self.folder / "cases", *form, name).code, 0)
+
+    def test_random_files_end_in_a_code(self) -> None:
+        rng = random.Random(3)
+        for _ in range(150):
+            path = self.file("random.obj", rng.randbytes(rng.choice([0, 1, 2, 3, 7, 40, 600])))
+            code, _, err = ran("run", "--steps", 500, "--keys", "abc", path)
+            self.assertIn(code, (0, 1, 3))
+            self.assertEqual((err.count("\n"), err[:5]), (1, "lc3: "))
+
+
+class Formats(unittest.TestCase):
+    """What is taken for another format."""
+
+    def test_object_files_are_not(self) -> None:
+        rng = random.Random(4)
+        for _ in range(200):
+            words = [rng.getrandbits(16) for _ in range(rng.randrange(4, 60))]
+            self.assertEqual(other_format(object_file(0x3000, *words)), "")
+        # A few words of printable bytes alone are no text yet.
+        self.assertEqual(other_format(object_file(0x3030, 0x3131, 0x4142)), "")
+        self.assertEqual(other_format(HELLO), "")
+
+    def test_texts_are(self) -> None:
+        for text in (TEXT, b"hello world\r\n", "Grüße aus dem Süden\n".encode()):
+            self.assertIn("it is text", other_format(text))

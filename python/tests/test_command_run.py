@@ -1,0 +1,270 @@
+"""``lc3 run``: every option, piped keys, exit codes, and the line at the end."""
+
+from __future__ import annotations
+
+import os
+import signal
+import subprocess
+import time
+
+import lc3
+
+from .command_support import ENDLESS, ENVIRONMENT, HELLO, PYTHON, UNTIL_Q, Folder, process, ran
+from .support import COUNTING, ECHO, object_file
+
+
+class Running(Folder):
+    """Programs in this process."""
+
+    def test_hello(self) -> None:
+        hello = self.file("hello.obj", HELLO)
+        code, out, err = ran("run", hello)
+        self.assertEqual((code, out), (0, b"Hi\nHalted\n"))
+        self.assertEqual(err, "lc3: the machine is halted; 152 steps; PC x027E: BRnzp #-3\n")
+
+    def test_the_last_file_runs(self) -> None:
+        hello, count = self.file("hello.obj", HELLO), self.file("count.obj", COUNTING)
+        other = self.file("other.obj", object_file(0x4000, "TRAP x25"))
+        self.assertEqual(ran("run", count, other)[:2], (0, b"Halted\n"))
+        self.assertEqual(ran("run", other, hello)[:2], (0, b"Hi\nHalted\n"))
+
+    def test_steps(self) -> None:
+        count = self.file("count.obj", COUNTING)
+        for steps, line in ((0, "ADD R0, R0, #1"), (1, "BRnzp #-2"), (5_000_000, "ADD R0, R0, #1")):
+            code, out, err = ran("run", "--steps", steps, count)
+            made = "1 step" if steps == 1 else f"{steps} steps"
+            pc = 0x3000 + steps % 2
+            said = f"lc3: all steps asked for were made; {made}; PC x{pc:04X}: {line}\n"
+            self.assertEqual((code, out, err), (1, b"", said))
+        self.assertIn("; 1000000 steps;", ran("run", "--steps", "1_000_000", count).err)
+
+    def test_a_halt_in_the_last_step(self) -> None:
+        hello = self.file("hello.obj", HELLO)
+        self.assertEqual(ran("run", "--steps", 152, hello).code, 0)
+        self.assertEqual(ran("run", "--steps", 151, hello).code, 1)
+
+    def test_keys_as_text_and_from_a_file(self) -> None:
+        program = self.file("until.obj", UNTIL_Q)
+        every = bytes(byte for byte in range(256) if byte != ord("q")) + b"q"
+        keys = self.file("keys", every)
+        self.assertEqual(ran("run", "--keys", "adaq", program).out, b"adaqHalted\n")
+        self.assertEqual(ran("run", "--keys", f"@{keys}", program).out, every + b"Halted\n")
+        # What is given is taken in the place of the pipe.
+        self.assertEqual(ran("run", "--keys", "q", program, keys=b"zz").out, b"qHalted\n")
+
+    def test_keys_of_a_pipe(self) -> None:
+        program = self.file("until.obj", UNTIL_Q)
+        self.assertEqual(ran("run", program, keys=b"hello\nq")[:2], (0, b"hello\nqHalted\n"))
+
+    def test_the_end_of_the_keys(self) -> None:
+        program = self.file("until.obj", UNTIL_Q)
+        for given in ({"keys": b"ab"}, {}):
+            code, out, err = ran("run", program, **given)
+            self.assertEqual((code, out), (1, given.get("keys", b"")))
+            self.assertIn("the program does nothing but wait, and no more keys come; ", err)
+            self.assertIn("; PC x020", err)
+
+    def test_a_loop_that_nothing_ends(self) -> None:
+        endless, until = self.file("endless.obj", ENDLESS), self.file("until.obj", UNTIL_Q)
+        self.assertIn("nothing but wait, and no more keys come", ran("run", endless).err)
+        # Steps that are asked for are made, to the last.
+        for path in (endless, until):
+            for keys in (b"", b"ab"):
+                for steps in (0, 300, 40_000):
+                    code, _, err = ran("run", "--steps", steps, path, keys=keys)
+                    said = f"lc3: all steps asked for were made; {steps} steps; "
+                    self.assertEqual((code, err[: len(said)]), (1, said))
+        rows = ran("log", "--steps", 700, until, keys=b"a").out.decode().splitlines()
+        self.assertEqual((len(rows), rows[-1].split()[0]), (701, "699"))
+
+    def test_a_program_that_polls_gets_its_keys(self) -> None:
+        # In Supervisor mode: R1 counts, until KBSR is negative; then KBDR is shown and it halts.
+        words = ["ADD R1, R1, #1", "LDI R0, #5", "BRzp #-3", "LDI R0, #4", "STI R0, #4"]
+        words += ["TRAP x25", 0, 0xFE00, 0xFE02, 0xFE06]
+        program = self.file("poll.obj", object_file(0x3000, *words))
+        code, out, _ = ran("run", "--supervisor", program, keys=b"k")
+        self.assertEqual((code, out), (0, b"kHalted\n"))
+
+    def test_supervisor(self) -> None:
+        # A load from x0000 is an access exception in User mode only.
+        program = self.file("load.obj", object_file(0x3000, "LDR R0, R0, #0", "TRAP x25"))
+        self.assertEqual(ran("run", program)[:2], (0, b""))
+        self.assertEqual(ran("run", "--supervisor", program)[:2], (0, b"Halted\n"))
+
+    def test_pc_and_stack(self) -> None:
+        hello = self.file("hello.obj", HELLO)
+        for text in ("x3002", "0x3002", "X3002", "#12290"):
+            self.assertEqual(ran("run", "--pc", text, hello).out, b"Halted\n")
+        err = ran("run", "--steps", 0, "--registers", "--stack", "x5000", hello).err
+        self.assertIn("R6 x5000", err)
+
+    def test_no_monitor(self) -> None:
+        # A monitor whose HALT stores to MCR, in a file of its own.
+        monitor = self.file("monitor.obj", object_file(0x25, 0x1000))
+        routine = self.file("halt.obj", object_file(0x1000, "AND R0, R0, #0", "STI R0, #0", 0xFFFE))
+        hello = self.file("halt-only.obj", object_file(0x3000, "TRAP x25"))
+        self.assertEqual(ran("run", "--no-monitor", monitor, routine, hello)[:2], (0, b""))
+        code, _, err = ran("run", "--no-monitor", "--steps", 1, hello)
+        self.assertEqual((code, "PC x0000" in err), (1, True))
+
+    def test_edition_2(self) -> None:
+        hello = self.file("hello.obj", HELLO)
+        code, out, err = ran("run", "--edition", 2, hello)
+        self.assertEqual((code, out), (2, b""))
+        self.assertIn("add --no-monitor", err)
+        self.assertEqual(ran("run", "--edition", 3, hello).code, 0)
+        # LEA sets the codes by the second edition's rules alone.
+        for edition, psr in ((2, "PSR x8001"), (3, "PSR x8002")):
+            options = ("--edition", edition, "--no-monitor", "--steps", 1, "--registers")
+            self.assertIn(psr, ran("run", *options, hello).err)
+
+    def test_registers(self) -> None:
+        count = self.file("count.obj", COUNTING)
+        err = ran("run", "--steps", 10, "--registers", count).err
+        self.assertIn("R0 x0005      5", err)
+        self.assertIn("PC x3000  ADD R0, R0, #1", err)
+        self.assertTrue(err.splitlines()[-1].startswith("lc3: all steps asked for were made"))
+
+    def test_all_bytes_of_the_display(self) -> None:
+        # Shows R0 from 0 to 255, waiting for DSR each time.
+        words = ["LDI R2, #7", "BRzp #-2", "STI R0, #6", "ADD R0, R0, #1", "LD R3, #5"]
+        words += ["ADD R3, R0, R3", "BRn #-7", "TRAP x25", 0xFE04, 0xFE06, -256 & 0xFFFF]
+        program = self.file("bytes.obj", object_file(0x3000, *words))
+        code, out, _ = ran("run", "--supervisor", program)
+        self.assertEqual((code, out), (0, bytes(range(256)) + b"Halted\n"))
+
+
+class WrongUse(Folder):
+    """Command lines that can't be obeyed: exit code 2 and what to do."""
+
+    def test_options(self) -> None:
+        hello, sitting = self.file("hello.obj", HELLO), self.folder / "sitting.json"
+        ran("run", "--save-sitting", sitting, hello)
+        for arguments, said in (
+            ((), "COMMAND"),
+            (("walk",), "invalid choice"),
+            (("run",), "no file is named"),
+            (("log",), "no file is named"),
+            (("list",), "FILE.obj"),
+            (("mark", hello), "--cases"),
+            (("run", "--steps", "many", hello), "'many' is no number"),
+            (("run", "--steps", "-1", hello), "--steps"),
+            (("run", "--steps", str(2**48 + 1), hello), "no number from 0"),
+            (("run", "--steps", "9" * 100, hello), "no number from 0"),
+            (("run", "--pc", "3000", hello), "write x0000 to xFFFF"),
+            (("run", "--pc", "x10000", hello), "is no address"),
+            (("run", "--stack", "R6", hello), "is no address"),
+            (("run", "--edition", "4", hello), "invalid choice"),
+            (("run", "--super", hello), "--super"),
+            (("run", "--save-sitting", hello, hello), "would overwrite"),
+            (("run", "--save-sitting", hello, "--keys", f"@{hello}", hello), "would overwrite"),
+            (("run", "--save-sitting", sitting, "--replay", sitting), "would overwrite"),
+            (("run", "--replay", "s", hello), "leave out object files"),
+            (("run", "--replay", "s", "--keys", "a", "--pc", "x1"), "leave out --keys and --pc"),
+            (("run", "--replay", "s", "--stack", "x1"), "leave out --stack"),
+            (("mark", "--cases", "c", "--jobs", "0", hello), "number of processes"),
+            (("mark", "--cases", "c", "--json", "--csv", hello), "not allowed with"),
+        ):
+            code, out, err = ran(*arguments)
+            self.assertEqual((code, out), (2, b""), arguments)
+            self.assertIn(said, err)
+            self.assertNotIn("Traceback", err)
+
+    def test_help_has_an_example(self) -> None:
+        for command in ("run", "list", "log", "mark"):
+            code, out, err = ran(command, "--help")
+            self.assertEqual((code, err), (0, ""))
+            self.assertIn(f"  lc3 {command} ", out.decode())
+            self.assertIn("exit codes", out.decode())
+        self.assertEqual(ran("--help").code, 0)
+        self.assertIn(str(lc3.VERSION), ran("--version").out.decode())
+
+
+class Processes(Folder):
+    """What only a process of its own shows: closed streams, pipes and signals."""
+
+    def test_keys_that_come_late(self) -> None:
+        program = self.file("until.obj", UNTIL_Q)
+        with subprocess.Popen(
+            [*PYTHON, "run", str(program)],
+            stdin=subprocess.PIPE,
+            stdout=subprocess.PIPE,
+            stderr=subprocess.PIPE,
+            env=ENVIRONMENT,
+        ) as running:
+            for key in b"abq":
+                # Each key is answered at once, before the next one is there.
+                os.write(running.stdin.fileno(), bytes([key]))
+                self.assertEqual(os.read(running.stdout.fileno(), 1), bytes([key]))
+            self.assertEqual(running.stdout.read(), b"Halted\n")
+            self.assertIn(b"the machine is halted", running.stderr.read())
+            self.assertEqual(running.wait(20), 0)
+
+    def test_closed_streams_and_a_full_disk(self) -> None:
+        hello, echo = self.file("hello.obj", HELLO), self.file("echo.obj", ECHO)
+        lc3_run = f"{PYTHON[0]} -m lc3 run"
+        for line, code, said in (
+            (f"{lc3_run} {echo} <&-", 1, "no more keys come"),
+            (f"{lc3_run} {hello} >&-", 0, "is halted"),
+            (f"{lc3_run} {hello} 2>&-", 0, ""),
+            (f"{lc3_run} {hello} >/dev/full", 3, "standard output: no space is left"),
+            (f"{lc3_run} {echo} < {hello}", 1, "no more keys come"),
+            (f"{lc3_run} {echo} <&- >&- 2>&-", 1, ""),
+            (f"{PYTHON[0]} -m lc3 list {hello} >/dev/full", 3, "standard output: no space is left"),
+            (f"{PYTHON[0]} -m lc3 list {hello} >&-", 0, ""),
+        ):
+            ended = subprocess.run(["sh", "-c", line], env=ENVIRONMENT, capture_output=True)
+            self.assertEqual(ended.returncode, code, line)
+            self.assertIn(said, ended.stderr.decode())
+            self.assertNotIn(b"Traceback", ended.stderr)
+
+    def test_a_reader_that_goes_away(self) -> None:
+        # Shows R0 for ever.
+        flood = self.file("flood.obj", object_file(0x3000, "TRAP x21", "BRnzp #-2"))
+        for command in ("run", "log"):
+            line = f"{PYTHON[0]} -m lc3 {command} {flood} | head -c 3 >/dev/null"
+            ended = subprocess.run(
+                ["bash", "-c", f"set -o pipefail; {line}"], env=ENVIRONMENT, capture_output=True
+            )
+            self.assertEqual(ended.returncode, 1)
+            self.assertIn(b"nobody reads the display any more; ", ended.stderr)
+            self.assertNotIn(b"Error", ended.stderr)
+        # A listing is longer than what a pipe takes.
+        long = self.file("long.obj", object_file(0x3000, *[0x1021] * 20_000))
+        line = f"set -o pipefail; {PYTHON[0]} -m lc3 list {long} | head -n 1"
+        ended = subprocess.run(["bash", "-c", line], env=ENVIRONMENT, capture_output=True)
+        self.assertEqual((ended.returncode, ended.stderr), (1, b""))
+        self.assertEqual(ended.stdout, b"x3000  x1021  ADD R0, R0, #1\n")
+
+    def test_signals(self) -> None:
+        count = self.file("count.obj", COUNTING)
+        for number, code, said in (
+            (signal.SIGINT, 1, b"lc3: stopped by Ctrl-C; "),
+            (signal.SIGTERM, -signal.SIGTERM, b"lc3: stopped by SIGTERM; "),
+        ):
+            saved = self.folder / "sitting.json"
+            with subprocess.Popen(
+                [*PYTHON, "run", "--save-sitting", str(saved), str(count)],
+                stdin=subprocess.PIPE,
+                stderr=subprocess.PIPE,
+                env=ENVIRONMENT,
+            ) as running:
+                # The sitting's file is there when the program is about to run.
+                until = time.monotonic() + 20
+                while not saved.exists() and time.monotonic() < until:
+                    time.sleep(0.01)
+                time.sleep(0.05)
+                running.send_signal(number)
+                self.assertIn(said, running.stderr.read())
+                self.assertEqual(running.wait(20), code)
+            replayed = lc3.Sitting.replay(saved)
+            self.assertEqual(replayed["R0"], (replayed.clock + 1) // 2 & 0xFFFF)
+            saved.unlink()
+
+    def test_the_module_and_its_main(self) -> None:
+        hello = self.file("hello.obj", HELLO)
+        self.assertEqual(process("run", hello)[:2], (0, b"Hi\nHalted\n"))
+        script = "import sys; from lc3.__main__ import main; sys.exit(main())"
+        command = [PYTHON[0], "-c", script, "run", str(hello)]
+        ended = subprocess.run(command, env=ENVIRONMENT, capture_output=True)
+        self.assertEqual((ended.returncode, ended.stdout), (0, b"Hi\nHalted\n"))

@@ -1,0 +1,255 @@
+"""``make install`` and ``make uninstall``, into a folder of the test; and the manual page."""
+
+from __future__ import annotations
+
+import argparse
+import os
+import re
+import shutil
+import subprocess
+import tempfile
+import unittest
+from pathlib import Path
+from typing import Callable, Iterator
+
+import lc3
+from lc3.command.options import parser
+
+from . import ROOT
+
+PREFIX = "usr/local"
+PACKAGE = ROOT / "python" / "lc3"
+MANUAL = ROOT / "docs" / "lc3.1"
+HELLO = ROOT / "examples" / "hello.obj"
+
+PROGRAM = """\
+#include <lc3.h>
+#include <stdio.h>
+
+int main(void) {
+    uint8_t line[LC3_MAX_LINE];
+    lc3_counted counted = lc3_line(0x14E7, line, sizeof line);
+    printf("%u %.*s", (unsigned)lc3_version(), (int)counted.count, (char *)line);
+    return lc3_version() == LC3_VERSION ? 0 : 1;
+}
+"""
+
+
+def environment(**more: str) -> dict[str, str]:
+    """An environment that leads to no module or library of its own."""
+    away = ("PYTHONPATH", "LC3_LIBRARY", "LD_LIBRARY_PATH", "MAKEFLAGS", "MFLAGS", "MAKELEVEL")
+    return {**{key: value for key, value in os.environ.items() if key not in away}, **more}
+
+
+def obey(*command: str | Path, **more: str) -> subprocess.CompletedProcess[str]:
+    """A command obeyed from the root of all folders, with nothing on its standard input. What it
+    writes is its owner's alone, unless it sees to that."""
+    return subprocess.run(
+        [str(word) for word in command],
+        env=environment(**more),
+        capture_output=True,
+        text=True,
+        cwd="/",
+        stdin=subprocess.DEVNULL,
+        umask=0o077,
+    )
+
+
+def make(target: str, folder: Path, *settings: str) -> None:
+    """Makes a target into a folder, with the library as it stands."""
+    said = obey("make", "-C", ROOT, "-s", "-o", "lib", target, f"DESTDIR={folder}", *settings)
+    if said.returncode or said.stderr:
+        raise AssertionError(f"make {target}: {said.stdout}{said.stderr}")
+
+
+def files(folder: Path) -> set[str]:
+    """All that is in a folder but folders."""
+    return {
+        str(path.relative_to(folder))
+        for path in folder.rglob("*")
+        if path.is_symlink() or not path.is_dir()
+    }
+
+
+def new_folder(clean_up: Callable[..., object]) -> Path:
+    """A new folder, which is taken away after the test."""
+    folder = Path(tempfile.mkdtemp())
+    clean_up(shutil.rmtree, folder)
+    return folder
+
+
+def modules() -> set[str]:
+    """The files of the package."""
+    return {
+        str(path.relative_to(PACKAGE.parent))
+        for path in PACKAGE.rglob("*")
+        if path.is_file() and "__pycache__" not in path.parts
+    }
+
+
+@unittest.skipUnless((ROOT / "build" / "liblc3.a").exists(), "no library: `make lib` comes first")
+class Installed(unittest.TestCase):
+    """What stands where after ``make install``, and that it works from there."""
+
+    folder: Path
+    prefix: Path
+    package: Path
+
+    @classmethod
+    def setUpClass(cls) -> None:
+        cls.folder = new_folder(cls.addClassCleanup) / "a place"
+        make("install", cls.folder)
+        cls.prefix = cls.folder / PREFIX
+        cls.package = next(cls.prefix.glob("lib/python3*/*-packages/lc3"))
+
+    def test_each_file_is_where_it_should_be(self) -> None:
+        place = str(self.package.parent.relative_to(self.prefix))
+        expected = {f"{place}/{name}" for name in modules()}
+        expected |= {"bin/lc3", "include/lc3.h", "share/man/man1/lc3.1", "lib/pkgconfig/lc3.pc"}
+        library = ("liblc3.a", "liblc3.so", f"liblc3.so.{lc3.VERSION}")
+        expected |= {f"lib/{name}" for name in library}
+        compiled = {name for name in files(self.prefix) if name.endswith(".pyc")}
+        self.assertEqual(files(self.prefix) - compiled, expected)
+        self.assertEqual(len(compiled), sum(name.endswith(".py") for name in modules()))
+        self.assertEqual(files(self.folder), {f"{PREFIX}/{n}" for n in files(self.prefix)})
+
+    def test_modes_and_words(self) -> None:
+        for path in self.prefix.rglob("*"):
+            mode = 0o755 if path.is_dir() or path.parent.name == "bin" else 0o644
+            self.assertEqual((path, path.stat().st_mode & 0o777), (path, mode))
+        self.assertEqual(os.readlink(self.prefix / "lib/liblc3.so"), f"liblc3.so.{lc3.VERSION}")
+        for source, name in ((ROOT / "include/lc3.h", "include"), (MANUAL, "share/man/man1")):
+            installed = self.prefix / name / source.name
+            self.assertEqual(installed.read_bytes(), source.read_bytes())
+
+    def test_python_finds_module_and_library(self) -> None:
+        program = "import lc3; print(lc3.__file__, lc3._library.LIBRARY.path, sep='\\n')"
+        python = (self.prefix / "bin/lc3").read_text().splitlines()[0][2:]
+        said = obey(python, "-c", program, PYTHONPATH=str(self.package.parent))
+        library = self.prefix / f"lib/liblc3.so.{lc3.VERSION}"
+        self.assertEqual(said.stdout.split("\n")[:2], [f"{self.package}/__init__.py", str(library)])
+
+    def test_debian_s_python_looks_there_by_itself(self) -> None:
+        python = Path("/usr/bin/python3")
+        if not (Path("/etc/debian_version").exists() and python.exists()):
+            self.skipTest("this is no Debian with a Python of its own")
+        looks = obey(python, "-c", "import site; print(*site.getsitepackages(), sep='\\n')").stdout
+        place = f"/{PREFIX}/{self.package.parent.relative_to(self.prefix)}"
+        self.assertIn(place, looks.split("\n"))
+        self.assertRegex(place, r"^/usr/local/lib/python3\.\d+/dist-packages$")
+
+    def test_a_program_in_c(self) -> None:
+        missing = [name for name in ("gcc", "pkg-config") if not shutil.which(name)]
+        if missing:
+            self.skipTest(f"{' and '.join(missing)} not found")
+        place = str(self.prefix / "lib/pkgconfig")
+        # No space is in the root of the system that the flags are for: it is a link to the folder.
+        root = new_folder(self.addCleanup)
+        (root / "system").symlink_to(self.folder)
+        (root / "program.c").write_text(PROGRAM)
+        where = {"PKG_CONFIG_LIBDIR": place, "PKG_CONFIG_SYSROOT_DIR": str(root / "system")}
+        version = obey("pkg-config", "--modversion", "lc3", **where).stdout
+        self.assertEqual(version, f"{lc3.VERSION}\n")
+        flags = obey("pkg-config", "--cflags", "--libs", "lc3", **where).stdout.split()
+        made = obey("gcc", "-Wall", "-Werror", root / "program.c", "-o", root / "program", *flags)
+        self.assertEqual((made.returncode, made.stderr), (0, ""))
+        said = obey(root / "program", LD_LIBRARY_PATH=str(self.prefix / "lib"))
+        self.assertEqual((said.returncode, said.stdout), (0, f"{lc3.VERSION} ADD R2, R3, #7\n"))
+
+    def test_the_command_runs(self) -> None:
+        said = obey(self.prefix / "bin/lc3", "run", HELLO)
+        self.assertEqual((said.returncode, said.stdout), (0, "Hello, world!\nHalted\n"))
+        self.assertIn("the machine is halted", said.stderr)
+
+    def test_the_command_without_its_library(self) -> None:
+        said = obey(self.prefix / "bin/lc3", "run", HELLO, LC3_LIBRARY="no/liblc3.so")
+        self.assertEqual((said.returncode, said.stdout), (3, ""))
+        self.assertTrue(said.stderr.startswith("lc3: no liblc3.so of version "), said.stderr)
+        self.assertNotIn("Traceback", said.stderr)
+
+    def test_the_command_by_a_link(self) -> None:
+        link = new_folder(self.addCleanup) / "lc3"
+        link.symlink_to(self.prefix / "bin/lc3")
+        words = HELLO.stat().st_size // 2 - 1
+        self.assertEqual(obey(link, "list", HELLO).stdout.count("\n"), words)
+        self.assertEqual(obey(link, "run").returncode, 2)
+
+    def test_the_command_marks_in_processes_of_its_own(self) -> None:
+        cases = new_folder(self.addCleanup)
+        (cases / "greeting.expected").write_text("Hello, world!\nHalted\n")
+        marking = (self.prefix / "bin/lc3", "mark", "--jobs", "2", "--cases", cases)
+        self.assertEqual(obey(*marking, HELLO, HELLO).returncode, 0)
+        self.assertEqual(obey(*marking, HELLO, HELLO.with_name("sieve.obj")).returncode, 1)
+
+
+@unittest.skipUnless((ROOT / "build" / "liblc3.a").exists(), "no library: `make lib` comes first")
+class Uninstalled(unittest.TestCase):
+    """What ``make uninstall`` leaves, by the usual prefix and by others."""
+
+    def installed(self, *settings: str) -> set[str]:
+        """The files that are installed, and taken away again."""
+        with tempfile.TemporaryDirectory() as name:
+            folder = Path(name)
+            make("install", folder, *settings)
+            found = files(folder)
+            make("uninstall", folder, *settings)
+            self.assertEqual(list(folder.rglob("*")), [])
+            return found
+
+    def test_uninstalling_takes_nothing_else(self) -> None:
+        folder = new_folder(self.addCleanup)
+        make("install", folder)
+        package = next(folder.glob(f"{PREFIX}/lib/python3*/*-packages/lc3"))
+        cached = package / "__pycache__" / "words.cpython-399.pyc"
+        names = ("lib/other.a", "include/other.h", "bin/other")
+        others = [folder / PREFIX / name for name in names]
+        for path in [cached, package.parent / "other.py", *others]:
+            path.write_text("")
+        make("uninstall", folder)
+        left = {str(path.relative_to(folder)) for path in [package.parent / "other.py", *others]}
+        self.assertEqual((files(folder), package.exists()), (left, False))
+
+    def test_a_prefix_in_which_no_python_looks(self) -> None:
+        found = self.installed("PREFIX=/opt/lc3")
+        self.assertIn("opt/lc3/lib/python3/dist-packages/lc3/words.py", found)
+        self.assertIn("opt/lc3/bin/lc3", found)
+
+    def test_a_folder_for_libraries(self) -> None:
+        found = self.installed("PREFIX=/usr", "LIBDIR=/usr/lib/x86_64-linux-gnu")
+        names = ("liblc3.a", "liblc3.so", "pkgconfig/lc3.pc")
+        self.assertLessEqual({f"usr/lib/x86_64-linux-gnu/{name}" for name in names}, found)
+        self.assertIn("usr/include/lc3.h", found)
+
+
+class Manual(unittest.TestCase):
+    """docs/lc3.1."""
+
+    def test_no_warning(self) -> None:
+        if not (shutil.which("man") and shutil.which("groff")):
+            self.skipTest("man or groff not found")
+        said = obey("man", "--warnings", "-l", MANUAL, LC_ALL="C.UTF-8", MANPAGER="cat")
+        self.assertEqual((said.returncode, said.stderr), (0, ""))
+
+    def test_every_command_and_option_is_there(self) -> None:
+        text = MANUAL.read_text(encoding="ascii").replace("\\-", "-")
+        for name, command in commands(parser()):
+            self.assertIn(f".B lc3 {name}", text)
+            for option in (o for action in command._actions for o in action.option_strings):
+                if option != "-h":
+                    self.assertRegex(text, rf"(?m)^\.BI? (lc3 )?.*{re.escape(option)}\b")
+
+    def test_version_and_lines(self) -> None:
+        text = MANUAL.read_text(encoding="ascii")
+        self.assertIn(f'"lc3, interface {lc3.VERSION}"', text)
+        self.assertLessEqual(max(map(len, text.splitlines())), 120)
+
+
+def commands(whole: argparse.ArgumentParser) -> Iterator[tuple[str, argparse.ArgumentParser]]:
+    """The commands of a parser, with their own."""
+    for action in whole._actions:
+        if isinstance(action, argparse._SubParsersAction):
+            yield from action.choices.items()
+
+
+if __name__ == "__main__":
+    unittest.main()
