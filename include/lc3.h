@@ -4,7 +4,8 @@
  *
  *   lc3_version  the version of the interface that the library was built for
  *   lc3_start    loads an object file into lent memory, and makes the record of a machine that is
- *                to run it
+ *                to run it; lc3_start_user does the same with a candidate's file, and replaces no
+ *                word but User mode's
  *   lc3_run      runs up to n steps over lent memory; lc3_run_long does the same, faster for long
  *                sittings
  *   lc3_step     runs one step and alters the host's own record
@@ -28,8 +29,8 @@
  *   aligned pointer but NULL. Memory, times, bytes, output, log, file and the record lent to
  *   lc3_step may not overlap.
  * - Several threads may call at once. What a call only reads they may share while nobody writes
- *   it: times and bytes of every run and step, file of lc3_start, memory of lc3_page and lc3_save.
- *   What a call writes is that call's alone: memory of every run and step, of lc3_start and of
+ *   it: times and bytes of every run and step, file of a start, memory of lc3_page and lc3_save.
+ *   What a call writes is that call's alone: memory of every run and step, of a start and of
  *   lc3_monitor, every output, the log, and the record lent to a step.
  * - Every call is answered. One that cannot be obeyed is refused with a number that says why, and
  *   a refused call leaves every field of the record and every buffer as it was.
@@ -115,7 +116,7 @@ extern "C" {
  *                       lc3_run_logged, lc3_run_second and lc3_step_second likewise
  *   lc3_line            16
  *   lc3_page            11, 20, 16
- *   lc3_start           11, 17, 18
+ *   lc3_start           11, 17, 18; lc3_start_user 11, 17, 18, 21
  *   lc3_save            11, 18, 16
  *   lc3_monitor         11
  *   lc3_vectors         16
@@ -134,7 +135,8 @@ enum {
     LC3_REFUSED_FILE = 17,    /* the file has an odd number of bytes, or fewer than two */
     LC3_REFUSED_RANGE = 18,   /* origin + words is above LC3_MEMORY_WORDS */
     LC3_REFUSED_ORDER = 19,   /* times[index] is below the time before it, not below the clock */
-    LC3_REFUSED_PAGE = 20     /* first + count is above LC3_MEMORY_WORDS */
+    LC3_REFUSED_PAGE = 20,    /* first + count is above LC3_MEMORY_WORDS */
+    LC3_REFUSED_USER = 21     /* the origin or a word of the file is outside x3000 to xFDFF */
 };
 
 /*
@@ -284,11 +286,12 @@ typedef struct {
     uint32_t refusal; /* LC3_ACCEPTED, or LC3_REFUSED_REGISTER to LC3_REFUSED_MASK */
 } lc3_written;
 
-/* What lc3_start answers. Where refused, every field of the record and the words are 0. */
+/* What the starts answer. Where refused, every field of the record and the words are 0. */
 typedef struct {
     lc3_record record; /* a fresh machine at the file's origin */
     uint32_t words;    /* words of the file, its origin not counted */
-    uint32_t refusal;  /* LC3_ACCEPTED, LC3_REFUSED_MEMORY, LC3_REFUSED_FILE or LC3_REFUSED_RANGE */
+    uint32_t refusal;  /* LC3_ACCEPTED, LC3_REFUSED_MEMORY, LC3_REFUSED_FILE, LC3_REFUSED_RANGE or,
+                          of lc3_start_user, LC3_REFUSED_USER */
 } lc3_started;
 
 /* What lc3_line, lc3_page and lc3_save answer, which write bytes to a lent output. */
@@ -328,6 +331,18 @@ uint32_t lc3_version(void);
  */
 lc3_started lc3_start(const uint8_t *file, size_t file_len, uint16_t *memory, size_t memory_len,
                       bool user, uint16_t user_stack);
+
+/*
+ * Starts a file that is not trusted, such as a candidate's: as lc3_start does it in User mode, but
+ * the origin and every word of the file must lie in x3000 to xFDFF. No other file is loaded, so no
+ * word of the monitor's, of the examiner's or behind a device register is replaced.
+ *
+ * Beside the ready-made monitor no file that is started so learns or changes a word of x02A5 to
+ * x2FF9, or a lent word from xFE00 on, however long it runs: that is proved
+ * (crates/sitting/specs/HandedIn.antt).
+ */
+lc3_started lc3_start_user(const uint8_t *file, size_t file_len, uint16_t *memory,
+                           size_t memory_len, uint16_t user_stack);
 
 /*
  * Runs a machine for up to n steps. It stops earlier where the machine is halted or the output is
@@ -463,8 +478,8 @@ lc3_counted lc3_save(const uint16_t *memory, size_t memory_len, uint16_t origin,
  * the three exceptions halt and show nothing; interrupts return at once. docs/MONITOR.md describes
  * them, docs/monitor.lst lists them. Answers the refusal.
  *
- * A candidate's program is then started in User mode, by lc3_start. The routines use the supervisor
- * stack from x2FFF down to x2FF8.
+ * A candidate's program is then started in User mode, by lc3_start_user. The routines use the
+ * supervisor stack from x2FFF down to x2FF8.
  */
 uint32_t lc3_monitor(uint16_t *memory, size_t memory_len);
 

@@ -1114,6 +1114,40 @@ static void test_start(void) {
                 (lc3_started){supervisor, 1, 0});
 }
 
+/* A candidate's file of so many words from an origin on, each x1234. */
+static void check_start_user(const char *name, uint16_t origin, size_t words, uint32_t refusal) {
+    const uint8_t file[] = {(uint8_t)(origin >> 8), (uint8_t)origin, 0x12, 0x34, 0x12, 0x34};
+    const lc3_record user = {.regs = {[6] = 0xFDFF},
+                             .pc = origin,
+                             .psr = LC3_PSR_USER | LC3_PSR_Z,
+                             .saved_ssp = 0x3000,
+                             .mcr = LC3_MCR_CLOCK};
+    part = name;
+    fill_memory();
+    keep_buffers();
+    lc3_started got = lc3_start_user(file, 2 + 2 * words, memory, WORDS, 0xFDFF);
+    for (size_t k = 0; refusal == 0 && k < words; k++) wanted_memory[origin + k] = 0x1234;
+    check_record(&got.record, refusal == 0 ? &user : &no_record);
+    CHECK(got.words, refusal == 0 ? words : 0);
+    CHECK(got.refusal, refusal);
+    check_buffers();
+}
+
+static void test_start_user(void) {
+    check_start_user("first word of User mode", 0x3000, 1, 0);
+    check_start_user("last word of User mode", 0xFDFF, 1, 0);
+    check_start_user("word before them", 0x2FFF, 1, LC3_REFUSED_USER);
+    check_start_user("word after them", 0xFE00, 1, LC3_REFUSED_USER);
+    check_start_user("begins before them", 0x2FFF, 2, LC3_REFUSED_USER);
+    check_start_user("ends after them", 0xFDFF, 2, LC3_REFUSED_USER);
+    check_start_user("without words, first", 0x3000, 0, 0);
+    check_start_user("without words, last", 0xFDFF, 0, 0);
+    check_start_user("without words, before", 0x2FFF, 0, LC3_REFUSED_USER);
+    check_start_user("without words, after", 0xFE00, 0, LC3_REFUSED_USER);
+    check_start_user("access exception's vector word", 0x0102, 1, LC3_REFUSED_USER);
+    check_start_user("beyond memory", 0xFFFF, 2, LC3_REFUSED_RANGE);
+}
+
 static void test_save(void) {
     clear_buffers();
     memory[0xFFFF] = 0x1234;
@@ -1279,6 +1313,7 @@ int main(void) {
     test_page();
     test_refused_start();
     test_start();
+    test_start_user();
     test_save();
     test_vectors();
     test_monitor();

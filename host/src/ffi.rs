@@ -388,6 +388,21 @@ unsafe extern "C" {
         user_stack: u16,
     ) -> Started;
 
+    /// Loads a candidate's object file, to User mode's words alone, and makes a fresh record at its
+    /// origin.
+    ///
+    /// # Safety
+    ///
+    /// Each pointer must be valid for its number of elements, `memory` also for writing, and the
+    /// two buffers may not overlap.
+    pub fn lc3_start_user(
+        file: *const u8,
+        file_len: usize,
+        memory: *mut u16,
+        memory_len: usize,
+        user_stack: u16,
+    ) -> Started;
+
     /// Writes an object file from a range of memory.
     ///
     /// # Safety

@@ -71,7 +71,7 @@ pub use log::{logged_steps, run_logged, LoggedRun, LoggedStep, Reason, LOG_WORDS
 pub use monitor::{
     install_monitor, vectors, MonitorRefusal, Routines, MONITOR_WORDS, VECTOR_WORDS,
 };
-pub use object::{save, start, ObjectRefusal, Started};
+pub use object::{save, start, start_user, ObjectRefusal, Started};
 pub use reach::{reach, Fate, Reach, Replacing, Taking};
 pub use record::{Mode, Record};
 pub use run::{run, run_long, run_second, step, step_second};

@@ -14,7 +14,7 @@ pub struct Started {
 }
 
 /// Why an object file was not started or not written. Where several apply, the first is answered,
-/// in the order memory, file, range for [`start`] and memory, range, output for [`save`].
+/// in the order memory, file, range, user for the starts and memory, range, output for [`save`].
 #[derive(Clone, Copy, Debug, PartialEq, Eq, Hash)]
 #[non_exhaustive]
 pub enum ObjectRefusal {
@@ -26,13 +26,20 @@ pub enum ObjectRefusal {
     File,
     /// The range goes beyond the last word of memory.
     Range,
+    /// The origin or a word of the file lies outside x3000 to xFDFF: of [`start_user`] alone.
+    User,
 }
 
 impl ObjectRefusal {
-    const ALL: [ObjectRefusal; 4] =
-        [ObjectRefusal::Memory, ObjectRefusal::Output, ObjectRefusal::File, ObjectRefusal::Range];
+    const ALL: [ObjectRefusal; 5] = [
+        ObjectRefusal::Memory,
+        ObjectRefusal::Output,
+        ObjectRefusal::File,
+        ObjectRefusal::Range,
+        ObjectRefusal::User,
+    ];
 
-    /// The refusal's number: 11, or 16 to 18.
+    /// The refusal's number: 11, 16 to 18, or 21.
     ///
     /// ```
     /// assert_eq!(lc3::ObjectRefusal::Range.code(), 18);
@@ -43,6 +50,7 @@ impl ObjectRefusal {
             ObjectRefusal::Output => ffi::LC3_REFUSED_OUTPUT,
             ObjectRefusal::File => ffi::LC3_REFUSED_FILE,
             ObjectRefusal::Range => ffi::LC3_REFUSED_RANGE,
+            ObjectRefusal::User => ffi::LC3_REFUSED_USER,
         }
     }
 }
@@ -54,6 +62,7 @@ impl fmt::Display for ObjectRefusal {
             ObjectRefusal::Output => "the output is too short for the file",
             ObjectRefusal::File => "the file has an odd number of bytes, or fewer than two",
             ObjectRefusal::Range => "the range goes beyond the last word of memory",
+            ObjectRefusal::User => "the file does not lie in x3000 to xFDFF",
         })
     }
 }
@@ -107,6 +116,43 @@ pub fn start(
             memory.as_mut_ptr(),
             memory.len(),
             mode == Mode::User,
+            user_stack,
+        )
+    };
+    accepted(answer.refusal, &ObjectRefusal::ALL, ObjectRefusal::code)?;
+    Ok(Started { record: answer.record, words: answer.words as usize })
+}
+
+/// Starts a file that is not trusted, such as a candidate's: as [`start`] does it in User mode, but
+/// no word of memory outside x3000 to xFDFF is replaced.
+///
+/// A refused call alters nothing.
+///
+/// ```
+/// use lc3::ObjectRefusal;
+///
+/// let mut memory = vec![0; lc3::WORDS];
+/// let started = lc3::start_user(&[0x30, 0x00, 0xF0, 0x25], &mut memory, 0xFDFF)?;
+/// assert_eq!((started.record.pc, memory[0x3000]), (0x3000, 0xF025));
+///
+/// // The word that says where an access exception leads.
+/// let refused = lc3::start_user(&[0x01, 0x02, 0x01, 0x03], &mut memory, 0xFDFF);
+/// assert_eq!(refused, Err(ObjectRefusal::User));
+/// # Ok::<(), lc3::Error>(())
+/// ```
+pub fn start_user(
+    file: &[u8],
+    memory: &mut [u16],
+    user_stack: u16,
+) -> Result<Started, ObjectRefusal> {
+    // SAFETY: each pointer and length come from one slice, and the borrow keeps memory apart from
+    // the file.
+    let answer = unsafe {
+        ffi::lc3_start_user(
+            file.as_ptr(),
+            file.len(),
+            memory.as_mut_ptr(),
+            memory.len(),
             user_stack,
         )
     };

@@ -64,6 +64,7 @@ fn the_constants_are_those_of_the_header() {
         LC3_ACCEPTED LC3_REFUSED_REGISTER LC3_REFUSED_FIELD LC3_REFUSED_MASK LC3_REFUSED_MEMORY
         LC3_REFUSED_RECORD LC3_REFUSED_STEPS LC3_REFUSED_LISTS LC3_REFUSED_TIME
         LC3_REFUSED_OUTPUT LC3_REFUSED_FILE LC3_REFUSED_RANGE LC3_REFUSED_ORDER LC3_REFUSED_PAGE
+        LC3_REFUSED_USER
         LC3_DONE LC3_HALTED LC3_OUTPUT_FULL LC3_LOG_FULL
         LC3_REASON_INSTRUCTION LC3_REASON_TRAP LC3_REASON_PRIVILEGE LC3_REASON_ILLEGAL
         LC3_REASON_ACCESS LC3_REASON_KEYBOARD LC3_REASON_TIMER
@@ -90,7 +91,7 @@ fn header_library_shared_library_and_wrapper_have_one_version() {
 
 #[test]
 fn every_refusal_converts_with_its_number_and_text() {
-    let errors: [Error; 18] = [
+    let errors: [Error; 19] = [
         WriteRefusal::Register.into(),
         WriteRefusal::Value.into(),
         WriteRefusal::Mask.into(),
@@ -105,12 +106,13 @@ fn every_refusal_converts_with_its_number_and_text() {
         ObjectRefusal::Output.into(),
         ObjectRefusal::File.into(),
         ObjectRefusal::Range.into(),
+        ObjectRefusal::User.into(),
         MonitorRefusal::Memory.into(),
         PageRefusal::Memory.into(),
         PageRefusal::Range.into(),
         PageRefusal::Output.into(),
     ];
-    let codes = [1, 2, 3, 11, 12, 13, 14, 15, 19, 16, 11, 16, 17, 18, 11, 11, 20, 16];
+    let codes = [1, 2, 3, 11, 12, 13, 14, 15, 19, 16, 11, 16, 17, 18, 21, 11, 11, 20, 16];
     assert_eq!(errors.map(Error::code), codes);
     assert_eq!(Error::from(Refusal::KeyLists).to_string(), Refusal::KeyLists.to_string());
     // Memory of another size has one text, whichever call it was handed to.

@@ -166,6 +166,7 @@ _STEP: tuple[Any, ...] = (c_void_p, *_LENT * 4)
 FUNCTIONS: dict[str, tuple[Any, tuple[Any, ...]]] = {
     "lc3_version": (c_uint32, ()),
     "lc3_start": (StartedStruct, (*_LENT, *_LENT, c_bool, c_uint16)),
+    "lc3_start_user": (StartedStruct, (*_LENT, *_LENT, c_uint16)),
     "lc3_run": (AnswerStruct, _RUN),
     "lc3_run_long": (AnswerStruct, _RUN),
     "lc3_step": (ReportStruct, _STEP),

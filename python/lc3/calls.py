@@ -63,6 +63,29 @@ def start(
     return Started(Record.from_c(answer.record), answer.words)
 
 
+def start_user(file: ReadableBuffer, memory: WriteableBuffer, user_stack: int) -> Started:
+    """Starts a file that is not trusted, such as a candidate's: as ``start`` does it in User mode,
+    but no word outside x3000 to xFDFF is replaced.
+
+    Refused with 11, 17, 18, 21.
+
+    >>> memory = array("H", bytes(2 * MEMORY_WORDS))
+    >>> started = start_user(b"\\x30\\x00\\xF0\\x25", memory, user_stack=0xFDFF)
+    >>> hex(started.record.pc), started.words, hex(memory[0x3000])
+    ('0x3000', 1, '0xf025')
+    >>> start_user(b"\\x01\\x02\\x01\\x03", memory, user_stack=0xFDFF)
+    Traceback (most recent call last):
+    lc3.records.Refused: refused (21): the file does not lie in x3000 to xFDFF, where a \
+candidate's belongs: give it another origin, or take fewer words
+    """
+    stack = whole(user_stack, WORD_LIMIT, "user_stack")
+    with Lending() as lending:
+        parts = lending.read(file, BYTE, "file") + lending.write(memory, WORD, "memory")
+        answer = LIBRARY.lc3_start_user(*parts, stack)
+    _accepted(answer.refusal)
+    return Started(Record.from_c(answer.record), answer.words)
+
+
 def _lend_run(lending: Lending, memory: Any, times: Any, keys: Any, output: Any) -> tuple:
     """The buffers that every run and step takes, as the library takes them."""
     return (

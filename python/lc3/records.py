@@ -122,6 +122,7 @@ class Refusal(IntEnum):
     RANGE = 18
     ORDER = 19
     PAGE = 20
+    USER = 21
 
 
 _TEXTS = {
@@ -143,6 +144,8 @@ _TEXTS = {
     "take fewer words; a file of another format does not begin with its origin",
     Refusal.ORDER: "times[{index}] is below the time before it: put the keys in order of time",
     Refusal.PAGE: "the page goes beyond the last word of memory, xFFFF: take fewer lines",
+    Refusal.USER: "the file does not lie in x3000 to xFDFF, where a candidate's belongs: give it "
+    "another origin, or take fewer words",
 }
 
 

@@ -1,9 +1,9 @@
-// Object files for hosts in C and Rust: a file loaded into lent memory and started, and one written from a range of
-// memory. Both calls accept every argument; the refusals are those of include/lc3.h.
+// Object files for hosts in C and Rust: a file loaded into lent memory and started, a candidate's file too, and one
+// written from a range of memory. The calls accept every argument; the refusals are those of include/lc3.h.
 use machine::Machine;
 ghost use mathlib.Core.Path.{_≡_};
 ghost use Rattle.object.specs.Calls.{saveOf};
-ghost use Rattle.start.specs.Start.{startedOf};
+ghost use Rattle.start.specs.Start.{startedOf, userStartedOf};
 ghost use Rattle.lc3_objects.specs.Answers.{hostStarting, hostSaving};
 
 // A fresh record at the file's origin and the number of words loaded, with 0; or both all zero, with the number of the
@@ -28,6 +28,20 @@ pub extern "C" fn lc3_start(file: &[u8], memory: &mut [u16], user: bool, stack: 
         ≡ startedOf (now (file .entry)) (now (memory .entry)) user stack ⌝ }
 {
     let started = start::start(file, memory, user, stack);
+    let machine = started.machine;
+    Lc3Started {
+        machine,
+        words: started.words,
+        refusal: started.refusal as u32,
+    }
+}
+
+#[no_mangle]
+pub extern "C" fn lc3_start_user(file: &[u8], memory: &mut [u16], stack: u16) -> Lc3Started
+    ensures { λ r. ⌜ hostStarting r (now (memory .exit))
+        ≡ userStartedOf (now (file .entry)) (now (memory .entry)) stack ⌝ }
+{
+    let started = start::start_user(file, memory, stack);
     let machine = started.machine;
     Lc3Started {
         machine,

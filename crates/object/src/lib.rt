@@ -4,8 +4,8 @@ ghost use mathlib.Core.Path.{_≡_};
 ghost use Rattle.object.specs.Calls.{loading, saving, loadAccepted, loadOf, saveAccepted, saveOf};
 ghost use Rattle.object.specs.Accepted.{Readable, Writable};
 
-mod refusals;
-mod words;
+pub mod refusals;
+pub mod words;
 
 // The origin and the number of words read, with 0; or zeros, with the number of the refusal.
 pub struct Loaded {

@@ -5,7 +5,7 @@ use mathlib.Core.Bool.{Bool, true, false}
 use mathlib.Core.List.{List, [], _∷_, map}
 use lib.ListN.{getD, replicate}
 use Rattle.machine.specs.declared.Machine.{Machine}
-use Rattle.start.specs.Start.{Starting, startedOf}
+use Rattle.start.specs.Start.{Starting, startedOf, userStartedOf}
 
 -- The record with this R6, PC, PSR, Saved_SSP, Saved_USP and MCR, and all else 0.
 abbrev pub recordWith : ℕ → ℕ → ℕ → ℕ → ℕ → ℕ → Machine
@@ -64,3 +64,50 @@ answered (starts file user userStack machine words refusal last) =
 
 abbrev pub ExamplesHold : Type 0
 ExamplesHold = map answered examples ≡ examples
+
+-- ---- a candidate's file
+
+-- A file; then what a start in User mode answers, and the words x2FFF, x3000, xFDFF and xFE00 of memory.
+pub data UserExample : Type 0 where
+  starts-user : List ℕ → Machine → ℕ → ℕ → List ℕ → UserExample
+
+abbrev pub freshAt : ℕ → Machine
+freshAt origin = recordWith 0xFDFF origin 0x8002 0x3000 0 0x8000
+
+abbrev pub sevens : List ℕ
+sevens = 7 ∷ 7 ∷ 7 ∷ 7 ∷ []
+
+abbrev pub userExamples : List UserExample
+userExamples =
+    -- the first word of User mode's, and the last
+    starts-user (0x30 ∷ 0x00 ∷ 0xF0 ∷ 0x25 ∷ []) (freshAt 0x3000) 1 0 (7 ∷ 0xF025 ∷ 7 ∷ 7 ∷ [])
+    ∷ starts-user (0xFD ∷ 0xFF ∷ 0xF0 ∷ 0x25 ∷ []) (freshAt 0xFDFF) 1 0 (7 ∷ 7 ∷ 0xF025 ∷ 7 ∷ [])
+    -- the word before the first, and the word after the last
+    ∷ starts-user (0x2F ∷ 0xFF ∷ 0xF0 ∷ 0x25 ∷ []) zeros 0 21 sevens
+    ∷ starts-user (0xFE ∷ 0x00 ∷ 0xF0 ∷ 0x25 ∷ []) zeros 0 21 sevens
+    -- a file that begins or ends inside, and does not lie inside
+    ∷ starts-user (0x2F ∷ 0xFF ∷ 0xF0 ∷ 0x25 ∷ 0xF0 ∷ 0x25 ∷ []) zeros 0 21 sevens
+    ∷ starts-user (0xFD ∷ 0xFF ∷ 0xF0 ∷ 0x25 ∷ 0xF0 ∷ 0x25 ∷ []) zeros 0 21 sevens
+    -- without words: by the origin, which is PC
+    ∷ starts-user (0x30 ∷ 0x00 ∷ []) (freshAt 0x3000) 0 0 sevens
+    ∷ starts-user (0xFD ∷ 0xFF ∷ []) (freshAt 0xFDFF) 0 0 sevens
+    ∷ starts-user (0x2F ∷ 0xFF ∷ []) zeros 0 21 sevens
+    ∷ starts-user (0xFE ∷ 0x00 ∷ []) zeros 0 21 sevens
+    -- 17 and 18 before 21
+    ∷ starts-user (0x01 ∷ 0x02 ∷ 0xF0 ∷ []) zeros 0 17 sevens
+    ∷ starts-user (0xFF ∷ 0xFF ∷ 0x12 ∷ 0x34 ∷ 0x56 ∷ 0x78 ∷ []) zeros 0 18 sevens
+    ∷ []
+
+-- The row with this answer.
+abbrev pub withUserAnswer : Starting → UserExample → UserExample
+withUserAnswer s (starts-user file machine words refusal borders) =
+    starts-user file (s .machine) (s .words) (s .refusal)
+    (map (λ a. getD (s .memory) a 0) (0x2FFF ∷ 0x3000 ∷ 0xFDFF ∷ 0xFE00 ∷ []))
+
+-- The row with the answer that starting its file in a memory of sevens comes to.
+abbrev pub userAnswered : UserExample → UserExample
+userAnswered (starts-user file machine words refusal borders) =
+    withUserAnswer (userStartedOf file (replicate 65536 7) 0xFDFF) (starts-user file machine words refusal borders)
+
+abbrev pub UserExamplesHold : Type 0
+UserExamplesHold = map userAnswered userExamples ≡ userExamples

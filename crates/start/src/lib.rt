@@ -1,9 +1,11 @@
-// Load and start together: an object file is loaded into lent memory, and a fresh record stands at its origin.
+// Load and start together: an object file is loaded into lent memory, and a fresh record stands at its origin. A
+// candidate's file is started in User mode, and loaded to User mode's words only.
 use machine::Machine;
 ghost use mathlib.Core.Path.{_≡_};
-ghost use Rattle.start.specs.Start.{starting, startedOf};
+ghost use Rattle.start.specs.Start.{starting, startedOf, userStartedOf};
 
 mod records;
+mod refusals;
 
 // The record and the number of words loaded, with 0; or both all zero, with the number of the refusal.
 pub struct Started {
@@ -23,4 +25,21 @@ pub fn start(file: &[u8], memory: &mut [u16], user: bool, stack: u16) -> Started
         words: loaded.words,
         refusal: loaded.refusal,
     }
+}
+
+// A file from a source that is not trusted: no privileged word of memory is replaced.
+pub fn start_user(file: &[u8], memory: &mut [u16], stack: u16) -> Started
+    ensures { λ r. ⌜ starting r (now (memory .exit))
+        ≡ userStartedOf (now (file .entry)) (now (memory .entry)) stack ⌝ }
+{
+    let refusal = refusals::user_refusal(file, memory);
+    if refusal != 0 {
+        let machine = records::zero();
+        return Started {
+            machine,
+            words: 0,
+            refusal,
+        };
+    }
+    start(file, memory, true, stack)
 }

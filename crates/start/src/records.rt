@@ -35,7 +35,7 @@ fn fresh(pc: u16, user: bool, stack: u16) -> Machine
 }
 
 // A record that is all zero.
-fn zero() -> Machine
+pub fn zero() -> Machine
     ensures { λ r. ⌜ r ≡ zeroMachine ⌝ }
 {
     let regs = [0u16; 8];

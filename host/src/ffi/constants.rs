@@ -90,6 +90,8 @@ pub const LC3_REFUSED_RANGE: u32 = 18;
 pub const LC3_REFUSED_ORDER: u32 = 19;
 /// Refusal: the page goes beyond the last word of memory.
 pub const LC3_REFUSED_PAGE: u32 = 20;
+/// Refusal: the origin or a word of the file lies outside x3000 to xFDFF.
+pub const LC3_REFUSED_USER: u32 = 21;
 
 /// Stop: all steps asked for were made.
 pub const LC3_DONE: u32 = 0;
