@@ -132,12 +132,12 @@ module _ (step : Step) (law : AlteredWordsUnread step) where
     unfolding arriving
     arriving-alike e₁ e₂ m k = cc
 
-    halts-alike : (e₁ e₂ : End) → e₁ .machine ≡ e₂ .machine → isHalted e₁ ≡ isHalted e₂
+    pub halts-alike : (e₁ e₂ : End) → e₁ .machine ≡ e₂ .machine → isHalted e₁ ≡ isHalted e₂
     unfolding isHalted
     halts-alike e₁ e₂ m = cc
 
     module _ (altered : ℕ → Bool) (e₁ e₂ : End) (a : SameEnds altered e₁ e₂) where
-      steps-alike : NoneAltered altered (nextOf s₁ e₁ .reads) → SameButAltered altered (nextOf s₁ e₁) (nextOf s₂ e₂)
+      pub steps-alike : NoneAltered altered (nextOf s₁ e₁ .reads) → SameButAltered altered (nextOf s₁ e₁) (nextOf s₂ e₂)
       unfolding nextStepBy
       steps-alike n =
           let o : Outcome = step (arriving s₁ e₁) (e₁ .machine) (e₁ .memory) in
@@ -147,7 +147,7 @@ module _ (step : Step) (law : AlteredWordsUnread step) where
           (arriving-alike e₁ e₂ (a .machine) (a .keys))
           (subst (λ (m : Machine). SameButAltered altered o (step (arriving s₁ e₁) m (e₂ .memory))) (a .machine) a₁)
 
-      full-alike : SameButAltered altered (nextOf s₁ e₁) (nextOf s₂ e₂) → fullAt s₁ e₁ ≡ fullAt s₂ e₂
+      pub full-alike : SameButAltered altered (nextOf s₁ e₁) (nextOf s₂ e₂) → fullAt s₁ e₁ ≡ fullAt s₂ e₂
       unfolding isFullBy
       full-alike o =
           let x : nextOf s₁ e₁ .shown ≡ nextOf s₂ e₂ .shown = o .shown in
@@ -155,7 +155,7 @@ module _ (step : Step) (law : AlteredWordsUnread step) where
           let z : e₁ .shown ≡ e₂ .shown = a .shown in
           cc
 
-      made-alike : SameButAltered altered (nextOf s₁ e₁) (nextOf s₂ e₂)
+      pub made-alike : SameButAltered altered (nextOf s₁ e₁) (nextOf s₂ e₂)
           → SameEnds (stillAltered (nextOf s₁ e₁ .writes) altered) (madeFrom s₁ e₁) (madeFrom s₂ e₂)
       unfolding stepMadeBy
       made-alike o =
@@ -174,7 +174,7 @@ module _ (step : Step) (law : AlteredWordsUnread step) where
             ending = refl;
           }
 
-      ended-alike : (w : Ending) → SameEnds altered (endedBy w e₁) (endedBy w e₂)
+      pub ended-alike : (w : Ending) → SameEnds altered (endedBy w e₁) (endedBy w e₂)
       unfolding endedBy
       ended-alike w = record {
         machine = a .machine;

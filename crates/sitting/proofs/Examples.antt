@@ -1,0 +1,115 @@
+-- The examples: by computing them.
+use Prim.Native.Nat.{ℕ, zero, suc}
+use mathlib.Core.Path.{_≡_, refl, sym, ap, _∙_}
+use mathlib.Core.Bool.{true≢false}
+use mathlib.Core.List.{List, [], _∷_}
+use lib.ListN.{getD, set, length-set}
+use lib.Seq.{getD-set-other}
+use Rattle.machine.specs.Rows.{withWord}
+use Rattle.touched.specs.Altered.{SameOutside}
+use Rattle.run.specs.declared.Ending.the-variants.{Halted}
+use Rattle.run.specs.Fresh.{freshOf}
+use Rattle.run.proofs.Examples.{opened}
+use Rattle.machine.specs.Rules.{fetchedWordBy}
+use Rattle.logging.specs.Log.{nextRule, entryOf, lacksRoom}
+use Rattle.logging.specs.LoggedRun.{beginLogged, stoppedBy, logFull, stepLogged, oneMoreLogged, loggedRunOf}
+use Rattle.logging.specs.LoggedCall.{loggedAdmitted, loggedCallOf}
+use Rattle.monitor.specs.Vectors.{vectorWord, vectorsFrom, vectorTable}
+use Rattle.monitor.specs.Routines.{routineWords, monitorWords}
+use Rattle.monitor.specs.Install.{installOf}
+use Rattle.sitting.specs.Sitting.{isEnabled, stackFrom, isSecretAbove, isSecret, startAt, answerTo, answerAfter}
+use Rattle.sitting.specs.Sitting.{Begins, HasMonitor}
+use Rattle.sitting.specs.Examples.{fresh, monitored, prying, unguarded, plainCall, loggedCall, restartingCall}
+use Rattle.sitting.specs.Examples.{interruptible, packing, keyInThirdStep, ExamplesHold}
+
+-- ---- the premises
+
+with-word-is-set : (mem : List ℕ) (a v : ℕ) → withWord mem a v ≡ set mem a v
+with-word-is-set [] a v = refl
+with-word-is-set (x ∷ mem) zero v = refl
+with-word-is-set (x ∷ mem) (suc a) v = ap {B = List ℕ} (λ l. x ∷ l) (with-word-is-set mem a v)
+
+-- Two memories that differ at x0400 alone.
+differ-at-answer : (mem : List ℕ) (v w : ℕ) → SameOutside (isSecretAbove 0x2FFA) (withWord mem 0x0400 v)
+    (withWord mem 0x0400 w)
+unfolding isSecretAbove
+differ-at-answer mem v w =
+    rw (with-word-is-set mem 0x0400 v, with-word-is-set mem 0x0400 w)
+    (record {
+      size = length-set mem 0x0400 v ∙ sym (length-set mem 0x0400 w);
+      words = λ a h.
+          getD-set-other mem 0x0400 a v 0 (λ e. absurd (true≢false (rw e at h)))
+          ∙ sym (getD-set-other mem 0x0400 a w 0 (λ e. absurd (true≢false (rw e at h))));
+    })
+
+prying-alike : (v w : ℕ) → SameOutside (isSecret (fresh .devices)) (prying monitored v) (prying monitored w)
+unfolding prying fresh freshOf stackFrom isEnabled
+prying-alike v w =
+    differ-at-answer (withWord (withWord (withWord monitored 0x3000 0x2001) 0x3001 0xF022) 0x3002 0x0400) v w
+
+-- To unfold this is to compute with the monitor in memory.
+unfoldable pub computing : Unit {0}
+unfolding opened fetchedWordBy nextRule entryOf lacksRoom beginLogged stoppedBy logFull stepLogged oneMoreLogged
+    loggedRunOf loggedAdmitted loggedCallOf fresh monitored prying unguarded interruptible packing vectorWord vectorsFrom
+    vectorTable routineWords monitorWords installOf startAt answerTo answerAfter
+computing = tt
+
+prying-begins : (answer : ℕ) → Begins HasMonitor fresh (prying monitored answer)
+unfolding computing
+prying-begins answer = record { registers = refl; size = refl; user-mode = refl; intact = refl; stack = refl }
+
+answer-is-there : (answer : ℕ) → getD (prying monitored answer) 0x0400 0 ≡ answer
+unfolding computing
+answer-is-there answer = refl
+
+-- ---- the sittings
+
+halted : answerTo (plainCall 100) fresh (prying monitored 0x41) .run .ending ≡ Halted
+unfolding computing
+halted = refl
+
+nothing-shown : answerTo (plainCall 100) fresh (prying monitored 0x41) .run .shown ≡ 0
+unfolding computing
+nothing-shown = refl
+
+halted-again : answerAfter (plainCall 100 ∷ []) (restartingCall 100) fresh (prying monitored 0x41) .run .steps ≡ 3
+unfolding computing
+halted-again = refl
+
+told : (answerTo (plainCall 13) fresh (prying unguarded 0x41) .run .output ≡ 0x41 ∷ [])
+    × (answerTo (plainCall 13) fresh (prying unguarded 0x42) .run .output ≡ 0x42 ∷ [])
+unfolding computing
+told = (refl, refl)
+
+told-by-log : (getD (answerTo (loggedCall 11 33) fresh (prying unguarded 0x41) .log) 30 0 ≡ 0x021A)
+    × (getD (answerTo (loggedCall 11 33) fresh (prying unguarded 0) .log) 30 0 ≡ 0x021F)
+unfolding computing
+told-by-log = (refl, refl)
+
+interruptible-begins : Begins HasMonitor interruptible packing
+unfolding computing
+interruptible-begins = record { registers = refl; size = refl; user-mode = refl; intact = refl; stack = refl }
+
+before : (getD packing 0x2FF7 0 ≡ 0) × (getD packing 0x2FF6 0 ≡ 0)
+unfolding computing
+before = (refl, refl)
+
+after : (getD (answerTo keyInThirdStep interruptible packing .run .memory) 0x2FF7 0 ≡ 0x0401)
+    × (getD (answerTo keyInThirdStep interruptible packing .run .memory) 0x2FF6 0 ≡ 0x027F)
+unfolding computing
+after = (refl, refl)
+
+pub examples-hold : ExamplesHold
+examples-hold = record {
+  begins = prying-begins;
+  alike = prying-alike;
+  answers = answer-is-there;
+  halted = halted;
+  nothing-shown = nothing-shown;
+  halted-again = halted-again;
+  told = told;
+  told-by-log = told-by-log;
+  begins-too = interruptible-begins;
+  ninth-and-tenth-before = before;
+  ninth-and-tenth-after = after;
+}
