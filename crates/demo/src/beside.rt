@@ -47,7 +47,7 @@ pub(crate) fn same_record(a: Machine, b: Machine) -> bool {
 
 // A count with one more where a test holds.
 fn counted(count: u64, holds: bool) -> u64
-    requires { ⌜ count ≤ 5000 ⌝ }
+    requires { ⌜ count ≤ 65536 ⌝ }
     ensures { λ r. ⌜ r ≤ count + 1 ⌝ }
 {
     if holds { count + 1 } else { count }
@@ -57,6 +57,18 @@ fn counted(count: u64, holds: bool) -> u64
 fn word_at(memory: &[u16], a: u16) -> u16 {
     let i = a as usize;
     if i < memory.len() { memory[i] } else { 0 }
+}
+
+// The words in which two memories differ.
+pub(crate) fn count_different(a: &[u16], b: &[u16]) -> u64 {
+    let mut count = 0u64;
+    let mut i = 0u64;
+    while i < 65536 {
+        let at = (i % 65536) as u16;
+        count = counted(count, word_at(a, at) != word_at(b, at));
+        i += 1;
+    }
+    count
 }
 
 // What brought the candidate to the monitor's STOP, by the opcode of the word that it obeyed.

@@ -1,12 +1,15 @@
 // A sitting: the ready-made monitor and a candidate's program on the machine, with recorded keys, in several calls.
 // The gate compares what is printed with the file stdout.
+use beside::count_different;
 use beside::same_record;
 use beside::sit_beside;
 use machine::Machine;
 use printing::print;
+use printing::print_number;
+use printing::print_shown;
 use sitting::sit;
-use starting::start_and_tell;
 use starting::start_file;
+use starting::tell;
 
 mod beside;
 mod printing;
@@ -19,12 +22,15 @@ const TIMES: [u64; 6] = [300, 400, 500, 600, 700, 800];
 // What the candidate types.
 const KEYS: [u8; 6] = *b"Ada 7\n";
 
-// The candidate's program, and the answers of two examiners. Each has a listing beside it.
+// The candidate's program, the answers of two examiners, and a file that lies on the vector of the access exception.
+// Each has a listing beside it.
 const CANDIDATE: [u8; 13] = *b"candidate.obj";
 
 const ANSWERS: [u8; 11] = *b"answers.obj";
 
 const OTHER_ANSWERS: [u8; 17] = *b"other_answers.obj";
+
+const ATTACK: [u8; 10] = *b"attack.obj";
 
 fn introduce() {
     print(b"A sitting on the LC-3\n");
@@ -40,15 +46,17 @@ fn introduce() {
 fn start_all(memory: &mut [u16]) -> Machine {
     monitor::install(memory);
     print(b"Object files, of which the last is run:\n");
-    start_and_tell(&ANSWERS, memory);
-    start_and_tell(&CANDIDATE, memory)
+    tell(&ANSWERS, start_file(&ANSWERS, memory, false));
+    let started = start_file(&CANDIDATE, memory, true);
+    tell(&CANDIDATE, started);
+    started.machine
 }
 
 // The same with these answers, and nothing said.
 fn start_sitting(memory: &mut [u16], answers: &[u8]) -> Machine {
     monitor::install(memory);
-    start_file(answers, memory);
-    let started = start_file(&CANDIDATE, memory);
+    start_file(answers, memory, false);
+    let started = start_file(&CANDIDATE, memory, true);
     started.machine
 }
 
@@ -79,7 +87,41 @@ fn in_steps() -> Machine {
     print(b"\nThe same in single steps, beside a sitting whose answers are other words.\n");
     print(b"The candidate's program leaves User mode at these steps:\n\n");
     print(b"clock  PC     R0 before  R0 after  to\n");
-    sit_beside(m, o, &mut memory, &mut other, &TIMES, &KEYS)
+    let last = sit_beside(m, o, &mut memory, &mut other, &TIMES, &KEYS);
+    print(b"Words of memory that differ at the end: ");
+    print_number(count_different(&memory, &other), 1);
+    print(b", the answers.\n");
+    last
+}
+
+// What the attack shows where it is loaded all the same, beside these answers.
+fn stolen(answers: &[u8]) -> u8 {
+    let mut memory = [0u16; 65536];
+    monitor::install(&mut memory);
+    start_file(answers, &mut memory, false);
+    let started = start_file(&ATTACK, &mut memory, false);
+    let mut shown = [0u8; 1];
+    runner::run(
+        started.machine,
+        &mut memory,
+        &TIMES[0..0],
+        &KEYS[0..0],
+        &mut shown,
+        100,
+    );
+    shown[0]
+}
+
+// A file that would replace the vector of the access exception, and what comes of it.
+fn attack() {
+    print(b"\nAnother candidate hands in a file for x0102, the vector of the access exception:\n");
+    let mut memory = [0u16; 65536];
+    tell(&ATTACK, start_file(&ATTACK, &mut memory, true));
+    print(b"Loaded all the same it would show the first answer: ");
+    print_shown(&[stolen(&ANSWERS)]);
+    print(b" in the one sitting, ");
+    print_shown(&[stolen(&OTHER_ANSWERS)]);
+    print(b" in the other.\n");
 }
 
 fn main() {
@@ -93,4 +135,5 @@ fn main() {
     } else {
         print(b"In calls and in single steps the sitting ends with DIFFERENT records.\n");
     }
+    attack();
 }
