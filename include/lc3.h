@@ -328,6 +328,10 @@ uint32_t lc3_version(void);
  * A host with several files, such as a monitor, answers and a candidate's program, starts each, the
  * one that is to run last, and keeps the last record. A file of two bytes, an origin alone, starts
  * a machine at that address with nothing loaded.
+ *
+ * The file may lie anywhere, on vectors, the monitor's routines and the examiner's words too,
+ * whatever the mode: user protects the memory from the program's steps, and not from its file. For
+ * a file that is not trusted there is lc3_start_user.
  */
 lc3_started lc3_start(const uint8_t *file, size_t file_len, uint16_t *memory, size_t memory_len,
                       bool user, uint16_t user_stack);
@@ -478,8 +482,8 @@ lc3_counted lc3_save(const uint16_t *memory, size_t memory_len, uint16_t origin,
  * the three exceptions halt and show nothing; interrupts return at once. docs/MONITOR.md describes
  * them, docs/monitor.lst lists them. Answers the refusal.
  *
- * A candidate's program is then started in User mode, by lc3_start_user. The routines use the
- * supervisor stack from x2FFF down to x2FF8.
+ * A candidate's program is then started by lc3_start_user. The routines use the supervisor stack
+ * from x2FFF down to x2FFA; where devices are enabled, interrupts use it down to x2FF6.
  */
 uint32_t lc3_monitor(uint16_t *memory, size_t memory_len);
 

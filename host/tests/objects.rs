@@ -361,7 +361,7 @@ fn listed(listing: &str) -> Vec<(usize, u16)> {
 #[test]
 fn the_demonstration_has_the_words_of_its_listings() {
     let data = Path::new(env!("CARGO_MANIFEST_DIR")).join("../crates/demo/data");
-    for (name, words) in [("candidate", 30), ("answers", 4), ("other_answers", 4)] {
+    for (name, words) in [("candidate", 30), ("answers", 4), ("other_answers", 4), ("attack", 10)] {
         let file = fs::read(data.join(name).with_extension("obj")).expect("an object file");
         let listing = fs::read_to_string(data.join(name).with_extension("lst")).expect("a listing");
         let listed = listed(&listing);

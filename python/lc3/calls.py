@@ -48,6 +48,9 @@ def start(
 ) -> Started:
     """Loads an object file into memory and makes the record of a machine that is to run it.
 
+    The file may lie anywhere, on vectors and the examiner's words too, whatever the mode: for one
+    that is not trusted there is ``start_user``.
+
     Refused with 11, 17, 18.
 
     >>> memory = array("H", bytes(2 * MEMORY_WORDS))

@@ -9,7 +9,6 @@ use borrow.Author.Tests.{eqb-true}
 use lib.Dec.{eqb}
 use Rattle.machine.specs.declared.Machine.{Machine}
 use Rattle.machine.specs.declared.Devices.{Devices}
-use Rattle.machine.specs.Record.{withMcr}
 use Rattle.machine.proofs.Tests.{either-branch}
 use Rattle.touched.specs.Altered.{SameOutside}
 use Rattle.run.specs.Run.{Start}
@@ -20,9 +19,8 @@ use Rattle.sitting.specs.Sitting.{Guarded}
 use Rattle.sitting.specs.Certified.{Loaded, CertifiedTellsNothing}
 use Rattle.sitting.proofs.Runs.{Kept, logged-call-keeps, call-keeps, logged-calls-alike, calls-alike}
 use Rattle.sitting.proofs.Invariant.{Words, coreOf, Stands, in-user-mode, in-routine, interrupted-once}
-use Rattle.sitting.proofs.Invariant.{interrupted-twice, Enabled, neither-device, keyboard-alone, timer-alone}
-use Rattle.sitting.proofs.Invariant.{both-devices, pushedIn, CannotInterrupt, Setting, lowest, secret, Disabled}
-use Rattle.sitting.proofs.Invariant.{Invariant, fixed-word-is-open}
+use Rattle.sitting.proofs.Invariant.{interrupted-twice, Enabled, pushedIn, CannotInterrupt, Setting, lowest}
+use Rattle.sitting.proofs.Invariant.{secret, Disabled, Invariant, fixed-word-is-open}
 use Rattle.sitting.proofs.Interrupts.{step-keeps}
 
 words-stand : {g : Setting} {m : Machine} {mem : List ℕ} → Invariant g m mem → Words (g .claim) mem
@@ -36,24 +34,12 @@ words-stand {g} {m} {mem} i = go (i .stands)
 
 -- ---- the devices that may interrupt
 
-enabledOf : Bool → Bool → Enabled
-enabledOf false false = neither-device
-enabledOf true false = keyboard-alone
-enabledOf false true = timer-alone
-enabledOf true true = both-devices
-
-enabledFor : Devices → Enabled
-enabledFor d = enabledOf (isEnabled (d .kbsr)) (isEnabled (d .«timer_status»))
+abbrev enabledFor : Devices → Enabled
+enabledFor d = record { keyboard = isEnabled (d .kbsr); timer = isEnabled (d .«timer_status») }
 
 lowest-for : (l : ℕ) (d : Devices) → l - pushedIn (enabledFor d) ≡ stackFrom l d
-unfolding enabledFor stackFrom enabledOf
-lowest-for l d = go (isEnabled (d .kbsr)) (isEnabled (d .«timer_status»))
-  where
-    go : (k t : Bool) → l - pushedIn (enabledOf k t) ≡ l - cond k 2 0 - cond t 2 0
-    go false false = omega arith
-    go true false = omega arith
-    go false true = omega arith
-    go true true = omega arith
+unfolding stackFrom
+lowest-for l d = omega arith
 
 cannot-interrupt : (status : ℕ) → isEnabled status ≡ false → CannotInterrupt status
 unfolding isEnabled
@@ -65,23 +51,9 @@ cannot-interrupt status h = go (eqb status 0) refl (eqb status 0x8000) refl h
     go false e false f h = absurd (true≢false h)
 
 disabled-for : (d : Devices) → Disabled (enabledFor d) d
-unfolding enabledFor enabledOf
-disabled-for d = go (isEnabled (d .kbsr)) refl (isEnabled (d .«timer_status»)) refl
-  where
-    go : (k : Bool) → isEnabled (d .kbsr) ≡ k → (t : Bool) → isEnabled (d .«timer_status») ≡ t → Disabled (enabledOf k t) d
-    go false e false f = (cannot-interrupt (d .kbsr) e, cannot-interrupt (d .«timer_status») f)
-    go true e false f = cannot-interrupt (d .«timer_status») f
-    go false e true f = cannot-interrupt (d .kbsr) e
-    go true e true f = tt
+disabled-for d = (cannot-interrupt (d .kbsr), cannot-interrupt (d .«timer_status»))
 
 -- ---- one sitting, in calls
-
--- MCR says nothing of where a sitting stands.
-mcr-disabled : (enabled : Enabled) (v : ℕ) (m : Machine) → Disabled enabled (m .devices) → Disabled enabled (withMcr v m .devices)
-mcr-disabled neither-device v m q = q
-mcr-disabled keyboard-alone v m q = q
-mcr-disabled timer-alone v m q = q
-mcr-disabled both-devices v m q = tt
 
 module _ (g : Setting) where
   start-stands : (c : Call) (m : Machine) (memory : List ℕ) → Invariant g m memory
@@ -89,7 +61,7 @@ module _ (g : Setting) where
   unfolding startAt
   start-stands c m memory i =
       either-branch (λ (m : Machine). Invariant g m memory) (c .restarts)
-      (record { disabled = mcr-disabled (g .enabled) 0x8000 m (i .disabled); stands = i .stands }) i
+      (record { disabled = i .disabled; stands = i .stands }) i
 
   abbrev StandsAfter : List ℕ → Logged → Type 0
   StandsAfter before a = Kept (secret g) (Invariant g) before (a .run)

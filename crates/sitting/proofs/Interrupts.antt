@@ -32,10 +32,10 @@ use Rattle.sitting.proofs.Table.{listed, own-is-open, SoundAt, sound-at
 use Rattle.sitting.proofs.Table.{keyboard-leads, timer-leads}
 use Rattle.sitting.proofs.Invariant.{Words, word-stored, Core, coreOf, InRoutine, Stands, in-user-mode}
 use Rattle.sitting.proofs.Invariant.{in-routine, interrupted-once, interrupted-twice, popped, InReturn}
-use Rattle.sitting.proofs.Invariant.{InterruptedOnce, Enabled, neither-device, keyboard-alone, timer-alone}
-use Rattle.sitting.proofs.Invariant.{both-devices, lowestPriority, pushedIn, Setting, cellsOf, Disabled}
-use Rattle.sitting.proofs.Invariant.{Invariant, Changeable, unlisted-changes, started, lowest, OutcomeKeeps}
-use Rattle.sitting.proofs.Invariant.{keeps-ended, keeps-reads, bounds, fixed-word-is-open, stack-word-is-open}
+use Rattle.sitting.proofs.Invariant.{CannotInterrupt, InterruptedOnce, Enabled, both-devices, lowestPriority, pushedIn, Setting}
+use Rattle.sitting.proofs.Invariant.{cellsOf, Disabled, Invariant, Changeable, unlisted-changes, started, lowest}
+use Rattle.sitting.proofs.Invariant.{OutcomeKeeps, keeps-ended, keeps-reads, bounds, fixed-word-is-open}
+use Rattle.sitting.proofs.Invariant.{stack-word-is-open}
 use Rattle.sitting.proofs.Routines.{supervisor-mode, all-allowed, routine-keeps}
 use Rattle.sitting.proofs.UserMode.{enters, user-keeps}
 
@@ -278,10 +278,7 @@ back-keeps g priority low Under m mem f q stands b =
 
 -- The priority of a device that may interrupt.
 abbrev DuePriority : Enabled → ℕ → Type 0
-DuePriority neither-device p = ⊥
-DuePriority keyboard-alone p = p ≡ 4
-DuePriority timer-alone p = p ≡ 6
-DuePriority both-devices p = (p ≡ 4) ⊎ (p ≡ 6)
+DuePriority e p = ((p ≡ 4) × (e .keyboard ≡ true)) ⊎ ((p ≡ 6) × (e .timer ≡ true))
 
 -- An interrupt that is due.
 record Due (g : Setting) (m : Machine) (vector priority : ℕ) : Type 0 where
@@ -300,11 +297,12 @@ mode-set psr p = omega arith
 
 four-or-six : (enabled : Enabled) (p : ℕ) → DuePriority enabled p
     → (lowestPriority enabled ≤ p) × (2 ≤ pushedIn enabled) × (p ≤ 6)
-four-or-six neither-device p e = absurd e
-four-or-six keyboard-alone p e = omega arith
-four-or-six timer-alone p e = omega arith
-four-or-six both-devices p (inl e) = omega arith
-four-or-six both-devices p (inr e) = omega arith
+four-or-six enabled p (inl d) = rw (d .1) (omega arith)
+four-or-six enabled p (inr d) = rw (d .1) (go (enabled .keyboard))
+  where
+    go : (k : Bool) → (cond k 4 6 ≤ p) × (2 ≤ cond k 2 0 + 2) × (p ≤ 6)
+    go true = omega (arith, d .0)
+    go false = omega (arith, d .0)
 
 new-priority : (enabled : Enabled) (psr p : ℕ) → DuePriority enabled p → priorityOf (psr % 256 + p % 8 * 256) ≡ p
 new-priority enabled psr p d =
@@ -314,11 +312,16 @@ new-priority enabled psr p d =
 -- An interrupt of an interrupt is the timer's of the keyboard's.
 nested : (enabled : Enabled) (p x : ℕ) → DuePriority enabled p → lowestPriority enabled ≤ x → x < p
     → (enabled ≡ both-devices) × (6 ≤ p)
-nested neither-device p x e l h = absurd e
-nested keyboard-alone p x e l h = absurd (omega arith)
-nested timer-alone p x e l h = absurd (omega arith)
-nested both-devices p x (inl e) l h = absurd (omega arith)
-nested both-devices p x (inr e) l h = (refl, omega arith)
+nested enabled p x (inl d) l h = absurd (omega (arith, d .0, rw (d .1) at l))
+nested enabled p x (inr d) l h = go (enabled .keyboard) refl l
+  where
+    go : (k : Bool) → enabled .keyboard ≡ k → cond k 4 6 ≤ x → (enabled ≡ both-devices) × (6 ≤ p)
+    go true e l = (
+      ap (λ (k : Bool). record { keyboard = k; timer = enabled .timer }) e
+          ∙ ap (λ (t : Bool). record { keyboard = true; timer = t }) (d .1),
+      omega (arith, d .0),
+    )
+    go false e l = absurd (omega (arith, d .0))
 
 module _ (g : Setting) (m : Machine) (mem : List ℕ) (q : Disabled (g .enabled) (m .devices)) where
   interrupted-keeps : (vector priority : ℕ) → Due g m vector priority → Stands g (coreOf m) mem
@@ -377,17 +380,10 @@ module _ (g : Setting) (m : Machine) (mem : List ℕ) (q : Disabled (g .enabled)
       back-keeps g 6 (g .claim .lowest - 4) (InterruptedOnce (g .claim) both-devices) m mem (omega arith) q
       (λ c r. interrupted-once (omega arith) (subst (λ (o : Enabled). InterruptedOnce (g .claim) o c mem) (sym e) r)) b
 
-  timer-due : (o : Enabled) → Disabled o (m .devices) → 0xC000 ≤ m .devices .«timer_status» → DuePriority o timerPriority
-  timer-due neither-device h l = absurd (omega (arith, h .1 .1))
-  timer-due keyboard-alone h l = absurd (omega (arith, h .1))
-  timer-due timer-alone h l = refl
-  timer-due both-devices h l = inr refl
-
-  keyboard-due : (o : Enabled) → Disabled o (m .devices) → 0xC000 ≤ m .devices .kbsr → DuePriority o keyboardPriority
-  keyboard-due neither-device h l = absurd (omega (arith, h .0 .1))
-  keyboard-due keyboard-alone h l = refl
-  keyboard-due timer-alone h l = absurd (omega (arith, h .1))
-  keyboard-due both-devices h l = inl refl
+  -- A device whose ready and enable bits are set is enabled.
+  may-interrupt : (e : Bool) (status : ℕ) → (e ≡ false → CannotInterrupt status) → 0xC000 ≤ status → e ≡ true
+  may-interrupt true status h l = refl
+  may-interrupt false status h l = absurd (omega (arith, h refl .1))
 
   taken-or-obeyed : Stands g (coreOf m) mem
       → OutcomeKeeps g (interruptedOrObeyed (pendingInterrupt m) m mem)
@@ -402,7 +398,7 @@ module _ (g : Setting) (m : Machine) (mem : List ℕ) (q : Disabled (g .enabled)
           interrupted-keeps timerVector timerPriority
           (record {
             leads = timer-leads (g .claim) (g .passed);
-            kind = timer-due (g .enabled) q (leb-true 0xC000 _ (b .0));
+            kind = inr (refl, may-interrupt (g .enabled .timer) _ (q .1) (leb-true 0xC000 _ (b .0)));
             above = ltb-true (priorityOf (m .psr)) timerPriority (b .1);
           })
           s
@@ -411,7 +407,7 @@ module _ (g : Setting) (m : Machine) (mem : List ℕ) (q : Disabled (g .enabled)
           interrupted-keeps keyboardVector keyboardPriority
           (record {
             leads = keyboard-leads (g .claim) (g .passed);
-            kind = keyboard-due (g .enabled) q (leb-true 0xC000 _ (b .0));
+            kind = inl (refl, may-interrupt (g .enabled .keyboard) _ (q .0) (leb-true 0xC000 _ (b .0)));
             above = ltb-true (priorityOf (m .psr)) keyboardPriority (b .1);
           })
           s

@@ -126,25 +126,20 @@ pub record InReturn (k : Claim) (priority low : ℕ) (Under : Core → List ℕ 
   pub under : Under (popped c mem) mem
 
 -- Which devices may interrupt.
-pub data Enabled : Type 0 where
-  neither-device : Enabled
-  keyboard-alone : Enabled
-  timer-alone : Enabled
-  both-devices : Enabled
+pub record Enabled : Type 0 where
+  pub keyboard : Bool
+  pub timer : Bool
+
+abbrev pub both-devices : Enabled
+both-devices = record { keyboard = true; timer = true }
 
 -- The lowest priority of an interrupt that is taken.
 abbrev pub lowestPriority : Enabled → ℕ
-lowestPriority neither-device = 8
-lowestPriority keyboard-alone = 4
-lowestPriority timer-alone = 6
-lowestPriority both-devices = 4
+lowestPriority e = cond (e .keyboard) 4 6
 
 -- The words of the stack that interrupts take.
 abbrev pub pushedIn : Enabled → ℕ
-pushedIn neither-device = 0
-pushedIn keyboard-alone = 2
-pushedIn timer-alone = 2
-pushedIn both-devices = 4
+pushedIn e = cond (e .keyboard) 2 0 + cond (e .timer) 2 0
 
 -- A monitor that passes the test, and which devices may interrupt.
 pub record Setting : Type 0 where
@@ -176,11 +171,9 @@ pub data Stands (g : Setting) (c : Core) (mem : List ℕ) : Type 0 where
 abbrev pub CannotInterrupt : ℕ → Type 0
 CannotInterrupt status = (status % 0x8000 ≡ 0) × (status ≤ 0x8000)
 
+-- The other devices never do.
 abbrev pub Disabled : Enabled → Devices → Type 0
-Disabled neither-device d = CannotInterrupt (d .kbsr) × CannotInterrupt (d .«timer_status»)
-Disabled keyboard-alone d = CannotInterrupt (d .«timer_status»)
-Disabled timer-alone d = CannotInterrupt (d .kbsr)
-Disabled both-devices d = Unit {0}
+Disabled e d = (e .keyboard ≡ false → CannotInterrupt (d .kbsr)) × (e .timer ≡ false → CannotInterrupt (d .«timer_status»))
 
 pub record Invariant (g : Setting) (m : Machine) (mem : List ℕ) : Type 0 where
   pub disabled : Disabled (g .enabled) (m .devices)
@@ -215,25 +208,23 @@ count-leaves-disabled t h = unfold ticked in go (isOff t) (leb (t .count) 1)
 pub start-disabled : (enabled : Enabled) (keys : List ℕ) (m : Machine) → Disabled enabled (m .devices)
     → Disabled enabled (afterStart keys m .devices)
 unfolding afterKeys afterTimer
-start-disabled neither-device keys m q =
-    (keys-leave-disabled keys (m .devices .kbsr) (q .0), count-leaves-disabled (timerOf (m .devices)) (q .1))
-start-disabled keyboard-alone keys m q = count-leaves-disabled (timerOf (m .devices)) q
-start-disabled timer-alone keys m q = keys-leave-disabled keys (m .devices .kbsr) q
-start-disabled both-devices keys m q = tt
+start-disabled enabled keys m q = (
+  λ z. keys-leave-disabled keys (m .devices .kbsr) (q .0 z),
+  λ z. count-leaves-disabled (timerOf (m .devices)) (q .1 z),
+)
 
 -- A load may clear a ready bit.
 cleared-disabled : (b : Bool) (status : ℕ) → CannotInterrupt status → CannotInterrupt (cond b (status % 0x8000) status)
 cleared-disabled true status h = (omega (arith, h .0), omega (arith, h .0))
 cleared-disabled false status h = h
 
-pub load-disabled : (enabled : Enabled) (a : ℕ) (m : Machine) → Disabled enabled (m .devices) → Disabled enabled (afterLoad a m .devices)
+pub load-disabled : (enabled : Enabled) (a : ℕ) (m : Machine) → Disabled enabled (m .devices)
+    → Disabled enabled (afterLoad a m .devices)
 unfolding afterLoad kbsrAfterLoad timerStatusAfterLoad
-load-disabled neither-device a m q =
-    let k = cleared-disabled (eqb a KBDR) (m .devices .kbsr) (q .0) in
-    (k, cleared-disabled (eqb a TSR) (m .devices .«timer_status») (q .1))
-load-disabled keyboard-alone a m q = cleared-disabled (eqb a TSR) (m .devices .«timer_status») q
-load-disabled timer-alone a m q = cleared-disabled (eqb a KBDR) (m .devices .kbsr) q
-load-disabled both-devices a m q = tt
+load-disabled enabled a m q = (
+  λ z. cleared-disabled (eqb a KBDR) (m .devices .kbsr) (q .0 z),
+  λ z. cleared-disabled (eqb a TSR) (m .devices .«timer_status») (q .1 z),
+)
 
 -- The start of a step and its end leave the rest alone.
 pub started : (g : Setting) (keys : List ℕ) (m : Machine) (mem : List ℕ) → Invariant g m mem
@@ -246,10 +237,7 @@ started g keys m mem i = record {
 tick-disabled : (enabled : Enabled) (shown : List ℕ) (m : Machine) → Disabled enabled (m .devices)
     → Disabled enabled (afterTick shown m .devices)
 unfolding afterTick
-tick-disabled neither-device shown m q = q
-tick-disabled keyboard-alone shown m q = q
-tick-disabled timer-alone shown m q = q
-tick-disabled both-devices shown m q = tt
+tick-disabled enabled shown m q = q
 
 -- ---- outcomes
 
@@ -292,22 +280,24 @@ pub record Bounds (g : Setting) : Type 0 where
   pub low : lowest g ≤ g .claim .lowest
   pub top : g .claim .lowest ≤ 0x2FFE
 
+pushed-at-most : (enabled : Enabled) → pushedIn enabled ≤ 4
+pushed-at-most enabled = go (enabled .keyboard) (enabled .timer)
+  where
+    go : (k t : Bool) → cond k 2 0 + cond t 2 0 ≤ 4
+    go true true = omega arith
+    go true false = omega arith
+    go false true = omega arith
+    go false false = omega arith
+
 pub bounds : (g : Setting) → Bounds g
 bounds g =
     let r = room (g .claim) (g .passed) in
     record {
-      cells = go (g .enabled) (r .0);
+      cells = omega (arith, r .0, pushed-at-most (g .enabled));
       cells-deep = r .0;
       low = omega arith;
       top = r .1;
     }
-  where
-    go : (enabled : Enabled) → length (cellsOf g) + 4 ≤ g .claim .lowest
-        → length (cellsOf g) ≤ g .claim .lowest - pushedIn enabled
-    go neither-device h = omega arith
-    go keyboard-alone h = omega arith
-    go timer-alone h = omega arith
-    go both-devices h = omega arith
 
 pub user-word-is-open : (g : Setting) (a : ℕ) → UserAddress a → secret g a ≡ false
 unfolding isSecretIn

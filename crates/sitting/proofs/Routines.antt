@@ -49,8 +49,7 @@ use Rattle.sitting.proofs.Values.{and-of-both-holds, not-holds, looked-
 use Rattle.sitting.proofs.Values.{codes-besides, words-besides, held-holds, stored-holds, same-is, wordsAt}
 use Rattle.sitting.proofs.Table.{fixed-is-open, own-is-open, own-is-not-fixed, sound-at, Keepable, kept-holds}
 use Rattle.sitting.proofs.Invariant.{Changeable, word-stored, unlisted-changes, coreOf, Known, InRoutine}
-use Rattle.sitting.proofs.Invariant.{goes-to-routine, stays-in-user-mode, Enabled, neither-device}
-use Rattle.sitting.proofs.Invariant.{keyboard-alone, timer-alone, both-devices, Disabled, load-disabled, Setting}
+use Rattle.sitting.proofs.Invariant.{goes-to-routine, stays-in-user-mode, Disabled, load-disabled, Setting}
 use Rattle.sitting.proofs.Invariant.{cellsOf, lowest, secret, OutcomeKeeps, keeps-reads, bounds}
 use Rattle.sitting.proofs.Invariant.{user-word-is-open, monitor-word-is-open, fixed-word-is-open}
 use Rattle.sitting.proofs.Invariant.{stack-word-is-open, monitor-word-is-low, stack-word-changes}
@@ -284,13 +283,6 @@ module _ (g : Setting) (σ : State) (m : Machine) (mem : List ℕ) (q : Disabled
           store-keeps x a (remember c a v σ) (omega arith) (stack-word-is-open g a d (omega arith)) n
           (λ z. absurd (omega arith)) (store-known x a v (omega arith) n (λ z. absurd (omega arith)) h) t
 
-  mcr-disabled : (enabled : Enabled) (v : ℕ) → Disabled enabled (m .devices) → Disabled enabled (mcrStore v m .devices)
-  unfolding mcrStore
-  mcr-disabled neither-device v h = h
-  mcr-disabled keyboard-alone v h = h
-  mcr-disabled timer-alone v h = h
-  mcr-disabled both-devices v h = tt
-
   -- to DDR and MCR
   device-store-keeps : (x a : ℕ) → eqb a DDR || eqb a MCR ≡ true → Goes (next (m .pc)) σ
       → OutcomeKeeps g (storeAt x a m mem)
@@ -304,7 +296,7 @@ module _ (g : Setting) (σ : State) (m : Machine) (mem : List ℕ) (q : Disabled
       to-mcr : OutcomeKeeps g (storeAt x MCR m mem)
       to-mcr = unfold storeAtBy storedBy isDeviceBy deviceStore mcrStore afterInstruction recoded in
           rw (all-allowed (m .psr) (k .supervisor) MCR)
-          (record { reads = tt; writes = tt; invariant = goes-to-routine (mcr-disabled (g .enabled) x q) t k })
+          (record { reads = tt; writes = tt; invariant = goes-to-routine q t k })
 
       go : (d : Bool) → eqb a DDR ≡ d → d || eqb a MCR ≡ true → OutcomeKeeps g (storeAt x a m mem)
       go true e f = rw (eqb-true a DDR e) to-ddr
