@@ -1114,38 +1114,117 @@ static void test_start(void) {
                 (lc3_started){supervisor, 1, 0});
 }
 
-/* A candidate's file of so many words from an origin on, each x1234. */
-static void check_start_user(const char *name, uint16_t origin, size_t words, uint32_t refusal) {
+/* A machine that a candidate's file is started for. */
+static lc3_record started_user(uint16_t origin) {
+    return (lc3_record){.regs = {[6] = 0x8765},
+                        .pc = origin,
+                        .psr = LC3_PSR_USER | LC3_PSR_Z,
+                        .saved_ssp = 0x3000,
+                        .mcr = LC3_MCR_CLOCK};
+}
+
+/*
+ * The first bytes of a candidate's file whose words are x1234. Memory is lent from its first word on,
+ * and from its second, so that the word after it and the word before it are guards.
+ */
+static void check_start_user(const char *name, uint16_t origin, size_t length, size_t memory_len,
+                             uint32_t refusal) {
     const uint8_t file[] = {(uint8_t)(origin >> 8), (uint8_t)origin, 0x12, 0x34, 0x12, 0x34};
-    const lc3_record user = {.regs = {[6] = 0xFDFF},
-                             .pc = origin,
-                             .psr = LC3_PSR_USER | LC3_PSR_Z,
-                             .saved_ssp = 0x3000,
-                             .mcr = LC3_MCR_CLOCK};
+    const lc3_record user = started_user(origin);
+    const size_t words = refusal == 0 ? length / 2 - 1 : 0;
     part = name;
-    fill_memory();
-    keep_buffers();
-    lc3_started got = lc3_start_user(file, 2 + 2 * words, memory, WORDS, 0xFDFF);
-    for (size_t k = 0; refusal == 0 && k < words; k++) wanted_memory[origin + k] = 0x1234;
-    check_record(&got.record, refusal == 0 ? &user : &no_record);
-    CHECK(got.words, refusal == 0 ? words : 0);
-    CHECK(got.refusal, refusal);
-    check_buffers();
+    for (size_t guards = 0; guards < 2 && guards + memory_len <= WORDS + 1; guards++) {
+        fill_memory();
+        keep_buffers();
+        lc3_started got = lc3_start_user(file, length, memory + guards, memory_len, 0x8765);
+        for (size_t k = 0; k < words; k++) wanted_memory[guards + origin + k] = 0x1234;
+        check_record(&got.record, refusal == 0 ? &user : &no_record);
+        CHECK(got.words, words);
+        CHECK(got.refusal, refusal);
+        check_buffers();
+    }
 }
 
 static void test_start_user(void) {
-    check_start_user("first word of User mode", 0x3000, 1, 0);
-    check_start_user("last word of User mode", 0xFDFF, 1, 0);
-    check_start_user("word before them", 0x2FFF, 1, LC3_REFUSED_USER);
-    check_start_user("word after them", 0xFE00, 1, LC3_REFUSED_USER);
-    check_start_user("begins before them", 0x2FFF, 2, LC3_REFUSED_USER);
-    check_start_user("ends after them", 0xFDFF, 2, LC3_REFUSED_USER);
-    check_start_user("without words, first", 0x3000, 0, 0);
-    check_start_user("without words, last", 0xFDFF, 0, 0);
-    check_start_user("without words, before", 0x2FFF, 0, LC3_REFUSED_USER);
-    check_start_user("without words, after", 0xFE00, 0, LC3_REFUSED_USER);
-    check_start_user("access exception's vector word", 0x0102, 1, LC3_REFUSED_USER);
-    check_start_user("beyond memory", 0xFFFF, 2, LC3_REFUSED_RANGE);
+    check_start_user("first word of User mode", 0x3000, 4, WORDS, 0);
+    check_start_user("last word of User mode", 0xFDFF, 4, WORDS, 0);
+    check_start_user("last two words of User mode", 0xFDFE, 6, WORDS, 0);
+    check_start_user("word before them", 0x2FFF, 4, WORDS, LC3_REFUSED_USER);
+    check_start_user("word after them", 0xFE00, 4, WORDS, LC3_REFUSED_USER);
+    check_start_user("begins before them", 0x2FFF, 6, WORDS, LC3_REFUSED_USER);
+    check_start_user("ends after them", 0xFDFF, 6, WORDS, LC3_REFUSED_USER);
+    check_start_user("without words, first", 0x3000, 2, WORDS, 0);
+    check_start_user("without words, last", 0xFDFF, 2, WORDS, 0);
+    check_start_user("without words, before", 0x2FFF, 2, WORDS, LC3_REFUSED_USER);
+    check_start_user("without words, after", 0xFE00, 2, WORDS, LC3_REFUSED_USER);
+    check_start_user("access exception's vector word", 0x0102, 4, WORDS, LC3_REFUSED_USER);
+    check_start_user("last word of memory", 0xFFFF, 4, WORDS, LC3_REFUSED_USER);
+}
+
+/* The numbers that lc3_start answers too come first, in its order; empty buffers are not NULL. */
+static void test_refused_start_user(void) {
+    check_start_user("beyond memory", 0xFFFF, 6, WORDS, LC3_REFUSED_RANGE);
+    check_start_user("odd file", 0xFFFF, 5, WORDS, LC3_REFUSED_FILE);
+    check_start_user("odd file in User mode's words", 0x3000, 3, WORDS, LC3_REFUSED_FILE);
+    check_start_user("no origin", 0x3000, 1, WORDS, LC3_REFUSED_FILE);
+    check_start_user("empty file", 0x3000, 0, WORDS, LC3_REFUSED_FILE);
+    check_start_user("memory too long", 0xFFFF, 5, WORDS + 1, LC3_REFUSED_MEMORY);
+    check_start_user("memory too short", 0x3000, 4, WORDS - 1, LC3_REFUSED_MEMORY);
+    check_start_user("empty memory", 0x2FFF, 4, 0, LC3_REFUSED_MEMORY);
+    check_start_user("empty file and memory", 0x3000, 0, 0, LC3_REFUSED_MEMORY);
+}
+
+/* Files from x3000 on: all of User mode's words, up to the end of memory, and one more of each. */
+static void test_whole_start_user(void) {
+    static uint8_t file[2 + 2 * 0xD001] = {0x30, 0x00};
+    const lc3_record user = started_user(0x3000);
+    const struct {
+        size_t words;
+        uint32_t refusal;
+    } files[] = {{0xCE00, 0},
+                 {0xCE01, LC3_REFUSED_USER},
+                 {0xD000, LC3_REFUSED_USER},
+                 {0xD001, LC3_REFUSED_RANGE}};
+    part = "whole start_user";
+    for (size_t i = 2; i < sizeof file; i++) file[i] = (uint8_t)any();
+    for (size_t i = 0; i < sizeof files / sizeof *files; i++) {
+        const size_t words = files[i].refusal == 0 ? files[i].words : 0;
+        fill_memory();
+        keep_buffers();
+        lc3_started got = lc3_start_user(file, 2 + 2 * files[i].words, memory, WORDS, 0x8765);
+        for (size_t k = 0; k < words; k++) {
+            wanted_memory[0x3000 + k] = (uint16_t)(file[2 + 2 * k] << 8 | file[3 + 2 * k]);
+        }
+        check_record(&got.record, files[i].refusal == 0 ? &user : &no_record);
+        CHECK(got.words, words);
+        CHECK(got.refusal, files[i].refusal);
+        check_buffers();
+    }
+}
+
+/*
+ * A file that replaces the word by which the access exception finds its routine, and has that routine
+ * show the answer at x2000 and halt: lc3_start loads it, lc3_start_user does not.
+ */
+static void test_attack(void) {
+    static const uint8_t file[] = {0x01, 0x02, 0x01, 0x03, 0xA0, 0x02, 0xB0, 0x02, 0x0E, 0x02, 0x20,
+                                   0x00, 0xFE, 0x06, 0x52, 0x60, 0xB2, 0x01, 0x0F, 0xFF, 0xFF, 0xFE};
+    for (uint16_t answer = 'A'; answer <= 'B'; answer++) {
+        part = "attack";
+        clear_buffers();
+        CHECK(lc3_monitor(memory, WORDS), LC3_ACCEPTED);
+        memory[0x2000] = answer;
+        keep_buffers();
+        CHECK(lc3_start_user(file, sizeof file, memory, WORDS, 0xFDFF).refusal, LC3_REFUSED_USER);
+        check_buffers();
+        arguments c = usual();
+        c.record = lc3_start(file, sizeof file, memory, WORDS, true, 0xFDFF).record;
+        c.n = 100;
+        lc3_answer a = run(&c);
+        CHECK(a.stop, LC3_HALTED);
+        CHECK(a.shown, 1);
+        CHECK(output[0], answer);
+    }
 }
 
 static void test_save(void) {
@@ -1314,6 +1393,9 @@ int main(void) {
     test_refused_start();
     test_start();
     test_start_user();
+    test_refused_start_user();
+    test_whole_start_user();
+    test_attack();
     test_save();
     test_vectors();
     test_monitor();

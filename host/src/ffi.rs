@@ -114,7 +114,7 @@ pub struct Started {
     pub record: Record,
     /// The words of the file, its origin not counted, or 0 if refused.
     pub words: u32,
-    /// 0, or the number of the refusal: 11, 17 or 18.
+    /// 0, or the number of the refusal: 11, 17, 18 or, of `lc3_start_user`, 21.
     pub refusal: u32,
 }
 

@@ -1,10 +1,13 @@
 //! The LC-3 with privilege, interrupts, a console and a timer.
 //!
-//! This crate is a safe wrapper of the static library `liblc3.a`. It has the library's seventeen calls:
+//! This crate is a safe wrapper of the static library `liblc3.a`. It has the library's eighteen
+//! calls:
 //!
 //! - [`version()`], the version of the interface;
-//! - [`start`] for an object file and a machine that is to run it, [`run`](run()) for a number of
-//!   steps over lent memory, and [`step`] for one step, which alters the record that it is lent;
+//! - [`start`] for an object file and a machine that is to run it, and [`start_user`] for a file
+//!   that is not trusted, such as a candidate's;
+//! - [`run`](run()) for a number of steps over lent memory, and [`step`] for one step, which alters
+//!   the record that it is lent;
 //! - [`run_long`], which does what [`run`](run()) does, faster for long sittings;
 //! - [`run_second`] and [`step_second`], the same by the rules of the book's second edition;
 //! - [`run_logged`] for a run that logs each step, with [`logged_steps`] to read the log;

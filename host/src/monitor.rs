@@ -59,17 +59,17 @@ impl std::error::Error for MonitorRefusal {}
 ///
 /// Its routines are GETC, OUT, PUTS, IN, PUTSP and HALT of the book's Table A.3; every other trap
 /// and the three exceptions halt and show nothing; interrupts return at once. The program that it
-/// serves starts in User mode.
+/// serves starts in User mode; a candidate's is started by [`start_user`](crate::start_user).
 ///
 /// A refused call alters nothing.
 ///
 /// ```
-/// use lc3::{Keys, Mode, Stop};
+/// use lc3::{Keys, Stop};
 ///
 /// let mut memory = vec![0; lc3::WORDS];
 /// lc3::install_monitor(&mut memory)?;
 /// let file = [0x30, 0x00, 0xF0, 0x25]; // at x3000, TRAP x25: HALT
-/// let record = lc3::start(&file, &mut memory, Mode::User, 0xFDFF)?.record;
+/// let record = lc3::start_user(&file, &mut memory, 0xFDFF)?.record;
 /// let mut output = [0; 80];
 /// let run = lc3::run(record, &mut memory, Keys::NONE, &mut output, 1000)?;
 /// assert_eq!(run.stop, Stop::Halted);

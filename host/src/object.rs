@@ -83,6 +83,14 @@ impl std::error::Error for ObjectRefusal {}
 ///
 /// A refused call alters nothing.
 ///
+/// # What this does not protect
+///
+/// A file may lie anywhere, in privileged memory too: it may replace vector words, the monitor and
+/// an examiner's words. User mode is no protection: it limits what a program does, not where its
+/// file is loaded. A file that replaces the word x0102 decides where an access exception leads, and
+/// so runs its own words in Supervisor mode. A file that is not trusted is started by
+/// [`start_user`].
+///
 /// ```
 /// use lc3::{Mode, ObjectRefusal};
 ///
@@ -124,7 +132,12 @@ pub fn start(
 }
 
 /// Starts a file that is not trusted, such as a candidate's: as [`start`] does it in User mode, but
-/// no word of memory outside x3000 to xFDFF is replaced.
+/// the origin and every word of the file must lie in x3000 to xFDFF. No other file is loaded, so no
+/// word of memory outside them is replaced.
+///
+/// Beside the [ready-made monitor](crate::install_monitor) no program that is started so learns or
+/// changes a word of x02A5 to x2FF9, or a lent word from xFE00 on, however long it runs. Beside
+/// another monitor that depends on the monitor.
 ///
 /// A refused call alters nothing.
 ///

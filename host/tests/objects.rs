@@ -1,5 +1,6 @@
 //! Object files, held against a reader and a writer of this file, and the records that they are
-//! started with, held against the reference simulator's.
+//! started with, held against the reference simulator's. A candidate's file is held against the
+//! same reader and the rule of the addresses that it may have.
 
 mod reference;
 mod support;
@@ -7,6 +8,7 @@ mod support;
 use lc3::ffi::{self, Counted, Started};
 use lc3::{Keys, Mode, Record, Stop, STEP_LIMIT, WORDS};
 use reference::machine;
+use std::collections::BTreeMap;
 use std::fs;
 use std::path::Path;
 use support::Rng;
@@ -51,6 +53,17 @@ fn read(file: &[u8], memory_len: usize) -> Result<(u16, Vec<u16>), u32> {
     }
 }
 
+/// The same of a candidate's file, whose origin and words have the addresses of User mode alone.
+fn read_user(file: &[u8], memory_len: usize) -> Result<(u16, Vec<u16>), u32> {
+    let (origin, words) = read(file, memory_len)?;
+    let first = usize::from(origin);
+    let mut addresses = [first].into_iter().chain(first..first + words.len());
+    if addresses.any(|address| !(0x3000..=0xFDFF).contains(&address)) {
+        return Err(21);
+    }
+    Ok((origin, words))
+}
+
 /// Writes a file by the same rules.
 fn write(memory: &[u16], origin: u16, words: usize, room: usize) -> Result<Vec<u8>, u32> {
     if memory.len() != 1 << 16 {
@@ -69,9 +82,31 @@ fn write(memory: &[u16], origin: u16, words: usize, room: usize) -> Result<Vec<u
     Ok(file)
 }
 
+/// By which call a file is started.
+#[derive(Clone, Copy, Debug, PartialEq, Eq)]
+enum By {
+    Start(Mode),
+    StartUser,
+}
+
+/// What a start is to answer, and the words with their address that it is to load.
+fn expected_start(by: By, file: &[u8], words: usize, stack: u16) -> (Started, u16, Vec<u16>) {
+    let (read, user) = match by {
+        By::Start(mode) => (read(file, words), mode == Mode::User),
+        By::StartUser => (read_user(file, words), true),
+    };
+    match read {
+        Ok((origin, words)) => {
+            let record = machine::fresh(origin, user, stack);
+            (Started { record, words: words.len() as u32, refusal: 0 }, origin, words)
+        }
+        Err(refusal) => (Started { record: NO_RECORD, words: 0, refusal }, 0, Vec::new()),
+    }
+}
+
 /// Lends copies of the file and of memory, each between guards, and panics unless the answer and
-/// all that was lent are as the reader above and the reference simulator have them.
-fn check_start_in(file: &[u8], memory: &[u16], user: bool, stack: u16) -> Started {
+/// all that was lent are as the readers above and the reference simulator have them.
+fn check_start_by(by: By, file: &[u8], memory: &[u16], stack: u16) -> Started {
     let mut lent_file = vec![BYTE; GUARD];
     lent_file.extend_from_slice(file);
     lent_file.extend([BYTE; GUARD]);
@@ -79,37 +114,33 @@ fn check_start_in(file: &[u8], memory: &[u16], user: bool, stack: u16) -> Starte
     lent.extend_from_slice(memory);
     lent.extend([WORD; GUARD]);
     let (file_before, mut wanted) = (lent_file.clone(), lent.clone());
-    let expected = match read(file, memory.len()) {
-        Ok((origin, words)) => {
-            let start = GUARD + usize::from(origin);
-            wanted[start..start + words.len()].copy_from_slice(&words);
-            let record = machine::fresh(origin, user, stack);
-            Started { record, words: words.len() as u32, refusal: 0 }
-        }
-        Err(refusal) => Started { record: NO_RECORD, words: 0, refusal },
-    };
+    let (expected, origin, words) = expected_start(by, file, memory.len(), stack);
+    let start = GUARD + usize::from(origin);
+    wanted[start..start + words.len()].copy_from_slice(&words);
+    let (bytes, length) = (lent_file[GUARD..].as_ptr(), file.len());
+    let (cells, count) = (lent[GUARD..].as_mut_ptr(), memory.len());
     // SAFETY: both ranges lie within their vectors.
     let answer = unsafe {
-        ffi::lc3_start(
-            lent_file.as_ptr().add(GUARD),
-            file.len(),
-            lent.as_mut_ptr().add(GUARD),
-            memory.len(),
-            user,
-            stack,
-        )
+        match by {
+            By::Start(mode) => {
+                ffi::lc3_start(bytes, length, cells, count, mode == Mode::User, stack)
+            }
+            By::StartUser => ffi::lc3_start_user(bytes, length, cells, count, stack),
+        }
     };
-    assert_eq!(answer, expected, "a file of {} bytes", file.len());
+    assert_eq!(answer, expected, "a file of {length} bytes, {by:?}");
     assert!(lent_file == file_before, "the file changed");
-    assert!(lent == wanted, "memory is not as expected after a file of {} bytes", file.len());
+    assert!(lent == wanted, "memory is not as expected after a file of {length} bytes, {by:?}");
     answer
 }
 
-/// The same in both modes, with a user stack that differs from file to file.
+/// The same by both calls, in both modes, with a user stack that differs from file to file. Answers
+/// what `lc3_start` does in User mode.
 fn check_start(file: &[u8], memory: &[u16]) -> Started {
     let stack = (file.len() as u16).wrapping_mul(0x9E37);
-    check_start_in(file, memory, false, stack);
-    check_start_in(file, memory, true, stack)
+    check_start_by(By::StartUser, file, memory, stack);
+    check_start_by(By::Start(Mode::Supervisor), file, memory, stack);
+    check_start_by(By::Start(Mode::User), file, memory, stack)
 }
 
 /// The same for writing to an output of `room` bytes; answers the file.
@@ -279,6 +310,100 @@ fn random_files() {
         let run = lc3::run(halted, &mut lent, Keys::NONE, &mut [], STEP_LIMIT);
         assert_eq!(run.map(|run| run.stop), Ok(Stop::Halted));
     }
+}
+
+/// A file of so many words from an origin on.
+fn file_of(rng: &mut Rng, origin: u16, words: usize) -> Vec<u8> {
+    let mut file = origin.to_be_bytes().to_vec();
+    file.extend(random_bytes(rng, 2 * words));
+    file
+}
+
+/// Origins, numbers of words, and what `lc3_start_user` answers to such a file.
+const USER_BORDERS: [(u16, usize, u32); 22] = [
+    // Without words, and with one.
+    (0x2FFF, 0, 21),
+    (0x3000, 0, 0),
+    (0xFDFF, 0, 0),
+    (0xFE00, 0, 21),
+    (0x2FFF, 1, 21),
+    (0x3000, 1, 0),
+    (0xFDFF, 1, 0),
+    (0xFE00, 1, 21),
+    // The last word at x2FFF, x3000, xFDFF, xFE00.
+    (0x2FFE, 2, 21),
+    (0x2FFF, 2, 21),
+    (0xFDFE, 2, 0),
+    (0xFDFF, 2, 21),
+    (0x0000, 0x3000, 21),
+    (0x3000, 0xCE00, 0),
+    (0x3000, 0xCE01, 21),
+    (0x2FFF, 0xCE01, 21),
+    // Up to the last word of memory, and beyond it: 18 comes first.
+    (0xFFFF, 0, 21),
+    (0xFFFF, 1, 21),
+    (0xFFFF, 2, 18),
+    (0x3000, 0xD000, 21),
+    (0x3000, 0xD001, 18),
+    (0x0000, 0x1_0001, 18),
+];
+
+#[test]
+fn the_borders_of_a_candidates_file() {
+    let mut rng = Rng::of_case(9, 0);
+    let memory = random_words(&mut rng, WORDS + 1);
+    for (origin, words, refusal) in USER_BORDERS {
+        let mut file = file_of(&mut rng, origin, words);
+        let whole = check_start_by(By::StartUser, &file, &memory[..WORDS], rng.word());
+        assert_eq!(whole.refusal, refusal, "x{origin:04X}, {words} words");
+        // 17 comes before 18 and 21, and 11 before all of them.
+        file.push(0);
+        let odd = check_start_by(By::StartUser, &file, &memory[..WORDS], rng.word());
+        assert_eq!(odd.refusal, 17);
+        for length in [0, 1, 0x3000, WORDS - 1, WORDS + 1] {
+            for file in [&file[..], &file[..file.len() - 1], &file[..1], &[]] {
+                let other = check_start_by(By::StartUser, file, &memory[..length], rng.word());
+                assert_eq!(other.refusal, 11);
+            }
+        }
+    }
+}
+
+/// A random file that a candidate might hand in: many begin or end near a border of User mode's
+/// words or near the end of memory. One in sixteen is of odd length.
+fn random_user_file(rng: &mut Rng) -> Vec<u8> {
+    let near_border = |rng: &mut Rng| rng.pick(&[0x3000, 0xFE00, 0x1_0000]) + rng.between(-3, 3);
+    let anywhere = rng.between(0, 0xFFFF);
+    let origin = if rng.once_in(2) { near_border(rng).min(0xFFFF) } else { anywhere };
+    let words = match near_border(rng) - origin {
+        to_border @ 0.. if to_border < 400 || rng.once_in(8) => to_border,
+        _ => rng.between(0, 40),
+    };
+    let mut file = file_of(rng, origin as u16, words as usize);
+    if rng.once_in(16) {
+        file.pop();
+    }
+    file
+}
+
+#[test]
+fn random_files_of_candidates() {
+    let mut answers = BTreeMap::new();
+    let mut memory = Vec::new();
+    for number in 0..20_000 {
+        let mut rng = Rng::of_case(10, number);
+        if number % 100 == 0 {
+            memory = random_words(&mut rng, WORDS + 1);
+        }
+        let file = random_user_file(&mut rng);
+        let odd_sizes = [0, 1, WORDS - 1, WORDS + 1];
+        let length = if rng.once_in(32) { rng.pick(&odd_sizes) } else { WORDS };
+        let answer = check_start_by(By::StartUser, &file, &memory[..length], rng.word());
+        *answers.entry(answer.refusal).or_insert(0) += 1;
+    }
+    println!("candidates' files by refusal: {answers:?}");
+    let met = [0, 11, 17, 18, 21].map(|refusal| answers.get(&refusal).copied().unwrap_or(0));
+    assert!(met.iter().all(|&files| files >= 500), "an answer was given seldom: {met:?}");
 }
 
 #[test]
