@@ -3,7 +3,10 @@
 // Each test program uses its own part of this module.
 #![allow(dead_code)]
 
+pub mod candidates;
 pub mod cases;
+pub mod hosts;
+pub mod pairs;
 pub mod program;
 pub mod sittings;
 
