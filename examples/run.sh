@@ -19,13 +19,14 @@ show "A greeting." "lc3 run examples/hello.obj </dev/null"
 show "Its words." "lc3 list examples/hello.obj | head -n 4"
 show "What is typed is shown, up to a full stop." "lc3 run examples/echo.obj <examples/echo.keys"
 show "The primes below 100." "lc3 run examples/sieve.obj </dev/null"
-show "Two tasks that never give way take turns by the timer." "lc3 run --supervisor examples/tasks.obj </dev/null"
+show "Two tasks that never give way take turns by the timer." \
+    "lc3 run --supervisor --anywhere examples/tasks.obj </dev/null"
 show "A candidate's program reaches for the examiner's answers." \
-    "lc3 run examples/examiner.obj examples/answers.obj </dev/null"
+    "lc3 run --with examples/examiner.obj examples/answers.obj </dev/null"
 show "The access exception has stopped it." \
-    "lc3 log --last 3 examples/examiner.obj examples/answers.obj </dev/null"
+    "lc3 log --last 3 --with examples/examiner.obj examples/answers.obj </dev/null"
 
-lc3 log examples/examiner.obj examples/answers.obj </dev/null >"$work/with" 2>/dev/null
+lc3 log --with examples/examiner.obj examples/answers.obj </dev/null >"$work/with" 2>/dev/null
 lc3 log examples/answers.obj </dev/null >"$work/without" 2>/dev/null
 cmp "$work/with" "$work/without"
 printf '\nWith the answers in memory and without them, all %d lines of the log are the same.\n' \

@@ -16,7 +16,7 @@
 ('ADD R2, R3, #7', '0x14e7')
 
 The calls of lc3.h are here one to one, for hosts that lend buffers of their own: ``version``,
-``start``, ``run``, ``run_long``, ``step``, ``run_logged``, ``run_second``, ``step_second``,
+``start``, ``start_user``, ``run``, ``run_long``, ``step``, ``run_logged``, ``run_second``, ``step_second``,
 ``read``, ``write``, ``line``, ``line_length``, ``page``, ``save``, ``monitor``,
 ``monitor_routines``, ``vectors``; with ``logged_steps`` to read a log. A call that is refused raises
 ``Refused`` and alters nothing.
@@ -59,6 +59,7 @@ from .constants import (
 )
 from .log import LoggedStep, logged_steps
 from .memory import Line, Memory
+from .places import PlaceError
 from .recording import Program, Recording, RecordingError
 from .records import (
     Edition,
@@ -100,6 +101,7 @@ __all__ = [
     "MONITOR_WORDS",
     "Memory",
     "Mode",
+    "PlaceError",
     "Program",
     "Reading",
     "Reason",

@@ -64,6 +64,16 @@ class Program:
     origin: int
     words: int
 
+    @property
+    def addresses(self) -> range:
+        """The addresses of its words."""
+        return range(self.origin, self.origin + self.words)
+
+    @property
+    def subject(self) -> str:
+        """The name, or else where it lies."""
+        return self.name or f"the file at x{self.origin:04X}"
+
 
 @dataclass(frozen=True)
 class RegisterAlteration:

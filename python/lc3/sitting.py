@@ -13,15 +13,16 @@ import re
 from array import array
 from bisect import bisect_right
 from os import PathLike, fspath
-from typing import TYPE_CHECKING, Iterator, NamedTuple, Union
+from typing import TYPE_CHECKING, Iterator, NamedTuple, Sequence, Union
 
 from . import calls
 from .constants import KBSR_READY, MAX_CLOCK, MAX_STEPS, MCR_CLOCK, MEMORY_WORDS, USER_ORIGIN
 from .constants import USER_STACK
 from .interrupts import Held
 from .log import LoggedStep
-from .machine import Machine, Snapshot
+from .machine import MEMORY_BYTES, Machine, Snapshot
 from .memory import Line, Memory
+from .places import check_apart, check_examiner, check_pc
 from .recording import Alteration, End, Program, Recording, RecordingError, RegisterAlteration
 from .recording import Typed, WordsAlteration, follow
 from .records import LONG_LIMIT, WORD_LIMIT, Edition, Mode, Record, Refusal, Refused, Report
@@ -52,6 +53,18 @@ _BY_CAPITALS = {name.upper(): name for name in NAMES}
 _ADDRESS = re.compile(r"x([0-9A-F]{4})", re.IGNORECASE | re.ASCII)
 
 
+def _loaded(file: ReadableBuffer, memory: array[int], confined: bool, name: str) -> Program:
+    """Loads an object file into memory, a confined one into User mode's words alone."""
+    try:
+        if confined:
+            started = calls.start_user(file, memory, USER_STACK)
+        else:
+            started = calls.start(file, memory, True, USER_STACK)
+    except Refused as refused:
+        raise Refused(refused.number, subject=name) from None
+    return Program(name, started.record.pc, started.words)
+
+
 class Key(NamedTuple):
     """A key and the clock at which it arrived."""
 
@@ -68,9 +81,21 @@ class Sitting:
     ``mode`` Supervisor mode, ``edition`` the rules of the book's second edition, and ``monitor``
     may be left out. A file that is refused raises ``Refused``, which names it.
 
+    **Places.** The files are taken for a candidate's, who is not trusted: one that does not lie in
+    x3000 to xFDFF is refused with 21, whatever the mode. The files of ``examiner`` are loaded
+    before; they lie in privileged memory alone, and beside the ready-made monitor. Files that
+    overlap are refused. ``anywhere=True`` is for files that are all trusted: only overlaps of the
+    files are refused then. See ``lc3.places``.
+
+    >>> answers, candidate = bytes.fromhex("2000 0042"), bytes.fromhex("0102 0103")
+    >>> Sitting(candidate, examiner=[answers])
+    Traceback (most recent call last):
+    lc3.records.Refused: refused (21): the file does not lie in x3000 to xFDFF, where a \
+candidate's belongs: give it another origin, or take fewer words
+
     The ready-made monitor returns by RTI. By the second edition's rules a TRAP pushes nothing for
     an RTI to return to, so there HALT is the only one of its routines that serves: a class that
-    uses that edition loads its monitor's object file before the program's.
+    uses that edition has its monitor's object file among those of ``examiner``.
 
     **Keys.** ``type`` takes text. Its keys arrive one at a time, each only when the last one has
     been read, that is when KBSR's ready bit is clear. The keyboard is looked at 32 steps after the
@@ -96,6 +121,8 @@ class Sitting:
     def __init__(
         self,
         *files: File,
+        examiner: Sequence[File] = (),
+        anywhere: bool = False,
         monitor: bool = True,
         mode: Mode = Mode.USER,
         pc: int | None = None,
@@ -103,26 +130,37 @@ class Sitting:
         edition: int = Edition.THIRD,
         display_limit: int | None = None,
     ) -> None:
-        """Loads the files and starts a machine."""
+        """Loads the files, the examiner's first, and starts a machine."""
+        if isinstance(examiner, (str, PathLike, bytes, bytearray, memoryview)):
+            raise TypeError("examiner is a list of files: write examiner=[file]")
         self._machine = Machine(Edition(edition))
         self.memory = Memory(self._machine.words, self._alter_words)
         self.breakpoints: set[int] = set()
         self.programs: list[Program] = []
         self.stop = Stop.DONE
-        self._mode, self._stack = Mode.USER, USER_STACK
+        self._mode, self._stack, self._anywhere = Mode.USER, USER_STACK, anywhere
+        self._origin, self._started, self._has_monitor = USER_ORIGIN, 0, monitor
         self._marks: list[tuple[Snapshot, int]] = []
         self.display_limit = display_limit
         if monitor:
             calls.monitor(self._machine.words)
+        for file in examiner:
+            self.load(file, examiner=True)
         for file in files:
             self.load(file)
         self.start(pc, mode, stack)
 
     # Loading and starting.
 
-    def load(self, file: File, name: str = "") -> Program:
+    def load(
+        self, file: File, name: str = "", examiner: bool = False, anywhere: bool | None = None
+    ) -> Program:
         """Loads an object file: a path, or the bytes themselves. The record stays as it is, so
         ``start`` follows where the file is to run.
+
+        It is a candidate's file, or the ``examiner``'s, and lies where such a file may unless it
+        may lie ``anywhere``; without a word on that, as the sitting was made. Files that are loaded
+        for one start may not overlap; later, a file replaces words as any alteration does.
 
         >>> Sitting().load(b"\\x30", name="half.obj")
         Traceback (most recent call last):
@@ -133,29 +171,45 @@ than two: an object file is an origin and words, of two bytes each
             name = name or fspath(file)
             with open(file, "rb") as stream:
                 file = stream.read(LONGEST_FILE)
-        try:
-            started = calls.start(file, self._machine.words, True, USER_STACK)
-        except Refused as refused:
-            raise Refused(refused.number, subject=name) from None
-        program = Program(name, started.record.pc, started.words)
-        if self._marks:
-            words = self._machine.words[program.origin : program.origin + program.words]
-            self._keep(WordsAlteration(self.clock, program.origin, words))
+        anywhere = self._anywhere if anywhere is None else anywhere
+        confined = not (examiner or anywhere)
+        # What is refused leaves memory alone: first the file is loaded where nothing is.
+        program = _loaded(file, array("H", bytes(MEMORY_BYTES)), confined, name)
+        if examiner and not anywhere:
+            check_examiner(program, self._has_monitor)
+        if not self._marks:
+            check_apart(program, self.programs[self._started :])
+        _loaded(file, self._machine.words, confined, name)
+        self._keep(WordsAlteration(self.clock, program.origin, self._words_of(program)))
         self.programs.append(program)
+        self._origin = self._origin if examiner else program.origin
         return program
 
+    def _words_of(self, program: Program) -> array[int]:
+        """The words that memory has where a file lies."""
+        return self._machine.words[program.origin : program.origin + program.words]
+
     def start(
-        self, pc: int | None = None, mode: Mode | None = None, stack: int | None = None
+        self,
+        pc: int | None = None,
+        mode: Mode | None = None,
+        stack: int | None = None,
+        anywhere: bool | None = None,
     ) -> None:
         """Starts anew over memory as it stands: a fresh record at ``pc``, or else at the origin of
-        the file that was loaded last, clock 0, an empty display and no keys. Mode and stack are
-        those of the last start unless they are given."""
-        origin = self.programs[-1].origin if self.programs else USER_ORIGIN
-        at = whole(origin if pc is None else pc, WORD_LIMIT, "pc")
+        the candidate's file that was loaded last, clock 0, an empty display and no keys. Mode and
+        stack are those of the last start unless they are given. In User mode PC is in x3000 to
+        xFDFF unless it may be ``anywhere``; without a word on that, as the sitting was made."""
+        at = whole(self._origin if pc is None else pc, WORD_LIMIT, "pc")
         mode = self._mode if mode is None else Mode(mode)
         stack = self._stack if stack is None else stack
-        started = calls.start(at.to_bytes(2, "big"), self._machine.words, bool(mode), stack)
-        self._mode, self._stack = mode, stack
+        file, words = at.to_bytes(2, "big"), self._machine.words
+        if mode is Mode.USER and not (self._anywhere if anywhere is None else anywhere):
+            check_pc(at)
+            started = calls.start_user(file, words, stack)
+        else:
+            started = calls.start(file, words, bool(mode), stack)
+        self._mode, self._stack, self._started = mode, stack, len(self.programs)
         machine = self._machine
         machine.record = started.record.to_c()
         machine.times, machine.keys, machine.arrived = array("Q"), array("B"), 0
@@ -560,6 +614,8 @@ PSR x8001 -> x0001, Saved_USP x0000 -> xFDFF, x2FFE x0000 -> x3002, x2FFF x0000 
         machine.times = array("Q", [time for time, _ in recording.keys])
         machine.keys = array("B", [key for _, key in recording.keys])
         sitting.programs = list(recording.programs)
+        if recording.programs:
+            sitting._origin = recording.programs[-1].origin
         sitting._begin()
         sitting._alterations = list(recording.alterations)
         sitting._left, sitting._left_until = recording.typed, recording.end.record.clock

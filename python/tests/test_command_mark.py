@@ -264,7 +264,7 @@ class Marking(Folder):
         path, cases = self.file("reader.obj", reader), self.file(
             "cases.json", json.dumps([{"name": "z", "expected": "zHalted\n"}])
         )
-        arguments = ["mark", "--cases", cases, "--one", "--with", data]
+        arguments = ["mark", "--cases", cases, "--one", "--data", data]
         for more, verdict in (
             ([], "right"),
             (["--pc", "x3001", "--stack", "x5000", "--supervisor"], "right"),

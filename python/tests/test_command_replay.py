@@ -48,7 +48,7 @@ class Replays(Folder):
         path = self.folder / "sitting.json"
         begin = object_file(0x5000, *BEGIN, 0xFE00, 0xFFF0, rng.choice([0x3000, 0x4000]))
         files.append(self.file("begin.obj", begin))
-        start = ["--pc", "x5000", "--stack", "x3010"]
+        start = ["--anywhere", "--pc", "x5000", "--stack", "x3010"]
         limit = ["--steps", rng.choice([100, 3000, 20000]), "--keys", f"@{keys}"]
         code, out, err = ran("run", *options, *start, *limit, "--save-sitting", path, *files)
         self.assertIn(code, (0, 1), err)

@@ -100,10 +100,11 @@ class Running(Folder):
 
     def test_no_monitor(self) -> None:
         # A monitor whose HALT stores to MCR, in a file of its own.
-        monitor = self.file("monitor.obj", object_file(0x25, 0x1000))
+        vector = self.file("vector.obj", object_file(0x25, 0x1000))
         routine = self.file("halt.obj", object_file(0x1000, "AND R0, R0, #0", "STI R0, #0", 0xFFFE))
+        monitor = ("--with", vector, "--with", routine)
         hello = self.file("halt-only.obj", object_file(0x3000, "TRAP x25"))
-        self.assertEqual(ran("run", "--no-monitor", monitor, routine, hello)[:2], (0, b""))
+        self.assertEqual(ran("run", "--no-monitor", *monitor, hello)[:2], (0, b""))
         code, _, err = ran("run", "--no-monitor", "--steps", 1, hello)
         self.assertEqual((code, "PC x0000" in err), (1, True))
 

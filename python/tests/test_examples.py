@@ -118,11 +118,11 @@ class KnownPrograms(unittest.TestCase):
 
     def test_the_demonstration_s_files(self) -> None:
         data = ROOT / "crates/demo/data"
-        sitting = lc3.Sitting(data / "answers.obj", data / "candidate.obj")
+        sitting = lc3.Sitting(data / "candidate.obj", examiner=[data / "answers.obj"])
         sitting.type("ada 7\n")
         self.assertEqual(sitting.run(10_000).stop, lc3.Stop.HALTED)
         self.assertEqual(sitting.display[:6], "name? ")
-        other = lc3.Sitting(data / "other_answers.obj", data / "candidate.obj")
+        other = lc3.Sitting(data / "candidate.obj", examiner=[data / "other_answers.obj"])
         other.type("ada 7\n")
         other.run(10_000)
         self.assertEqual((other.display, other.clock), (sitting.display, sitting.clock))

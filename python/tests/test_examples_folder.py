@@ -15,6 +15,7 @@ import tempfile
 import unittest
 from pathlib import Path
 from types import ModuleType
+from typing import Any
 
 import lc3
 
@@ -37,9 +38,15 @@ def make_script() -> ModuleType:
 MAKE = make_script()
 
 
-def sitting(*names: str, mode: lc3.Mode = lc3.Mode.USER) -> lc3.Sitting:
-    """A sitting with examples loaded, of which the last runs."""
-    return lc3.Sitting(*(EXAMPLES / f"{name}.obj" for name in names), mode=mode)
+def sitting(name: str, *examiner: str, **settings: Any) -> lc3.Sitting:
+    """A sitting with an example that runs, beside others that are the examiner's."""
+    before = [EXAMPLES / f"{other}.obj" for other in examiner]
+    return lc3.Sitting(EXAMPLES / f"{name}.obj", examiner=before, **settings)
+
+
+def tasks() -> lc3.Sitting:
+    """A sitting with the tasks, which have words below x3000."""
+    return sitting("tasks", mode=lc3.Mode.SUPERVISOR, anywhere=True)
 
 
 class Programs(unittest.TestCase):
@@ -80,7 +87,7 @@ class Programs(unittest.TestCase):
         self.halts(sat, display)
 
     def test_tasks_take_turns(self) -> None:
-        sat = sitting("tasks", mode=lc3.Mode.SUPERVISOR)
+        sat = tasks()
         expected = "ABCDEFGHI01234567JKLMNOPQ89012345RSTUVWXYZ678901234\nHalted\n"
         self.halts(sat, expected, lc3.Reason.TRAP)
         reasons = [step.reason for step in sat.last_steps(sat.clock)]
@@ -88,7 +95,7 @@ class Programs(unittest.TestCase):
 
     def test_tasks_lose_nothing_whatever_the_turn(self) -> None:
         for steps in (50, 77, 100, 131, 1000):
-            sat = sitting("tasks", mode=lc3.Mode.SUPERVISOR)
+            sat = tasks()
             sat.memory[0x2FF8] = steps
             self.assertEqual(sat.run(100_000).stop, lc3.Stop.HALTED)
             others = "".join(c for c in sat.display if not c.isdigit())
@@ -97,15 +104,17 @@ class Programs(unittest.TestCase):
             self.assertEqual(digits, ("0123456789" * 100)[: len(digits)])
 
     def test_tasks_need_supervisor_mode(self) -> None:
-        sat = sitting("tasks")
+        with self.assertRaisesRegex(lc3.Refused, r"tasks.obj: refused \(21\)"):
+            sitting("tasks", mode=lc3.Mode.SUPERVISOR)
+        sat = sitting("tasks", anywhere=True)
         self.assertEqual((sat.run(1000).stop, sat.display), (lc3.Stop.HALTED, ""))
         self.assertEqual(sat.last_steps(sat.clock)[0].reason, lc3.Reason.ACCESS)
 
     def test_answers_are_not_given(self) -> None:
-        sat, shown = sitting("examiner", "answers"), "The first answer is:\n"
+        sat, shown = sitting("answers", "examiner"), "The first answer is:\n"
         self.halts(sat, shown, lc3.Reason.ACCESS)
         self.assertEqual(sat.memory[0x2000], ord("B"))
-        other = sitting("examiner", "answers")
+        other = sitting("answers", "examiner")
         for address in range(0x2000, 0x2004):
             other.memory[address] = ord("Z")
         self.halts(other, shown, lc3.Reason.ACCESS)

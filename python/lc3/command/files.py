@@ -11,6 +11,7 @@ import unicodedata
 from os import PathLike, fspath
 from typing import Sequence
 
+from ..places import PlaceError
 from ..records import Edition, Mode, Refused
 from ..recording import Program, Recording, RecordingError
 from ..sitting import LONGEST_FILE, Sitting
@@ -25,8 +26,8 @@ LONGEST = 1 << 28
 # Why our monitor is not put beside a program of the second edition, and what to do.
 NO_SECOND_MONITOR = (
     "--edition 2: the ready-made monitor returns by RTI, and a TRAP of the second edition pushes "
-    "nothing to return to; add --no-monitor, and name your class's monitor before the program, "
-    "as in: lc3 run --edition 2 --no-monitor MONITOR.obj PROGRAM.obj"
+    "nothing to return to; add --no-monitor, and name your class's monitor by --with, "
+    "as in: lc3 run --edition 2 --no-monitor --with MONITOR.obj PROGRAM.obj"
 )
 
 
@@ -68,6 +69,11 @@ def object_file(path: str) -> bytes:
     return data
 
 
+def object_files(paths: Sequence[str]) -> list[tuple[str, bytes]]:
+    """Object files by their names, each with its bytes."""
+    return [(path, object_file(path)) for path in paths]
+
+
 def whole_file(path: str | PathLike[str]) -> bytes:
     """The bytes of a file of keys or cases."""
     with open(path, "rb") as stream:
@@ -78,12 +84,12 @@ def whole_file(path: str | PathLike[str]) -> bytes:
     return data
 
 
-def load(sitting: Sitting, path: str, data: bytes) -> Program:
+def load(sitting: Sitting, path: str, data: bytes, examiner: bool = False) -> Program:
     """Loads the bytes of an object file, or says what is wrong with it."""
     try:
-        return sitting.load(data, name=path)
-    except Refused as refused:
-        raise CommandError(str(refused)) from None
+        return sitting.load(data, path, examiner)
+    except (Refused, PlaceError) as error:
+        raise CommandError(str(error)) from None
 
 
 def check_edition(options: argparse.Namespace) -> None:
@@ -92,13 +98,23 @@ def check_edition(options: argparse.Namespace) -> None:
         raise CommandError(NO_SECOND_MONITOR, Code.WRONG_USE)
 
 
-def sitting_of(options: argparse.Namespace, files: Sequence[tuple[str, bytes]]) -> Sitting:
-    """A sitting with files loaded, each given by its name and its bytes, as the options have it."""
-    sitting = Sitting(monitor=options.monitor, edition=options.edition)
-    for path, data in files:
+def sitting_of(
+    options: argparse.Namespace,
+    examiner_files: Sequence[tuple[str, bytes]],
+    candidate_files: Sequence[tuple[str, bytes]],
+) -> Sitting:
+    """A sitting with files loaded, each given by its name and its bytes, as the options have it.
+    The last of the candidate's runs."""
+    sitting = Sitting(anywhere=options.anywhere, monitor=options.monitor, edition=options.edition)
+    for path, data in examiner_files:
+        load(sitting, path, data, examiner=True)
+    for path, data in candidate_files:
         load(sitting, path, data)
     mode = Mode.SUPERVISOR if options.supervisor else Mode.USER
-    sitting.start(options.pc, mode, options.stack)
+    try:
+        sitting.start(options.pc, mode, options.stack)
+    except PlaceError as error:
+        raise CommandError(str(error), Code.WRONG_USE) from None
     return sitting
 
 

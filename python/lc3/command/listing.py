@@ -11,15 +11,15 @@ from .messages import Code, plain, registers
 
 def command(options: argparse.Namespace) -> Code:
     """Lists the files one after the other, each by itself, and answers the exit code."""
-    sitting = Sitting()
+    sitting = Sitting(anywhere=True)
     for path in options.files:
         program = load(sitting, path, object_file(path))
+        sitting.start()
         if len(options.files) > 1:
             print(f"{plain(path)}:")
         # A file of an origin alone may have it anywhere, and a page of no lines is none.
         if program.words:
             print(*sitting.lines(program.origin, program.words), sep="\n")
-    sitting.start()
     if options.registers:
         print(registers(sitting))
     return Code.HALTED

@@ -12,7 +12,7 @@ from concurrent.futures.process import BrokenProcessPool
 from typing import Iterator, Sequence
 
 from .cases import Case, cases_of
-from .files import check_edition, object_file
+from .files import check_edition, object_files, sitting_of
 from .marking import REFUSED, RIGHT, Result, mark
 from .messages import Code, CommandError, say
 from .options import processors
@@ -43,9 +43,8 @@ def command(options: argparse.Namespace) -> Code:
         text = f"--one marks one candidate, and {len(options.candidates)} are named"
         raise CommandError(text + "; leave out --one, or run it once for each", Code.WRONG_USE)
     cases = cases_of(options.cases)
-    for path in options.before:
-        # What is wrong with these is wrong with the marking, and not with a candidate.
-        object_file(path)
+    # What is wrong with these is wrong with the marking, and not with a candidate.
+    sitting_of(options, object_files(options.with_files), object_files(options.data_files))
     with Signals() as signals:
         try:
             results = list(_shown(_results(options, cases, signals), len(options.candidates)))

@@ -14,7 +14,7 @@ from typing import Any, Sequence
 from ..records import Reason, Stop
 from ..sitting import Sitting
 from .cases import Case
-from .files import object_file, sitting_of
+from .files import object_files, sitting_of
 from .messages import CommandError, readable
 from .seat import MARKING, Ending, sit
 from .terminal import Keyboard, Signals
@@ -136,9 +136,10 @@ def mark(
     the result means nothing."""
     results = []
     try:
-        files = [(path, object_file(path)) for path in [*options.before, candidate]]
+        examiner = object_files(options.with_files)
+        files = object_files([*options.data_files, candidate])
         for case in cases:
-            sitting = sitting_of(options, files)
+            sitting = sitting_of(options, examiner, files)
             steps = options.steps if case.steps is None else case.steps
             # One byte more than expected is enough to know that there are too many.
             ending = play(sitting, case.keys, steps, len(case.expected) + 1, signals)

@@ -20,11 +20,18 @@ exit codes:
 
 ADDRESSES = "Addresses are written x3000, 0x3000 or #12288. "
 
+WITH = (
+    "load this file of the examiner's first; it lies in privileged memory, below x3000 or from "
+    "xFE00 on, beside the monitor"
+)
+DATA = "load this file before each candidate, for it to read and write; it lies in x3000 to xFDFF"
+
 RUN = (
-    "Runs the last file's program in User mode at its origin, beside the ready-made monitor. On a "
-    "terminal, keys go to the program as they are pressed and Ctrl-C stops it; otherwise the bytes "
-    "of standard input are the keys. What the program shows is standard output, byte for byte. "
-    "One line on standard error tells of the end."
+    "Runs the last file's program in User mode at its origin, beside the ready-made monitor. The "
+    "files must lie in x3000 to xFDFF, and those of --with in privileged memory. On a terminal, "
+    "keys go to the program as they are pressed and Ctrl-C stops it; otherwise the bytes of "
+    "standard input are the keys. What the program shows is standard output, byte for byte. One "
+    "line on standard error tells of the end."
 )
 RUN_EXAMPLES = """\
 examples:
@@ -32,7 +39,10 @@ examples:
   printf 'ada\\n' | lc3 run echo.obj           the bytes of a pipe are the keys
   lc3 run --steps 1000000 --registers sum.obj
   lc3 run --save-sitting s.json game.obj      and then: lc3 run --replay s.json
-  lc3 run --no-monitor monitor.obj prog.obj   the class's own monitor
+  lc3 run --with answers.obj candidate.obj    the examiner's words in privileged memory
+  lc3 run --no-monitor --with monitor.obj prog.obj         the class's own monitor
+  lc3 run --supervisor --anywhere system.obj               all is trusted, as in a course on
+                                                           operating systems
 
 """
 LIST_EXAMPLE = """\
@@ -61,6 +71,7 @@ MARK_EXAMPLES = """\
 examples:
   lc3 run model.obj < cases/one.keys > cases/one.expected      make a case from a model
   lc3 mark --cases cases students                              a table for students/*.obj
+  lc3 mark --cases cases --with answers.obj students           the examiner's words beside each
   lc3 mark --cases cases --csv students > marks.csv
   parallel lc3 mark --cases cases --one ::: students/*.obj     one JSON line for each candidate;
                                                                with --sshlogin on many hosts
@@ -143,8 +154,17 @@ def _add_machine(to: argparse.ArgumentParser) -> None:
         help="the book's edition by whose rules it runs (3); 2 needs --no-monitor, because our "
         "monitor returns by RTI and does not serve it",
     )
-    group.add_argument("--supervisor", action="store_true", help="start in Supervisor mode")
-    group.add_argument("--pc", type=address, metavar="ADDRESS", help="start at this address")
+    group.add_argument(
+        "--supervisor",
+        action="store_true",
+        help="start in Supervisor mode: the program has all rights",
+    )
+    group.add_argument(
+        "--pc",
+        type=address,
+        metavar="ADDRESS",
+        help="start at this address, in User mode one of x3000 to xFDFF",
+    )
     group.add_argument(
         "--stack",
         type=address,
@@ -157,10 +177,28 @@ def _add_machine(to: argparse.ArgumentParser) -> None:
     )
 
 
+def _add_files(to: argparse.ArgumentParser, option: str, text: str) -> None:
+    """An option that names a file, and may be given several times."""
+    to.add_argument(
+        f"--{option}",
+        dest=f"{option}_files",
+        action="append",
+        default=[],
+        metavar="FILE.obj",
+        help=f"{text}; may be given several times",
+    )
+
+
 def _add_run(to: argparse.ArgumentParser) -> None:
     """The options that run and log share."""
     to.add_argument("files", nargs="*", metavar="FILE.obj", help="object files; the last one runs")
     _add_machine(to)
+    _add_files(to, "with", WITH)
+    to.add_argument(
+        "--anywhere",
+        action="store_true",
+        help="every file is trusted: it may lie anywhere, and so may the program's start",
+    )
     to.add_argument(
         "--steps",
         type=count,
@@ -199,15 +237,11 @@ def _add_mark(to: argparse.ArgumentParser) -> None:
         default=10_000_000,
         help="the steps a candidate has for a case that sets none (10000000)",
     )
-    to.add_argument(
-        "--with",
-        dest="before",
-        action="append",
-        default=[],
-        metavar="FILE.obj",
-        help="load this file before each candidate; may be given several times",
-    )
+    _add_files(to, "with", WITH)
+    _add_files(to, "data", DATA)
     _add_machine(to)
+    # A candidate is never trusted.
+    to.set_defaults(anywhere=False)
     to.add_argument(
         "--jobs", type=jobs, metavar="N", help=f"processes at once ({processors()} here)"
     )

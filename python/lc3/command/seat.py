@@ -12,7 +12,7 @@ from ..constants import MAX_CLOCK, MAX_STEPS, USER_STACK
 from ..recording import Recording
 from ..records import Stop
 from ..sitting import Sitting
-from .files import check_edition, object_file, recording_of, sitting_of, whole_file
+from .files import check_edition, object_files, recording_of, sitting_of, whole_file
 from .messages import Code, CommandError, end_line, of_os_error, registers, say, tell
 from .terminal import Keyboard, Signals, die, standard_keyboard
 
@@ -121,8 +121,8 @@ def seat_of(options: argparse.Namespace, signals: Signals) -> Seat:
         steps = steps if options.steps is None else min(steps, options.steps)
         seat = Seat(sitting, keyboard, sitting.clock + steps, True, recording)
     else:
-        files = [(path, object_file(path)) for path in options.files]
-        sitting = sitting_of(options, files)
+        examiner, candidate = object_files(options.with_files), object_files(options.files)
+        sitting = sitting_of(options, examiner, candidate)
         keyboard = _keyboard(options.keys, signals)
         asked = options.steps is not None
         seat = Seat(sitting, keyboard, options.steps if asked else MAX_CLOCK, asked)
@@ -136,7 +136,8 @@ def _check_saving(options: argparse.Namespace) -> None:
     know before a long run than after it."""
     keys = [options.keys[1:]] if (options.keys or "").startswith("@") else []
     replayed = [options.replay] if options.replay is not None else []
-    inputs = [os.path.realpath(path) for path in [*options.files, *keys, *replayed]]
+    named = [*options.with_files, *options.files, *keys, *replayed]
+    inputs = [os.path.realpath(path) for path in named]
     if os.path.realpath(options.save_sitting) in inputs:
         text = f"--save-sitting would overwrite {options.save_sitting}: name another file"
         raise CommandError(text, Code.WRONG_USE)
@@ -154,6 +155,8 @@ def check_use(options: argparse.Namespace) -> None:
         return
     others = {
         "object files": bool(options.files),
+        "--with": bool(options.with_files),
+        "--anywhere": options.anywhere,
         "--keys": options.keys is not None,
         "--edition": options.edition != 3,
         "--supervisor": options.supervisor,
