@@ -16,10 +16,10 @@
 ('ADD R2, R3, #7', '0x14e7')
 
 The calls of lc3.h are here one to one, for hosts that lend buffers of their own: ``version``,
-``start``, ``start_user``, ``run``, ``run_long``, ``step``, ``run_logged``, ``run_second``, ``step_second``,
-``read``, ``write``, ``line``, ``line_length``, ``page``, ``save``, ``monitor``,
-``monitor_routines``, ``vectors``; with ``logged_steps`` to read a log. A call that is refused raises
-``Refused`` and alters nothing.
+``start``, ``start_user``, ``run``, ``run_long``, ``step``, ``run_logged``, ``run_second``,
+``step_second``, ``read``, ``write``, ``line``, ``line_length``, ``page``, ``save``, ``monitor``,
+``monitor_routines``, ``vectors``; with ``logged_steps`` to read a log. A call that is refused
+raises ``Refused`` and alters nothing.
 
 The library is found as ``lc3._library`` says. docs/MACHINE.md has the rules of the machine.
 """
@@ -60,7 +60,7 @@ from .constants import (
 from .log import LoggedStep, logged_steps
 from .memory import Line, Memory
 from .places import PlaceError
-from .recording import Program, Recording, RecordingError
+from .recording import Program, Recording, RecordingError, ReplayError
 from .records import (
     Edition,
     Instruction,
@@ -110,6 +110,7 @@ __all__ = [
     "RecordingError",
     "Refusal",
     "Refused",
+    "ReplayError",
     "Report",
     "Routines",
     "Run",

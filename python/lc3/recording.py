@@ -3,7 +3,7 @@
 A sitting file is JSON in UTF-8, one object with these members:
 
 ``format``       ``"lc3 sitting"``
-``version``      1, the version of this format
+``version``      2, the version of this format; version 1, which has no ``digest``, is read too
 ``edition``      2 or 3, the book's edition by whose rules the machine runs
 ``programs``     what was loaded, for people: a list of ``{"name", "origin", "words"}``
 ``start``        the machine before the first step: ``record``, an object with the fields of
@@ -20,9 +20,13 @@ A sitting file is JSON in UTF-8, one object with these members:
                  first and of the bytes shown; ``shown``, their number
 ``typed``        typed text that has not arrived: ``bytes`` in base64, and ``look`` and ``since``,
                  the clock at which the keyboard is looked at next and that of the last key
+``digest``       the SHA-256 in hexadecimal digits of all other members, written as JSON in ASCII
+                 with the members of each object in the order of their names and no white space
 
 What a machine does follows from its start, its keys and these alterations alone, so a replay comes
-to the same end in one run or in any pieces.
+to the same end in one run or in any pieces. A file that was damaged or altered is refused by its
+digest; and whoever makes a file anew with a digest of its own must still have the end right. Who
+made it, no file tells.
 """
 
 from __future__ import annotations
@@ -31,10 +35,11 @@ import base64
 import binascii
 import hashlib
 import json
+import re
 import zlib
 from array import array
 from dataclasses import asdict, dataclass, field
-from os import PathLike
+from os import PathLike, fspath
 from pathlib import Path
 from sys import byteorder
 from typing import Any, Sequence, Union
@@ -45,15 +50,23 @@ from .log import LoggedStep
 from .machine import MEMORY_BYTES, Machine
 from .records import LONG_LIMIT, SHORT_FIELDS, WORD_LIMIT, Edition, Record, Refused, Stop, whole
 from .steps import NAMES
+from .strict_json import strict_json
 
-FORMAT, FORMAT_VERSION = "lc3 sitting", 1
+FORMAT, FORMAT_VERSION = "lc3 sitting", 2
 
-# A longer file is taken for one that never ends.
-LONGEST = 1 << 28
+# A longer file is neither written nor read. It has room for more than a million keys.
+LONGEST = 1 << 26
+
+# The steps of a replay to which nobody has set a number: a few minutes.
+REPLAY_STEPS = 10_000_000_000
 
 
 class RecordingError(ValueError):
-    """A file that is no recording of a sitting, or a replay that did not come to its end."""
+    """A file that is no recording of a sitting, or one that can't be replayed."""
+
+
+class ReplayError(RecordingError):
+    """A replay that came to another end than its sitting."""
 
 
 @dataclass(frozen=True)
@@ -186,6 +199,16 @@ class Recording:
         """The steps from the start to the end."""
         return self.end.record.clock - self.start.clock
 
+    def check(self, came: End, steps: int, why: str) -> None:
+        """Nothing if a replay of so many steps came where the sitting was; else a ``ReplayError``
+        that says in what it did not, or why it stopped before."""
+        made = came.record.clock - self.start.clock
+        if made < min(steps, self.steps):
+            raise ReplayError(f"the replay stops after {made} of {self.steps} steps: {why}")
+        for name in ("record", "memory", "display", "shown") if made == self.steps else ():
+            if getattr(came, name) != getattr(self.end, name):
+                raise ReplayError(f"the replay comes to another {name} than the sitting")
+
     def to_json(self) -> str:
         """The text of the file."""
         data = {
@@ -207,7 +230,7 @@ class Recording:
                 "since": self.typed.since,
             },
         }
-        return json.dumps(data, indent=1) + "\n"
+        return json.dumps(sealed(data), indent=1) + "\n"
 
     @classmethod
     def from_json(cls, text: str | bytes) -> Recording:
@@ -218,14 +241,22 @@ class Recording:
         lc3.recording.RecordingError: no recording of a sitting: 'format' is missing
         """
         try:
-            return _recording(json.loads(text))
+            return _recording(_unsealed(strict_json(text)))
         except (KeyError, TypeError, ValueError, RecursionError) as error:
             problem = f"{error.args[0]!r} is missing" if isinstance(error, KeyError) else error
             raise RecordingError(f"no recording of a sitting: {problem}") from None
 
     def save(self, path: str | PathLike[str]) -> None:
         """Writes the file."""
-        Path(path).write_text(self.to_json(), encoding="utf-8")
+        text = self.to_json()
+        if len(text) > LONGEST:
+            raise RecordingError(f"{path}: the sitting is longer than {LONGEST >> 20} MiB")
+        try:
+            Path(path).write_text(text, encoding="utf-8")
+        except OSError as error:
+            # A disk that is full while words are written does not say whose they are.
+            error.filename = error.filename or fspath(path)
+            raise
 
     @classmethod
     def load(cls, path: str | PathLike[str]) -> Recording:
@@ -238,6 +269,27 @@ class Recording:
             return cls.from_json(text)
         except RecordingError as error:
             raise RecordingError(f"{path}: {error}") from None
+
+
+def sealed(data: dict[str, Any]) -> dict[str, Any]:
+    """The data of a file with their digest, in the place of any that they have."""
+    others = {name: value for name, value in data.items() if name != "digest"}
+    text = json.dumps(others, sort_keys=True, separators=(",", ":"))
+    return {**others, "digest": hashlib.sha256(text.encode("ascii")).hexdigest()}
+
+
+def _unsealed(data: Any) -> dict[str, Any]:
+    """The data of a file of ours, if its digest is right."""
+    if not isinstance(data, dict):
+        raise ValueError("it is not an object")
+    if data["format"] != FORMAT:
+        raise ValueError(f"its format is {data['format']!r}, not {FORMAT!r}")
+    version = _whole(data["version"], LONG_LIMIT, "version")
+    if version not in (1, FORMAT_VERSION):
+        raise ValueError(f"its version is {version}, and this reads 1 and {FORMAT_VERSION}")
+    if (version > 1 or "digest" in data) and data["digest"] != sealed(data)["digest"]:
+        raise ValueError("its digest is that of other data: it was damaged or altered")
+    return data
 
 
 def _base64(data: bytes) -> str:
@@ -274,11 +326,18 @@ def _memory(text: Any) -> array[int]:
     return from_high_first(data)
 
 
+def _whole(value: Any, greatest: int, name: str) -> int:
+    """A number of the file. JSON's ``true`` is none, though Python takes it for 1."""
+    if isinstance(value, bool):
+        raise TypeError(f"{name} must be a whole number, not {value!r}")
+    return whole(value, greatest, name)
+
+
 def _record(data: Any) -> Record:
     """A record of the file that a run takes."""
-    regs = [whole(value, WORD_LIMIT, "a register") for value in data["regs"]]
-    shorts = {name: whole(data[name], WORD_LIMIT, name) for name in SHORT_FIELDS}
-    record = Record(regs=regs, clock=whole(data["clock"], MAX_CLOCK, "clock"), **shorts)
+    regs = [_whole(value, WORD_LIMIT, "a register") for value in data["regs"]]
+    shorts = {name: _whole(data[name], WORD_LIMIT, name) for name in SHORT_FIELDS}
+    record = Record(regs=regs, clock=_whole(data["clock"], MAX_CLOCK, "clock"), **shorts)
     _accepted(record.to_c())
     return record
 
@@ -293,22 +352,55 @@ def _accepted(record: RecordStruct) -> None:
 
 def _alteration(data: Any) -> Alteration:
     """An alteration of the file."""
-    clock = whole(data["clock"], MAX_CLOCK, "clock")
+    clock = _whole(data["clock"], MAX_CLOCK, "clock")
     if "register" in data:
         if data["register"] not in NAMES:
             raise ValueError(f"{data['register']!r} is no register")
-        value = whole(data["value"], WORD_LIMIT, data["register"])
+        value = _whole(data["value"], WORD_LIMIT, data["register"])
         alteration = RegisterAlteration(clock, data["register"], value)
         # Which bits a register has does not depend on the others.
         _accepted(alteration.altered(RecordStruct()))
         return alteration
-    address, digits = whole(data["address"], WORD_LIMIT, "address"), data["words"]
+    address, digits = _whole(data["address"], WORD_LIMIT, "address"), data["words"]
     if not isinstance(digits, str) or len(digits) % 4:
         raise ValueError("the words of an alteration have four hexadecimal digits each")
     words = from_high_first(bytes.fromhex(digits))
     if address + len(words) > MEMORY_WORDS:
         raise ValueError("an alteration goes beyond the last word of memory")
     return WordsAlteration(clock, address, words)
+
+
+def _program(data: Any) -> Program:
+    """A program of the file."""
+    if not isinstance(data["name"], str):
+        raise TypeError(f"the name of a program is {data['name']!r}")
+    origin = _whole(data["origin"], WORD_LIMIT, "origin")
+    return Program(data["name"], origin, _whole(data["words"], MEMORY_WORDS - origin, "words"))
+
+
+def _digest(text: Any, name: str) -> str:
+    """A SHA-256 of the file."""
+    if not isinstance(text, str) or not re.fullmatch("[0-9a-f]{64}", text):
+        raise ValueError(f"the {name} at the end is no SHA-256")
+    return text
+
+
+def _end(data: Any) -> End:
+    """The end of the file."""
+    memory, display = _digest(data["memory"], "memory"), _digest(data["display"], "display")
+    return End(_record(data["record"]), memory, display, _whole(data["shown"], MAX_CLOCK, "shown"))
+
+
+def _typed(data: Any) -> Typed:
+    """The typed text of the file."""
+    typed = Typed(
+        _decoded(data["bytes"], "typed text"),
+        _whole(data["look"], MAX_CLOCK * 2, "look"),
+        _whole(data["since"], MAX_CLOCK, "since"),
+    )
+    if typed.look < typed.since:
+        raise ValueError("the keyboard is not looked at before the last key")
+    return typed
 
 
 def _in_order(clocks: Sequence[int], least: int, name: str) -> None:
@@ -318,36 +410,26 @@ def _in_order(clocks: Sequence[int], least: int, name: str) -> None:
             raise ValueError(f"the {name} are not in order of time from the start on")
 
 
-def _recording(data: Any) -> Recording:
+def _recording(data: dict[str, Any]) -> Recording:
     """The recording of a file's data. What is missing is a ``KeyError``, and what is wrong a
     ``TypeError`` or ``ValueError``."""
-    if not isinstance(data, dict):
-        raise ValueError("it is not an object")
-    if data["format"] != FORMAT:
-        raise ValueError(f"its format is {data['format']!r}, not {FORMAT!r}")
-    if data["version"] != FORMAT_VERSION:
-        raise ValueError(f"its version is {data['version']!r}, and this is {FORMAT_VERSION}")
-    start, end, typed = data["start"], data["end"], data["typed"]
     recording = Recording(
-        edition=Edition(data["edition"]),
-        start=_record(start["record"]),
-        memory=_memory(start["memory"]),
-        keys=tuple((whole(t, LONG_LIMIT, "time"), whole(k, 255, "key")) for t, k in data["keys"]),
+        edition=Edition(_whole(data["edition"], LONG_LIMIT, "edition")),
+        start=_record(data["start"]["record"]),
+        memory=_memory(data["start"]["memory"]),
+        keys=tuple((_whole(t, LONG_LIMIT, "time"), _whole(k, 255, "key")) for t, k in data["keys"]),
         alterations=tuple(_alteration(item) for item in data["alterations"]),
-        end=End(_record(end["record"]), end["memory"], end["display"], end["shown"]),
-        typed=Typed(
-            _decoded(typed["bytes"], "typed text"),
-            whole(typed["look"], MAX_CLOCK * 2, "look"),
-            whole(typed["since"], MAX_CLOCK, "since"),
-        ),
-        programs=tuple(Program(p["name"], p["origin"], p["words"]) for p in data["programs"]),
+        end=_end(data["end"]),
+        typed=_typed(data["typed"]),
+        programs=tuple(_program(item) for item in data["programs"]),
     )
-    if recording.typed.look < recording.typed.since:
-        raise ValueError("the keyboard is not looked at before the last key")
-    _in_order([time for time, _ in recording.keys], recording.start.clock, "keys")
-    _in_order([a.clock for a in recording.alterations], recording.start.clock, "alterations")
-    if data["steps"] != recording.steps or recording.steps < 0:
+    begun = recording.start.clock
+    _in_order([time for time, _ in recording.keys], begun, "keys")
+    _in_order([change.clock for change in recording.alterations], begun, "alterations")
+    if _whole(data["steps"], MAX_CLOCK, "steps") != recording.steps:
         raise ValueError("its steps are not those from its start to its end")
+    if recording.end.shown > recording.steps:
+        raise ValueError("more bytes are shown than steps made")
     return recording
 
 

@@ -23,8 +23,8 @@ from .log import LoggedStep
 from .machine import MEMORY_BYTES, Machine, Snapshot
 from .memory import Line, Memory
 from .places import check_apart, check_examiner, check_pc
-from .recording import Alteration, End, Program, Recording, RecordingError, RegisterAlteration
-from .recording import Typed, WordsAlteration, follow
+from .recording import REPLAY_STEPS, Alteration, End, Program, Recording, RecordingError
+from .recording import RegisterAlteration, Typed, WordsAlteration, follow
 from .records import LONG_LIMIT, WORD_LIMIT, Edition, Mode, Record, Refusal, Refused, Report
 from .records import Stop, whole
 from .steps import NAMES, TracedStep, value_of
@@ -622,20 +622,17 @@ PSR x8001 -> x0001, Saved_USP x0000 -> xFDFF, x2FFE x0000 -> x3002, x2FFF x0000 
         return sitting
 
     @classmethod
-    def replay(cls, recording: Recording | str | PathLike[str]) -> Sitting:
+    def replay(
+        cls, recording: Recording | str | PathLike[str], most: int = REPLAY_STEPS
+    ) -> Sitting:
         """Replays a recording or a file to its end, and answers the sitting there, to look at or
-        to go on with; or a ``RecordingError`` that says in what it came to another end."""
+        to go on with; or a ``ReplayError`` that says in what it came to another end. A recording
+        of more steps than ``most`` is not replayed."""
         if not isinstance(recording, Recording):
             recording = Recording.load(recording)
+        if recording.steps > whole(most, LONG_LIMIT, "most"):
+            raise RecordingError(f"the sitting has {recording.steps} steps, more than {most}")
         sitting = cls.of(recording)
         report = sitting.run(recording.steps)
-        end, came = recording.end, End.of(sitting._machine)
-        if report.stop is not Stop.DONE:
-            raise RecordingError(
-                f"the replay stops after {report.steps} of {recording.steps} steps: "
-                f"{report.stop.text}"
-            )
-        for name in ("record", "memory", "display", "shown"):
-            if getattr(came, name) != getattr(end, name):
-                raise RecordingError(f"the replay comes to another {name} than the recording")
+        recording.check(End.of(sitting._machine), recording.steps, report.stop.text)
         return sitting

@@ -3,11 +3,14 @@ random programs."""
 
 from __future__ import annotations
 
+import json
 import random
 from array import array
 from pathlib import Path
+from typing import Any
 
 import lc3
+from lc3.recording import sealed
 
 from .command_support import HELLO, UNTIL_Q, Folder, ran
 from .support import object_file, random_memory
@@ -22,6 +25,10 @@ BEGIN = ("LD R5, #3", "LD R4, #3", "LD R1, #3", "JMP R1")
 LIVELY = ("ADD R0, R0, #1", "ADD R1, R0, R1", "NOT R2, R1", "AND R0, R0, R2", "ADD R0, R0, #-7")
 LIVELY += ("BRp #1", "BRn #2", "BRz #-3", "LDR R0, R5, #2", "LDR R1, R5, #0", "STR R0, R5, #6")
 LIVELY += ("STR R0, R5, #6", "STR R0, R5, #10", "TRAP x21", "TRAP x21", "TRAP x20")
+
+
+# The commands that replay.
+COMMANDS: tuple[tuple[object, ...], ...] = (("run",), ("log",), ("log", "--last", 3))
 
 
 class Replays(Folder):
@@ -102,3 +109,78 @@ class Replays(Folder):
         ran("run", "--steps", 50, "--save-sitting", path, hello)
         code, _, err = ran("run", "--replay", path, "--steps", 1000, "--registers")
         self.assertEqual((code, "; 50 steps; " in err, "R0 x" in err), (1, True, True))
+
+    def test_alterations_of_a_host(self) -> None:
+        # A host that sets a halted machine going again.
+        sitting, path = lc3.Sitting(HELLO), self.folder / "sitting.json"
+        for _ in range(3):
+            sitting.run(1000)
+            sitting["MCR"], sitting["PC"] = 0x8000, 0x3000
+        sitting.run(50)
+        sitting.save(path)
+        for command in COMMANDS:
+            code, _, err = ran(*command, "--replay", path)
+            self.assertEqual((code, f"; {sitting.clock} steps; " in err), (1, True), err)
+
+
+class OtherEnds(Folder):
+    """A replay that ends anywhere else than the sitting did says so, with a code of its own."""
+
+    def setUp(self) -> None:
+        """Saves a sitting."""
+        super().setUp()
+        self.hello, self.path = self.file("hello.obj", HELLO), self.folder / "sitting.json"
+        self.assertEqual(ran("run", "--save-sitting", self.path, self.hello).code, 0)
+
+    def altered(self, path: list[Any], value: object, seal: bool = True) -> Path:
+        """The sitting with one member altered, with a digest of its own or without."""
+        data = place = json.loads(self.path.read_text())
+        for name in path[:-1]:
+            place = place[name]
+        place[path[-1]] = value
+        return self.file("altered.json", json.dumps(sealed(data) if seal else data))
+
+    def test_altered_sittings(self) -> None:
+        altered: list[tuple[list[Any], object, str]] = [
+            (["edition"], 2, "the replay stops after 48 of 152 steps: the machine is halted"),
+            (["start", "record", "pc"], 0x3002, "steps: the machine is halted"),
+            (["start", "record", "mcr"], 0, "the replay stops after 0 of 152 steps"),
+            (["start", "record", "regs", 1], 2, "the replay comes to another record than the"),
+            (["end", "shown"], 11, "the replay comes to another shown than the sitting"),
+            (["end", "display"], "0" * 64, "the replay comes to another display"),
+        ]
+        for path, value, said in altered:
+            file = self.altered(path, value)
+            for command in COMMANDS:
+                code, _, err = ran(*command, "--replay", file)
+                self.assertEqual(code, 5, (path, err))
+                self.assertTrue(err.splitlines()[-1].startswith(f"lc3: {file}: the replay"), err)
+                self.assertIn(said, err)
+            code, out, err = ran("run", "--replay", self.altered(path, value, seal=False))
+            self.assertEqual((code, out), (3, b""))
+            self.assertIn("its digest is that of other data", err)
+
+    def test_the_first_steps(self) -> None:
+        early = self.altered(["edition"], 2)
+        self.assertEqual(ran("run", "--replay", early, "--steps", 49).code, 5)
+        # As far as these go, it is the sitting.
+        self.assertEqual(ran("run", "--replay", early, "--steps", 1).code, 1)
+        later = self.altered(["end", "shown"], 11)
+        self.assertEqual(ran("run", "--replay", later, "--steps", 151).code, 1)
+        self.assertEqual(ran("run", "--replay", later, "--steps", 152).code, 5)
+        self.assertEqual(ran("run", "--replay", self.path, "--steps", 1000).code, 0)
+
+    def test_steps_without_end(self) -> None:
+        data = json.loads(self.path.read_text())
+        data["steps"] = data["end"]["record"]["clock"] = 1 << 47
+        endless = self.file("endless.json", json.dumps(sealed(data)))
+        code, out, err = ran("run", "--replay", endless)
+        self.assertEqual((code, out, err.count("\n")), (3, b"", 1))
+        self.assertIn("endless.json: refused: it has 140737488355328 steps", err)
+        self.assertIn("say by --steps how many", err)
+        self.assertEqual(ran("run", "--replay", endless, "--steps", 100).code, 1)
+
+    def test_a_full_disk(self) -> None:
+        code, _, err = ran("run", "--save-sitting", "/dev/full", self.hello)
+        last = "lc3: /dev/full: no space is left: free some, or name another place"
+        self.assertEqual((code, err.splitlines()[-1]), (3, last))

@@ -9,11 +9,14 @@ import tempfile
 import unittest
 import zlib
 from pathlib import Path
-from typing import Any
+from typing import Any, Iterator
+from unittest import mock
 
 import lc3
-from lc3 import Recording, RecordingError, Sitting
+from lc3 import Recording, RecordingError, ReplayError, Sitting
+from lc3.recording import sealed
 
+from .command_support import HELLO
 from .support import COUNTING, ECHO, object_file, random_keys, random_memory, random_record
 from .support import sitting_of
 from .test_sitting import whole_state
@@ -151,8 +154,10 @@ class OtherEnds(unittest.TestCase):
         sitting.run(500)
         data = json.loads(sitting.recording().to_json())
         change(data)
-        with self.assertRaises(RecordingError) as caught:
-            Sitting.replay(Recording.from_json(json.dumps(data)))
+        with self.assertRaisesRegex(RecordingError, "its digest is that of other data"):
+            Recording.from_json(json.dumps(data))
+        with self.assertRaises(ReplayError) as caught:
+            Sitting.replay(Recording.from_json(json.dumps(sealed(data))))
         return str(caught.exception)
 
     def test_each_part_is_compared(self) -> None:
@@ -174,6 +179,123 @@ class OtherEnds(unittest.TestCase):
         self.assertIn("stops after 0 of 500 steps: the machine is halted", self.changed(halted))
 
 
+def leaves(data: Any) -> Iterator[tuple[Any, Any]]:
+    """Each place in data that holds a number or a text: where it is, and by which name."""
+    places = data.items() if isinstance(data, dict) else enumerate(data)
+    for name, value in list(places):
+        if isinstance(value, (dict, list)):
+            yield from leaves(value)
+        else:
+            yield data, name
+
+
+def other(value: int | str) -> int | str:
+    """Another number, or a text with another character."""
+    if isinstance(value, int):
+        return value - 1 if value else 1
+    return value[:-1] + ("A" if value[-1:] != "A" else "B")
+
+
+class Tampered(unittest.TestCase):
+    """A recording that was altered never passes."""
+
+    def setUp(self) -> None:
+        """Makes a sitting in which every member has something."""
+        sitting = Sitting(object_file(0x4000, 0xF025), ECHO)
+        sitting.type("abc")
+        sitting.press(b"late", 10_000)
+        sitting.run(30)
+        sitting["R1"] = 5
+        sitting.memory[0x5000] = 6
+        sitting.run(30)
+        self.text = sitting.recording().to_json()
+
+    def test_every_number_and_text(self) -> None:
+        count = len(list(leaves(json.loads(self.text))))
+        self.assertGreater(count, 60)
+        for number in range(count):
+            data = json.loads(self.text)
+            place, name = list(leaves(data))[number]
+            place[name] = other(place[name])
+            with self.assertRaises(RecordingError, msg=(name, place[name])):
+                Recording.from_json(json.dumps(data))
+
+    def test_a_new_digest_does_not_help(self) -> None:
+        sitting = Sitting(HELLO)
+        sitting.run(1000)
+        self.assertEqual(sitting.clock, 152)
+        altered: list[tuple[list[Any], object]] = [
+            (["edition"], 2),
+            (["start", "record", "pc"], 0x3002),
+            (["start", "record", "pc"], 0x0000),
+            (["start", "record", "psr"], 0x0002),
+            (["start", "record", "regs", 6], 0x4000),
+            (["start", "record", "mcr"], 0),
+            (["end", "record", "regs", 3], 1),
+            (["end", "shown"], 9),
+            (["end", "display"], "0" * 64),
+            (["end", "memory"], "0" * 64),
+        ]
+        for path, value in altered:
+            data = place = json.loads(sitting.recording().to_json())
+            for name in path[:-1]:
+                place = place[name]
+            place[path[-1]] = value
+            with self.subTest(path), self.assertRaises(ReplayError):
+                Sitting.replay(Recording.from_json(json.dumps(sealed(data))))
+
+    def test_fewer_and_more_steps(self) -> None:
+        for steps, problem in ((59, "another record"), (61, "another record")):
+            data = json.loads(self.text)
+            data["steps"] = data["end"]["record"]["clock"] = steps
+            with self.assertRaisesRegex(ReplayError, problem):
+                Sitting.replay(Recording.from_json(json.dumps(sealed(data))))
+
+    def test_a_recording_without_end(self) -> None:
+        data = json.loads(self.text)
+        data["steps"] = data["end"]["record"]["clock"] = 1 << 47
+        endless = Recording.from_json(json.dumps(sealed(data)))
+        with self.assertRaisesRegex(RecordingError, "140737488355328 steps, more than 10000000000"):
+            Sitting.replay(endless)
+        with self.assertRaisesRegex(RecordingError, "more than 59"):
+            Sitting.replay(Recording.from_json(self.text), most=59)
+        self.assertEqual(Sitting.replay(Recording.from_json(self.text), most=60).clock, 60)
+
+    def test_members_that_are_there_twice(self) -> None:
+        for old, new in (
+            ('"edition": 3,', '"edition": 3, "edition": 2,'),
+            ('"edition": 3,', '"edition": 3, "edition": 3,'),
+            ('"since": 32', '"since": 32, "since": 30'),
+        ):
+            self.assertEqual(self.text.count(old), 1, old)
+            with self.assertRaisesRegex(RecordingError, "is there twice"):
+                Recording.from_json(self.text.replace(old, new))
+
+    def test_version_1_is_read(self) -> None:
+        data = json.loads(self.text)
+        data["version"] = 1
+        del data["digest"]
+        old = Recording.from_json(json.dumps(data))
+        self.assertEqual(old, Recording.from_json(self.text))
+        self.assertEqual(Sitting.replay(old).display, "ab")
+
+
+class Saving(unittest.TestCase):
+    """Files that can't be written."""
+
+    def test_a_full_disk(self) -> None:
+        with self.assertRaises(OSError) as caught:
+            Sitting(ECHO).save("/dev/full")
+        self.assertEqual(caught.exception.filename, "/dev/full")
+
+    def test_what_is_too_long_to_be_read(self) -> None:
+        with mock.patch("lc3.recording.LONGEST", 1000), tempfile.TemporaryDirectory() as folder:
+            path = Path(folder) / "long.json"
+            with self.assertRaisesRegex(RecordingError, "long.json: the sitting is longer"):
+                Sitting(ECHO).save(path)
+            self.assertFalse(path.exists())
+
+
 class HostileFiles(unittest.TestCase):
     """Files that are no recordings are errors of one class, and name what is wrong."""
 
@@ -187,6 +309,7 @@ class HostileFiles(unittest.TestCase):
         self.text = sitting.recording().to_json()
 
     def wrong(self, text: str | bytes, problem: str = "") -> None:
+        """That a text is no recording."""
         with self.assertRaises(RecordingError) as caught:
             Recording.from_json(text)
         self.assertIn(problem, str(caught.exception))
@@ -194,6 +317,8 @@ class HostileFiles(unittest.TestCase):
     def test_texts(self) -> None:
         for text in ("", "{", "[]", "null", "7", b"\xff\xfe\x00", b"\x30\x00", "[" * 100_000):
             self.wrong(text)
+        self.wrong("9" * 1_000_000, "more than 20 digits")
+        self.wrong("[NaN]", "NaN is no whole number")
         self.wrong(self.text[:-20])
 
     def wrong_members(self) -> list[tuple[list[Any], Any, str]]:
@@ -202,7 +327,7 @@ class HostileFiles(unittest.TestCase):
         short = base64.b64encode(zlib.compress(bytes(100))).decode()
         return [
             (["format"], "other", "format is 'other'"),
-            (["version"], 2, "version is 2"),
+            (["version"], 3, "version is 3"),
             (["edition"], 4, "4 is not a valid Edition"),
             (["start", "memory"], "!", "not in base64"),
             (["start", "memory"], "AAAA", "not compressed"),
@@ -211,7 +336,7 @@ class HostileFiles(unittest.TestCase):
             (["start", "memory"], 5, "not in base64"),
             (["start", "record", "psr"], 8, "undefined bit"),
             (["start", "record", "pc"], 65536, "pc is 65536"),
-            (["start", "record", "pc"], 1.5, "whole number"),
+            (["start", "record", "pc"], 1.5, "1.5 is no whole number"),
             (["start", "record", "regs"], [0] * 7, "7 registers"),
             (["start", "record", "clock"], 5, "order of time"),
             (["keys", 0], [0, 256], "key is 256"),
@@ -225,12 +350,39 @@ class HostileFiles(unittest.TestCase):
             (["alterations", 1, "words"], "123", "four hexadecimal digits"),
             (["alterations", 1, "words"], "12G4", ""),
             (["steps"], 7, "its steps are not"),
+            (["end", "memory"], "0" * 63, "the memory at the end is no SHA-256"),
+            (["end", "display"], None, "the display at the end is no SHA-256"),
             (["typed", "bytes"], "*", "not in base64"),
             (["programs", 0], 5, ""),
+            (["programs", 0, "name"], 5, "the name of a program is 5"),
+        ]
+
+    def wrong_numbers(self) -> list[tuple[list[Any], Any, str]]:
+        """The same of numbers, each beyond its limit or none."""
+        return [
+            (["version"], True, "version must be a whole number"),
+            (["version"], "2", "version must be a whole number"),
+            (["edition"], True, "edition must be a whole number"),
+            (["start", "record", "pc"], True, "pc must be a whole number"),
+            (["start", "record", "pc"], -1, "pc is -1"),
+            (["start", "record", "pc"], 10**30, "more than 20 digits"),
+            (["steps"], 1 << 49, "steps is 562949953421312"),
+            (["steps"], None, "steps must be a whole number"),
+            (["end", "record", "clock"], (1 << 48) + 1, "clock is 281474976710657"),
+            (["end", "shown"], 201, "more bytes are shown than steps made"),
+            (["end", "shown"], -1, "shown is -1"),
+            (["end", "shown"], "3", "shown must be a whole number"),
+            (["typed", "look"], 1 << 50, "look is 1125899906842624"),
+            (["keys", 0, 0], 1 << 64, "time is 18446744073709551616"),
+            (["alterations", 0, "value"], 65536, "R1 is 65536"),
+            (["alterations", 1, "address"], 65536, "address is 65536"),
+            (["programs", 0, "origin"], 65536, "origin is 65536"),
+            (["programs", 0, "words"], 0xD001, "words is 53249"),
+            (["programs", 0, "words"], 1 << 70, "more than 20 digits"),
         ]
 
     def test_wrong_members(self) -> None:
-        for path, value, problem in self.wrong_members():
+        for path, value, problem in self.wrong_members() + self.wrong_numbers():
             data: Any = json.loads(self.text)
             place = data
             for name in path[:-1]:
@@ -239,13 +391,14 @@ class HostileFiles(unittest.TestCase):
             if path[-1] == "address":
                 place["words"] = "00000000"
             with self.subTest(path):
-                self.wrong(json.dumps(data), problem)
+                self.wrong(json.dumps(sealed(data)), problem)
 
     def test_missing_members(self) -> None:
         for name in json.loads(self.text):
             data = json.loads(self.text)
             del data[name]
-            self.wrong(json.dumps(data), f"'{name}' is missing")
+            text = json.dumps(data if name == "digest" else sealed(data))
+            self.wrong(text, f"'{name}' is missing")
 
     def test_the_file_is_named(self) -> None:
         with tempfile.TemporaryDirectory() as folder:

@@ -13,7 +13,7 @@ from typing import Sequence
 
 from ..places import PlaceError
 from ..records import Edition, Mode, Refused
-from ..recording import Program, Recording, RecordingError
+from ..recording import REPLAY_STEPS, Program, Recording, RecordingError
 from ..sitting import LONGEST_FILE, Sitting
 from .messages import Code, CommandError, of_os_error
 
@@ -79,8 +79,8 @@ def whole_file(path: str | PathLike[str]) -> bytes:
     with open(path, "rb") as stream:
         data = stream.read(LONGEST + 1)
     if len(data) > LONGEST:
-        text = f"{fspath(path)}: refused: it is longer than {LONGEST >> 20} MiB: name a shorter file"
-        raise CommandError(text)
+        text = f"{fspath(path)}: refused: it is longer than {LONGEST >> 20} MiB"
+        raise CommandError(f"{text}: name a shorter file")
     return data
 
 
@@ -118,11 +118,15 @@ def sitting_of(
     return sitting
 
 
-def recording_of(path: str) -> Recording:
-    """A saved sitting, or what is wrong with the file."""
+def recording_of(path: str, steps: int | None) -> Recording:
+    """A saved sitting, of which so many steps are asked for, or what is wrong with the file."""
     try:
-        return Recording.load(path)
+        recording = Recording.load(path)
     except RecordingError as error:
         raise CommandError(f"{error}; name a file that --save-sitting wrote") from None
     except OSError as error:
         raise CommandError(of_os_error(error)) from None
+    if steps is None and recording.steps > REPLAY_STEPS:
+        text = f"{path}: refused: it has {recording.steps} steps, and to make so many takes long"
+        raise CommandError(f"{text}: say by --steps how many to replay")
+    return recording

@@ -18,6 +18,7 @@ class Code(IntEnum):
     NOT_HALTED = 1
     WRONG_USE = 2
     REFUSED = 3
+    OTHER_END = 5
 
 
 class CommandError(Exception):

@@ -16,6 +16,7 @@ exit codes:
   1  it is not: the steps were made, Ctrl-C, or a wait where no more keys come
   2  wrong use of the command
   3  a file was refused, or could not be read or written
+  5  a replay came to another end than the sitting
 """
 
 ADDRESSES = "Addresses are written x3000, 0x3000 or #12288. "

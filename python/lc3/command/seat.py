@@ -9,7 +9,7 @@ import signal
 from typing import Callable, NamedTuple
 
 from ..constants import MAX_CLOCK, MAX_STEPS, USER_STACK
-from ..recording import Recording
+from ..recording import Recording, ReplayError
 from ..records import Stop
 from ..sitting import Sitting
 from .files import check_edition, object_files, recording_of, sitting_of, whole_file
@@ -116,7 +116,7 @@ def seat_of(options: argparse.Namespace, signals: Signals) -> Seat:
     """The seat that the options of run and log ask for."""
     check_use(options)
     if options.replay is not None:
-        recording = recording_of(options.replay)
+        recording = recording_of(options.replay, options.steps)
         sitting, keyboard, steps = Sitting.of(recording), Keyboard(), recording.steps
         steps = steps if options.steps is None else min(steps, options.steps)
         seat = Seat(sitting, keyboard, sitting.clock + steps, True, recording)
@@ -191,18 +191,20 @@ def finish(options: argparse.Namespace, seat: Seat, ending: Ending, before: str 
     if ending.signal not in (0, signal.SIGINT):
         # The terminal is set back: whoever sent the signal shall see that it was obeyed.
         die(ending.signal)
-    if seat.recording is not None and seat.sitting.clock >= seat.recording.end.record.clock:
-        _check_end(options.replay, seat.sitting, seat.recording)
+    _check_replay(options.replay, seat, ending)
     return Code.HALTED if seat.sitting.halted else Code.NOT_HALTED
 
 
-def _check_end(path: str, sitting: Sitting, recording: Recording) -> None:
-    """That a replay came to the end of its recording."""
-    came, end = sitting.recording().end, recording.end
-    for name in ("record", "memory", "display", "shown"):
-        if getattr(came, name) != getattr(end, name):
-            text = f"{path}: the replay comes to another {name} than the sitting; the file was "
-            raise CommandError(text + "altered, or the library is another: save the sitting anew")
+def _check_replay(path: str, seat: Seat, ending: Ending) -> None:
+    """That a replay came where the sitting was, unless somebody stopped it on the way."""
+    sitting, recording = seat.sitting, seat.recording
+    if recording is None or not (sitting.halted or sitting.clock >= seat.end):
+        return
+    try:
+        recording.check(sitting.recording().end, seat.end - recording.start.clock, ending.text)
+    except ReplayError as error:
+        text = f"{path}: {error}; the file was altered, or the library is another"
+        raise CommandError(text, Code.OTHER_END) from None
 
 
 def registers_of(options: argparse.Namespace, seat: Seat) -> str:
