@@ -3,18 +3,42 @@
 from __future__ import annotations
 
 import errno
+import io
+import json
 import os
 import random
 import unittest
+import zipfile
 from pathlib import Path
 from unittest import mock
 
-from lc3.command.files import other_format
+import lc3
+from lc3.command.formats import other_format
 
 from .command_support import HELLO, Folder, Ran, ran
 from .support import object_file
 
 TEXT = b".ORIG x3000\nLEA R0, HELLO\nPUTS\nHALT\nHELLO .STRINGZ \"Hi\"\n.END\n"
+
+
+# As lc3tools writes it: its name, its version, and an entry with a line of the source for each word.
+LC3TOOLS = bytes.fromhex("1C30 15C0 01 01 01 01000000 0030 01 00000000 25F0 00 04000000") + b"HALT"
+
+
+def zipped() -> bytes:
+    """An archive with an object file in it."""
+    archive = io.BytesIO()
+    with zipfile.ZipFile(archive, "w") as file:
+        file.writestr("hello.obj", HELLO)
+    return archive.getvalue()
+
+
+ZIPPED = zipped()
+
+
+def swapped(file: bytes) -> bytes:
+    """A file with the bytes of each word swapped."""
+    return bytes(byte for pair in zip(file[1::2], file[::2]) for byte in pair)
 
 
 class Hostile(Folder):
@@ -29,12 +53,17 @@ class Hostile(Folder):
             self.file("one.obj", b"\x30"): "refused (17)",
             self.file("odd.obj", HELLO + b"\x00"): "refused (17)",
             self.file("long.obj", b"\x30\x00" + bytes(2 * 0xD000 + 2)): "refused (18)",
+            self.file("tools.obj", LC3TOOLS): "it is an object file of lc3tools",
+            self.file("odd-tools.obj", LC3TOOLS + b"\x00"): "it is an object file of lc3tools",
             self.file("longer.obj", bytes(1 << 20)): "refused (18)",
             self.file("high.obj", b"\xFF\xFF" + bytes(4)): "refused (18)",
             self.file("hello.asm", TEXT): "it is text",
             self.file("accents.asm", TEXT + "; sí, señor\n".encode()): "it is text",
             self.file("hello.bin", b"0011000000000000\n1111000000100101\n"): "it is text",
+            self.file("notepad.asm", b"\xef\xbb\xbf; a program\r\n" + TEXT): "it is text",
+            self.file("latin.asm", "; sí, señor\n".encode("latin-1") + TEXT): "it is text",
             self.file("elf", b"\x7fELF\x02\x01\x01" + bytes(200)): "ELF",
+            self.file("hello.zip", ZIPPED): "it is a ZIP archive",
             self.folder: "it is a directory",
             self.folder / "none.obj": "no such file",
             self.file("file", HELLO) / "below.obj": "no such file",
@@ -129,6 +158,40 @@ class Hostile(Folder):
             self.assertEqual((err.count("\n"), err[:5]), (1, "lc3: "))
 
 
+class Swapped(Folder):
+    """Files with the low byte of each word first."""
+
+    def test_plainly_swapped(self) -> None:
+        file = self.file("swapped.obj", swapped(HELLO))
+        cases = self.file("cases.json", '[{"name": "a", "expected": ""}]')
+        said = f"{file}: refused: the low byte of each of its words comes first"
+        for command in (("run",), ("log",), ("run", "--supervisor"), ("run", "--no-monitor")):
+            code, out, err = ran(*command, file)
+            self.assertEqual((code, out, err.count("\n")), (3, b"", 1))
+            self.assertIn(f"lc3: {said}", err)
+        marked = json.loads(ran("mark", "--one", "--cases", cases, file).out)
+        self.assertEqual((marked["verdict"], said in marked["problem"]), ("refused", True))
+
+    def test_what_may_be_right_is_not_refused(self) -> None:
+        # As it stands a program at x3040; the other way round one at x4030, which halts.
+        words = [lc3.word("AND R0, R0, #0"), 0x25F0, lc3.word("BRnzp #-1")]
+        for file in (object_file(0x3040, *words), swapped(object_file(0x4030, *words))):
+            self.assertEqual(ran("run", "--steps", 9, self.file("either.obj", file)).code, 1)
+        # Vectors of a class's monitor, at x0030.
+        vectors = self.file("vectors.obj", object_file(0x0030, 0x25F0, 0x0130))
+        hello = self.file("hello.obj", HELLO)
+        halting = self.file("halt.obj", object_file(0x0025, 0x0200))
+        routine = self.file("routine.obj", object_file(0x0200, "STI R0, #0", 0xFFFE))
+        monitor = [word for file in (vectors, halting, routine) for word in ("--with", file)]
+        self.assertIn(ran("run", "--no-monitor", "--steps", 9, *monitor, hello).code, (0, 1))
+        self.assertNotEqual(ran("run", "--anywhere", "--steps", 9, vectors).code, 3)
+        self.assertEqual(ran("list", vectors).code, 0)
+
+    def test_what_is_refused_for_its_place_alone(self) -> None:
+        for file in (object_file(0x0030, 0x1234), object_file(0x0030, 0xF025, 0x25F0)):
+            self.assertIn("refused (21)", ran("run", self.file("vectors.obj", file)).err)
+
+
 class Formats(unittest.TestCase):
     """What is taken for another format."""
 
@@ -140,6 +203,10 @@ class Formats(unittest.TestCase):
         # A few words of printable bytes alone are no text yet.
         self.assertEqual(other_format(object_file(0x3030, 0x3131, 0x4142)), "")
         self.assertEqual(other_format(HELLO), "")
+        # What begins as another format may still be a program.
+        for begins in (0x1C30, 0x15C0), (0x7F45, 0x4C46), (0x504B, 0x0304):
+            self.assertEqual(other_format(object_file(*begins, 0x5020, 0xF025)), "")
+            self.assertEqual(other_format(object_file(*begins, *[0x5020] * 40)), "")
 
     def test_texts_are(self) -> None:
         for text in (TEXT, b"hello world\r\n", "Grüße aus dem Süden\n".encode()):

@@ -9,6 +9,7 @@
 
 ``options``   what may stand on the command line
 ``files``     object files and saved sittings as the command takes them
+``formats``   files that are plainly something else
 ``seat``      a sitting with keyboard and display, run until something ends it
 ``terminal``  where keys come from, and signals
 ``messages``  what is said to people, and the exit codes

@@ -1,13 +1,8 @@
-"""Object files and sittings as the command takes them: what is wrong with one is said in a line.
-
-The library takes any file of an origin and words that fit memory, and many a text would. A file
-that is plainly text or a program of this computer is refused here; ``lc3.Sitting`` loads any.
-"""
+"""Object files and sittings as the command takes them: what is wrong with one is said in a line."""
 
 from __future__ import annotations
 
 import argparse
-import unicodedata
 from os import PathLike, fspath
 from typing import Sequence
 
@@ -15,10 +10,8 @@ from ..places import PlaceError
 from ..records import Edition, Mode, Refused
 from ..recording import REPLAY_STEPS, Program, Recording, RecordingError
 from ..sitting import LONGEST_FILE, Sitting
+from .formats import SWAPPED, is_swapped, other_format
 from .messages import Code, CommandError, of_os_error
-
-# A shorter file is taken for what it says it is.
-SHORTEST_TEXT = 8
 
 # A longer file of keys or cases is taken for one that never ends.
 LONGEST = 1 << 28
@@ -29,28 +22,6 @@ NO_SECOND_MONITOR = (
     "nothing to return to; add --no-monitor, and name your class's monitor by --with, "
     "as in: lc3 run --edition 2 --no-monitor --with MONITOR.obj PROGRAM.obj"
 )
-
-
-def other_format(data: bytes) -> str:
-    """What a file plainly is that is no object file; empty where it may be one.
-
-    >>> other_format(b".ORIG x3000\\nHALT\\n.END\\n")
-    'it is text, and an object file is words: assemble it first'
-    >>> other_format(bytes.fromhex("3000 F025"))
-    ''
-    """
-    if data.startswith(b"\x7fELF"):
-        return "it is a program for this computer (ELF), and no object file of the LC-3"
-    if len(data) < SHORTEST_TEXT:
-        return ""
-    try:
-        text = data.decode("utf-8")
-    except UnicodeDecodeError:
-        return ""
-    # Categories that begin with C are control characters and such: words have many of them.
-    if any(unicodedata.category(letter)[0] == "C" and letter not in "\t\n\f\r" for letter in text):
-        return ""
-    return "it is text, and an object file is words: assemble it first"
 
 
 def object_file(path: str) -> bytes:
@@ -89,7 +60,8 @@ def load(sitting: Sitting, path: str, data: bytes, examiner: bool = False) -> Pr
     try:
         return sitting.load(data, path, examiner)
     except (Refused, PlaceError) as error:
-        raise CommandError(str(error)) from None
+        swapped = not examiner and is_swapped(data)
+        raise CommandError(f"{path}: refused: {SWAPPED}" if swapped else str(error)) from None
 
 
 def check_edition(options: argparse.Namespace) -> None:

@@ -5,10 +5,11 @@ from __future__ import annotations
 import argparse
 import os
 import re
-from typing import Sequence
+from typing import NoReturn, Sequence
 
 from ..constants import MAX_CLOCK, USER_STACK, VERSION
 from ..records import WORD_LIMIT
+from .messages import plain
 
 EXIT_CODES = """\
 exit codes:
@@ -133,6 +134,10 @@ class Parser(argparse.ArgumentParser):
         """The parser of a command."""
         settings.setdefault("formatter_class", argparse.RawDescriptionHelpFormatter)
         super().__init__(*names, allow_abbrev=False, **settings)  # type: ignore[arg-type]
+
+    def error(self, message: str) -> NoReturn:
+        """Says what is wrong with a command line, and ends the command."""
+        super().error(plain(message))
 
 
 def _wrapped(text: str, width: int = 80) -> str:
