@@ -24,6 +24,8 @@ raises ``Refused`` and alters nothing.
 The library is found as ``lc3._library`` says. docs/MACHINE.md has the rules of the machine.
 """
 
+# The current folder goes off the path of ``python3 -m lc3`` before another module is looked for.
+from . import _folder  # noqa: F401  # isort: split
 from .calls import (
     line,
     line_length,

@@ -21,7 +21,7 @@ from .support import object_file
 TEXT = b".ORIG x3000\nLEA R0, HELLO\nPUTS\nHALT\nHELLO .STRINGZ \"Hi\"\n.END\n"
 
 
-# As lc3tools writes it: its name, its version, and an entry with a line of the source for each word.
+# As lc3tools writes it: its name, its version, and an entry for each word with its source line.
 LC3TOOLS = bytes.fromhex("1C30 15C0 01 01 01 01000000 0030 01 00000000 25F0 00 04000000") + b"HALT"
 
 

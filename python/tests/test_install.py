@@ -16,6 +16,7 @@ import lc3
 from lc3.command.options import parser
 
 from . import ROOT
+from .test_folder import plant
 
 PREFIX = "usr/local"
 PACKAGE = ROOT / "python" / "lc3"
@@ -124,7 +125,7 @@ class Installed(unittest.TestCase):
 
     def test_python_finds_module_and_library(self) -> None:
         program = "import lc3; print(lc3.__file__, lc3._library.LIBRARY.path, sep='\\n')"
-        python = (self.prefix / "bin/lc3").read_text().splitlines()[0][2:]
+        python = (self.prefix / "bin/lc3").read_text().splitlines()[0][2:].removesuffix(" -I")
         said = obey(python, "-c", program, PYTHONPATH=str(self.package.parent))
         library = self.prefix / f"lib/liblc3.so.{lc3.VERSION}"
         self.assertEqual(said.stdout.split("\n")[:2], [f"{self.package}/__init__.py", str(library)])
@@ -166,6 +167,20 @@ class Installed(unittest.TestCase):
         self.assertEqual((said.returncode, said.stdout), (3, ""))
         self.assertTrue(said.stderr.startswith("lc3: no liblc3.so of version "), said.stderr)
         self.assertNotIn("Traceback", said.stderr)
+
+    def test_the_command_among_submissions(self) -> None:
+        folder = new_folder(self.addCleanup)
+        ran = plant(folder, "lc3", "json", "runpy", "contextlib", "os", "re", "types", "typing")
+        for path in ("", ".", str(folder)):
+            done = subprocess.run(
+                [self.prefix / "bin/lc3", "run", HELLO],
+                env=environment(PYTHONPATH=path, PYTHONHOME="/nowhere", PYTHONSTARTUP="json.py"),
+                cwd=folder,
+                capture_output=True,
+                stdin=subprocess.DEVNULL,
+            )
+            self.assertEqual((done.returncode, done.stdout), (0, b"Hello, world!\nHalted\n"))
+            self.assertFalse(ran.exists())
 
     def test_the_command_by_a_link(self) -> None:
         link = new_folder(self.addCleanup) / "lc3"
