@@ -7,7 +7,8 @@ import argparse
 import json
 import random
 import unittest
-from typing import Any
+from typing import Any, Iterator
+from unittest import mock
 
 import lc3
 from lc3 import PlaceError, Refused, Sitting
@@ -276,6 +277,32 @@ class Commands(Folder):
         self.refused(self.file("wraps.obj", object_file(0xFFFF, 1, 1)), "refused (18)")
         self.refused(self.file("empty.obj", b""), "refused (17)")
 
+    def test_broken_files_of_the_examiner_s(self) -> None:
+        hello = self.file("hello.obj", HELLO)
+        for name, content, said in (
+            ("odd.obj", ANSWERS + b"\x00", "refused (17)"),
+            ("empty.obj", b"", "refused (17)"),
+            ("wraps.obj", object_file(0xFFFF, 1, 1), "refused (18)"),
+            ("answers.txt", b"B\nD\nA\nC\n", "it is text"),
+        ):
+            broken = self.file(name, content)
+            for command in self.commands():
+                done = ran(*command, "--with", broken, hello)
+                self.assertEqual((done.code, done.out, done.err.count("\n")), (3, b"", 1), done)
+                self.assertTrue(done.err.startswith(f"lc3: {broken}: refused"), done.err)
+                self.assertIn(said, done.err)
+            done = ran("mark", "--cases", self.cases, "--data", broken, hello)
+            self.assertEqual((done.code, done.out), (3, b""))
+        for command in self.commands():
+            self.assertEqual(ran(*command, "--with", self.folder, hello).code, 3)
+            self.assertEqual(ran(*command, "--with", self.folder / "none", hello).code, 3)
+
+    def test_how_trust_is_said(self) -> None:
+        done = ran("run", self.answers, self.file("hello.obj", HELLO))
+        self.assertIn("; name a file that you trust by --with, or have every", done.err)
+        done = ran("mark", "--cases", self.cases, "--one", self.answers)
+        self.assertNotIn("trust", json.loads(done.out)["problem"])
+
     def test_trusted_files(self) -> None:
         take = self.file("take.obj", TAKE_OVER)
         self.assertEqual(ran("run", "--anywhere", "--with", self.answers, take).out, b"B")
@@ -322,20 +349,53 @@ class Commands(Folder):
         """The options of a command line."""
         return parser().parse_args([*arguments, "candidate.obj"])
 
-    def test_random_files(self) -> None:
+    def test_random_files_in_every_sitting(self) -> None:
         rng, taken = random.Random(34), 0
         fresh = outside(Sitting(examiner=[ANSWERS]).memory.words)
-        mark = self.options("mark", "--cases", "none")
-        for number in range(2_000):
-            options = mark if number % 2 else self.options("run")
-            file = random_file(rng)
+        commands = (["run"], ["log"], ["mark", "--cases", "none"])
+        options = [self.options(*command) for command in commands]
+        for number in range(10_000):
+            file, option = random_file(rng), options[number % 3]
             try:
-                sitting = sitting_of(options, [("a", ANSWERS)], [("c", HELLO), ("b", file)])
+                sitting = sitting_of(option, [("a", ANSWERS)], [("c", HELLO), ("b", file)])
             except CommandError:
                 continue
             self.assertEqual(outside(sitting.memory.words), fresh, number)
             taken += 1
-        self.assertGreater(taken, 500)
+        self.assertGreater(taken, 3000)
+
+    def test_random_files_by_every_command(self) -> None:
+        rng, seen = random.Random(35), 0
+        fresh = outside(Sitting(examiner=[ANSWERS]).memory.words)
+
+        def check(sitting: Sitting) -> None:
+            """That nothing is altered in a sitting that a command runs."""
+            nonlocal seen
+            self.assertEqual(outside(sitting.memory.words), fresh)
+            seen += 1
+
+        run, trace = Sitting.run, Sitting.trace
+
+        def spied_run(sitting: Sitting, steps: int | None = None) -> lc3.Report:
+            """A run, looked at before and after."""
+            check(sitting)
+            report = run(sitting, steps)
+            check(sitting)
+            return report
+
+        def spied_trace(sitting: Sitting, steps: int | None = None) -> Iterator[lc3.TracedStep]:
+            """The same of a run a step at a time."""
+            check(sitting)
+            yield from trace(sitting, steps)
+            check(sitting)
+
+        with mock.patch.object(Sitting, "run", spied_run):
+            with mock.patch.object(Sitting, "trace", spied_trace):
+                for _ in range(150):
+                    path = self.file("random.obj", random_file(rng))
+                    for command in (self.commands()[0], *self.commands()[3:6]):
+                        ran(*command, path)
+        self.assertGreater(seen, 500)
 
 
 if __name__ == "__main__":

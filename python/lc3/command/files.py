@@ -7,7 +7,7 @@ from os import PathLike, fspath
 from typing import Sequence
 
 from ..places import PlaceError
-from ..records import Edition, Mode, Refused
+from ..records import Edition, Mode, Refusal, Refused
 from ..recording import REPLAY_STEPS, Program, Recording, RecordingError
 from ..sitting import LONGEST_FILE, Sitting
 from .formats import SWAPPED, is_swapped, other_format
@@ -55,13 +55,20 @@ def whole_file(path: str | PathLike[str]) -> bytes:
     return data
 
 
-def load(sitting: Sitting, path: str, data: bytes, examiner: bool = False) -> Program:
-    """Loads the bytes of an object file, or says what is wrong with it."""
+def load(
+    sitting: Sitting, path: str, data: bytes, examiner: bool = False, trusted: str = ""
+) -> Program:
+    """Loads the bytes of an object file, or says what is wrong with it; and of one that would have
+    to be trusted, how that is said."""
     try:
         return sitting.load(data, path, examiner)
-    except (Refused, PlaceError) as error:
-        swapped = not examiner and is_swapped(data)
-        raise CommandError(f"{path}: refused: {SWAPPED}" if swapped else str(error)) from None
+    except PlaceError as error:
+        raise CommandError(str(error)) from None
+    except Refused as refused:
+        if not examiner and is_swapped(data):
+            raise CommandError(f"{path}: refused: {SWAPPED}") from None
+        more = trusted if refused.number is Refusal.USER else ""
+        raise CommandError(f"{refused}{more}") from None
 
 
 def check_edition(options: argparse.Namespace) -> None:
@@ -81,7 +88,7 @@ def sitting_of(
     for path, data in examiner_files:
         load(sitting, path, data, examiner=True)
     for path, data in candidate_files:
-        load(sitting, path, data)
+        load(sitting, path, data, trusted=options.trusted)
     mode = Mode.SUPERVISOR if options.supervisor else Mode.USER
     try:
         sitting.start(options.pc, mode, options.stack)

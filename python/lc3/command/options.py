@@ -26,6 +26,7 @@ WITH = (
     "load this file of the examiner's first; it lies in privileged memory, below x3000 or from "
     "xFE00 on, beside the monitor"
 )
+TRUSTED = "; name a file that you trust by --with, or have every file trusted by --anywhere"
 DATA = "load this file before each candidate, for it to read and write; it lies in x3000 to xFDFF"
 
 RUN = (
@@ -205,6 +206,7 @@ def _add_run(to: argparse.ArgumentParser) -> None:
         action="store_true",
         help="every file is trusted: it may lie anywhere, and so may the program's start",
     )
+    to.set_defaults(trusted=TRUSTED)
     to.add_argument(
         "--steps",
         type=count,
@@ -247,7 +249,7 @@ def _add_mark(to: argparse.ArgumentParser) -> None:
     _add_files(to, "data", DATA)
     _add_machine(to)
     # A candidate is never trusted.
-    to.set_defaults(anywhere=False)
+    to.set_defaults(anywhere=False, trusted="")
     to.add_argument(
         "--jobs", type=jobs, metavar="N", help=f"processes at once ({processors()} here)"
     )
