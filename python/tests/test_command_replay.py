@@ -4,10 +4,12 @@ random programs."""
 from __future__ import annotations
 
 import json
+import os
 import random
 from array import array
 from pathlib import Path
 from typing import Any
+from unittest import mock
 
 import lc3
 from lc3.recording import sealed
@@ -179,6 +181,24 @@ class OtherEnds(Folder):
         self.assertIn("endless.json: refused: it has 140737488355328 steps", err)
         self.assertIn("say by --steps how many", err)
         self.assertEqual(ran("run", "--replay", endless, "--steps", 100).code, 1)
+
+    def test_a_sitting_that_is_too_long(self) -> None:
+        with mock.patch("lc3.recording.LONGEST", 1000):
+            code, _, err = ran("run", "--save-sitting", self.folder / "new.json", self.hello)
+        self.assertEqual((code, "new.json: the sitting is longer than" in err), (3, True))
+
+    def test_no_file_that_is_read_is_overwritten(self) -> None:
+        before, names = self.hello.read_bytes(), ("symbolic", "hard", "hello.obj")
+        (self.folder / "symbolic").symlink_to("hello.obj")
+        os.link(self.hello, self.folder / "hard")
+        examiner = self.file("answers.obj", object_file(0x2000, 1))
+        for name in names:
+            path = self.folder / name
+            code, _, err = ran("run", "--save-sitting", path, self.hello)
+            self.assertEqual((code, "would overwrite" in err), (2, True))
+        done = ran("run", "--with", examiner, "--save-sitting", examiner, self.hello)
+        self.assertEqual((done.code, "would overwrite" in done.err), (2, True))
+        self.assertEqual(self.hello.read_bytes(), before)
 
     def test_a_full_disk(self) -> None:
         code, _, err = ran("run", "--save-sitting", "/dev/full", self.hello)

@@ -3,6 +3,7 @@
 from __future__ import annotations
 
 import argparse
+import os
 from os import PathLike, fspath
 from typing import Sequence
 
@@ -95,6 +96,23 @@ def sitting_of(
     except PlaceError as error:
         raise CommandError(str(error), Code.WRONG_USE) from None
     return sitting
+
+
+def same_file(one: str, other: str) -> bool:
+    """Whether two names are those of one file: by links of either kind, too."""
+    try:
+        return os.path.samefile(one, other)
+    except (OSError, ValueError):
+        # One that is not there yet has no other name.
+        return os.path.realpath(one) == os.path.realpath(other)
+
+
+def save(sitting: Sitting, path: str) -> None:
+    """Saves a sitting, or says why it can't be."""
+    try:
+        sitting.save(path)
+    except RecordingError as error:
+        raise CommandError(str(error)) from None
 
 
 def recording_of(path: str, steps: int | None) -> Recording:

@@ -12,7 +12,8 @@ from ..constants import MAX_CLOCK, MAX_STEPS, USER_STACK
 from ..recording import Recording, ReplayError
 from ..records import Stop
 from ..sitting import Sitting
-from .files import check_edition, object_files, recording_of, sitting_of, whole_file
+from .files import check_edition, object_files, recording_of, same_file, save, sitting_of
+from .files import whole_file
 from .messages import Code, CommandError, end_line, of_os_error, registers, say, tell
 from .terminal import Keyboard, Signals, die, standard_keyboard
 
@@ -136,9 +137,8 @@ def _check_saving(options: argparse.Namespace) -> None:
     know before a long run than after it."""
     keys = [options.keys[1:]] if (options.keys or "").startswith("@") else []
     replayed = [options.replay] if options.replay is not None else []
-    named = [*options.with_files, *options.files, *keys, *replayed]
-    inputs = [os.path.realpath(path) for path in named]
-    if os.path.realpath(options.save_sitting) in inputs:
+    inputs = [*options.with_files, *options.files, *keys, *replayed]
+    if any(same_file(path, options.save_sitting) for path in inputs):
         text = f"--save-sitting would overwrite {options.save_sitting}: name another file"
         raise CommandError(text, Code.WRONG_USE)
     with open(options.save_sitting, "ab"):
@@ -187,7 +187,7 @@ def finish(options: argparse.Namespace, seat: Seat, ending: Ending, before: str 
     tell(before)
     say(end_line(seat.sitting, ending.text))
     if options.save_sitting is not None:
-        seat.sitting.save(options.save_sitting)
+        save(seat.sitting, options.save_sitting)
     if ending.signal not in (0, signal.SIGINT):
         # The terminal is set back: whoever sent the signal shall see that it was obeyed.
         die(ending.signal)
