@@ -14,8 +14,8 @@ from ..sitting import LONGEST_FILE, Sitting
 from .formats import SWAPPED, is_swapped, other_format
 from .messages import Code, CommandError, of_os_error
 
-# A longer file of keys or cases is taken for one that never ends.
-LONGEST = 1 << 28
+# A longer file of keys is taken for one that never ends.
+LONGEST = 1 << 24
 
 # Why our monitor is not put beside a program of the second edition, and what to do.
 NO_SECOND_MONITOR = (
