@@ -7,9 +7,15 @@ export PYTHONPATH
 
 lc3() { python3 -m lc3 "$@"; }
 
-show() { # TITLE COMMAND: says what follows, and obeys a line as if it had been typed
+show() { # TITLE COMMAND: says what follows, obeys a line as if it had been typed, and tells an exit code other than 0
     printf '\n%s\n\n$ %s\n' "$1" "$2"
-    eval "$2" 2>&1
+    eval "$2" 2>&1 || printf '(exit code %d)\n' "$?"
+}
+
+log() { # NAME OPTION..: keeps the log of a run; how the run ended is told in it
+    name=$1
+    shift
+    lc3 log "$@" </dev/null >"$work/$name" 2>/dev/null || [ -s "$work/$name" ]
 }
 
 work=$(mktemp -d)
@@ -26,8 +32,8 @@ show "A candidate's program reaches for the examiner's answers." \
 show "The access exception has stopped it." \
     "lc3 log --last 3 --with examples/examiner.obj examples/answers.obj </dev/null"
 
-lc3 log --with examples/examiner.obj examples/answers.obj </dev/null >"$work/with" 2>/dev/null
-lc3 log examples/answers.obj </dev/null >"$work/without" 2>/dev/null
+log with --with examples/examiner.obj examples/answers.obj
+log without examples/answers.obj
 cmp "$work/with" "$work/without"
 printf '\nWith the answers in memory and without them, all %d lines of the log are the same.\n' \
     "$(wc -l <"$work/with")"

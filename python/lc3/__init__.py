@@ -25,7 +25,7 @@ The library is found as ``lc3._library`` says. docs/MACHINE.md has the rules of 
 """
 
 # The current folder goes off the path of ``python3 -m lc3`` before another module is looked for.
-from . import _folder  # noqa: F401  # isort: split
+from . import _folder  # noqa: F401
 from .calls import (
     line,
     line_length,
