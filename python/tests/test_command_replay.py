@@ -18,13 +18,13 @@ from .command_support import HELLO, UNTIL_Q, Folder, ran
 from .support import object_file, random_memory
 
 # The ranges of random memory that have words.
-RANGES = ((0x0000, 512), (0x2FE0, 0x90), (0x4000, 64), (0xFDF0, 0x210))
+RANGES: tuple[tuple[int, int], ...] = ((0x0000, 512), (0x2FE0, 0x90), (0x4000, 64), (0xFDF0, 0x210))
 
 # Random words reach the devices by R5 and R4, which are set first.
 BEGIN = ("LD R5, #3", "LD R4, #3", "LD R1, #3", "JMP R1")
 
 # What a lively program is made of: it computes, branches, reads keys, shows bytes and traps.
-LIVELY = ("ADD R0, R0, #1", "ADD R1, R0, R1", "NOT R2, R1", "AND R0, R0, R2", "ADD R0, R0, #-7")
+LIVELY = ["ADD R0, R0, #1", "ADD R1, R0, R1", "NOT R2, R1", "AND R0, R0, R2", "ADD R0, R0, #-7"]
 LIVELY += ("BRp #1", "BRn #2", "BRz #-3", "LDR R0, R5, #2", "LDR R1, R5, #0", "STR R0, R5, #6")
 LIVELY += ("STR R0, R5, #6", "STR R0, R5, #10", "TRAP x21", "TRAP x21", "TRAP x20")
 

@@ -9,12 +9,12 @@ import tempfile
 import unittest
 import zlib
 from pathlib import Path
-from typing import Any, Iterator
+from typing import Any, Callable, Iterator
 from unittest import mock
 
 import lc3
 from lc3 import Recording, RecordingError, ReplayError, Sitting
-from lc3.recording import sealed
+from lc3.recording import RegisterAlteration, sealed
 
 from .command_support import HELLO
 from .support import COUNTING, ECHO, object_file, random_keys, random_memory, random_record
@@ -132,8 +132,8 @@ class Replays(unittest.TestCase):
         again.run(50)
         again["R2"] = 2
         again.run(150)
-        changes = [(change.clock, change.register) for change in again.recording().alterations]
-        self.assertEqual(changes, [(50, "R2"), (100, "R1")])
+        changes = (RegisterAlteration(50, "R2", 2), RegisterAlteration(100, "R1", 1))
+        self.assertEqual(again.recording().alterations, changes)
         self.assertEqual((again["R1"], again["R2"]), (1, 2))
         self.assertEqual(whole_state(Sitting.replay(again.recording())), whole_state(again))
 
@@ -315,8 +315,10 @@ class HostileFiles(unittest.TestCase):
         self.assertIn(problem, str(caught.exception))
 
     def test_texts(self) -> None:
-        for text in ("", "{", "[]", "null", "7", b"\xff\xfe\x00", b"\x30\x00", "[" * 100_000):
+        for text in ("", "{", "[]", "null", "7", "[" * 100_000):
             self.wrong(text)
+        for data in (b"\xff\xfe\x00", b"\x30\x00"):
+            self.wrong(data)
         self.wrong("9" * 1_000_000, "more than 20 digits")
         self.wrong("[NaN]", "NaN is no whole number")
         self.wrong(self.text[:-20])
@@ -404,7 +406,8 @@ class HostileFiles(unittest.TestCase):
         with tempfile.TemporaryDirectory() as folder:
             path = Path(folder) / "none.sitting"
             path.write_bytes(COUNTING)
-            for call in (Sitting.replay, Sitting.of, Recording.load):
+            calls: list[Callable[[Path], object]] = [Sitting.replay, Sitting.of, Recording.load]
+            for call in calls:
                 with self.assertRaisesRegex(RecordingError, "none.sitting: no recording"):
                     call(path)
             with self.assertRaises(FileNotFoundError):

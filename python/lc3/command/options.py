@@ -5,7 +5,7 @@ from __future__ import annotations
 import argparse
 import os
 import re
-from typing import NoReturn, Sequence
+from typing import Any, NoReturn, Sequence
 
 from ..constants import MAX_CLOCK, USER_STACK, VERSION
 from ..records import WORD_LIMIT
@@ -131,10 +131,10 @@ class Parser(argparse.ArgumentParser):
     """A parser that keeps the lines of examples, and takes no shortened options: what a script
     says shall not come to mean another option one day."""
 
-    def __init__(self, *names: str, **settings: object) -> None:
+    def __init__(self, **settings: Any) -> None:
         """The parser of a command."""
         settings.setdefault("formatter_class", argparse.RawDescriptionHelpFormatter)
-        super().__init__(*names, allow_abbrev=False, **settings)  # type: ignore[arg-type]
+        super().__init__(allow_abbrev=False, **settings)
 
     def error(self, message: str) -> NoReturn:
         """Says what is wrong with a command line, and ends the command."""
