@@ -341,9 +341,9 @@ lc3_started lc3_start(const uint8_t *file, size_t file_len, uint16_t *memory, si
  * the origin and every word of the file must lie in x3000 to xFDFF. No other file is loaded, so no
  * word of the monitor's, of the examiner's or behind a device register is replaced.
  *
- * Beside the ready-made monitor no file that is started so learns or changes a word of x02A5 to
- * x2FF9, or a lent word from xFE00 on, however long it runs: that is proved
- * (crates/sitting/specs/HandedIn.antt).
+ * Beside the ready-made monitor no program that is started so learns or changes a word of x02A5 to
+ * x2FF9, or a lent word from xFE00 on, however long it is run from the record answered, by lc3_run,
+ * lc3_run_long, lc3_step or lc3_run_logged: that is proved (crates/sitting/specs/HandedIn.antt).
  */
 lc3_started lc3_start_user(const uint8_t *file, size_t file_len, uint16_t *memory,
                            size_t memory_len, uint16_t user_stack);

@@ -7,7 +7,7 @@ ghost use Rattle.start.specs.Start.{startedOf, userStartedOf};
 ghost use Rattle.lc3_objects.specs.Answers.{hostStarting, hostSaving};
 
 // A fresh record at the file's origin and the number of words loaded, with 0; or both all zero, with the number of the
-// refusal. 48 bytes.
+// refusal. 56 bytes.
 #[repr(C)]
 pub struct Lc3Started {
     pub machine: Machine,

@@ -1,9 +1,9 @@
 -- The examples: by computing them.
 use Prim.Native.Nat.{ℕ, zero, suc}
 use mathlib.Core.Path.{_≡_, refl, sym, ap, _∙_}
-use mathlib.Core.Bool.{true≢false}
+use mathlib.Core.Bool.{true, false, true≢false}
 use mathlib.Core.List.{List, [], _∷_}
-use lib.ListN.{getD, set, length-set}
+use lib.ListN.{getD, set, replicate, length-set}
 use lib.Seq.{getD-set-other}
 use Rattle.machine.specs.Rows.{withWord}
 use Rattle.touched.specs.Altered.{SameOutside}
@@ -19,8 +19,9 @@ use Rattle.monitor.specs.Routines.{routineWords, monitorWords}
 use Rattle.monitor.specs.Install.{installOf}
 use Rattle.sitting.specs.Sitting.{isEnabled, stackFrom, isSecretAbove, isSecret, startAt, answerTo, answerAfter}
 use Rattle.sitting.specs.Sitting.{Begins, HasMonitor}
-use Rattle.sitting.specs.Examples.{fresh, monitored, prying, unguarded, plainCall, loggedCall, restartingCall}
-use Rattle.sitting.specs.Examples.{interruptible, packing, keyInThirdStep, ExamplesHold}
+use Rattle.sitting.specs.Examples.{used, stackElsewhere, supervisor, showing, secretWith, fresh, monitored}
+use Rattle.sitting.specs.Examples.{prying, unguarded, plainCall, loggedCall, restartingCall, interruptible}
+use Rattle.sitting.specs.Examples.{packing, keyInThirdStep, ExamplesHold}
 
 -- ---- the premises
 
@@ -50,13 +51,32 @@ prying-alike v w =
 -- To unfold this is to compute with the monitor in memory.
 unfoldable pub computing : Unit {0}
 unfolding opened fetchedWordBy nextRule entryOf lacksRoom beginLogged stoppedBy logFull stepLogged oneMoreLogged
-    loggedRunOf loggedAdmitted loggedCallOf fresh monitored prying unguarded interruptible packing vectorWord vectorsFrom
+    loggedRunOf loggedAdmitted loggedCallOf fresh used stackElsewhere supervisor monitored prying
+    showing unguarded interruptible packing vectorWord vectorsFrom
     vectorTable routineWords monitorWords installOf startAt answerTo answerAfter
 computing = tt
 
 prying-begins : (answer : ℕ) → Begins HasMonitor fresh (prying monitored answer)
 unfolding computing
 prying-begins answer = record { registers = refl; size = refl; user-mode = refl; intact = refl; stack = refl }
+
+used-begins : (answer : ℕ) → Begins HasMonitor used (prying monitored answer)
+unfolding computing
+used-begins answer = record { registers = refl; size = refl; user-mode = refl; intact = refl; stack = refl }
+
+six-words : secretWith 0 0 ∷ secretWith 0x8000 0x8000 ∷ []
+    ≡ replicate 2 (true ∷ true ∷ true ∷ true ∷ true ∷ false ∷ [])
+unfolding isSecretAbove stackFrom isEnabled
+six-words = refl
+
+eight-words : secretWith 0x4000 0 ∷ secretWith 0xC000 0x8000 ∷ secretWith 0 0x4000 ∷ secretWith 0x8000 0xC000 ∷ []
+    ≡ replicate 4 (true ∷ true ∷ true ∷ false ∷ false ∷ false ∷ [])
+unfolding isSecretAbove stackFrom isEnabled
+eight-words = refl
+
+ten-words : secretWith 0x4000 0xC000 ≡ true ∷ false ∷ false ∷ false ∷ false ∷ false ∷ []
+unfolding isSecretAbove stackFrom isEnabled
+ten-words = refl
 
 answer-is-there : (answer : ℕ) → getD (prying monitored answer) 0x0400 0 ≡ answer
 unfolding computing
@@ -72,6 +92,10 @@ nothing-shown : answerTo (plainCall 100) fresh (prying monitored 0x41) .run .sho
 unfolding computing
 nothing-shown = refl
 
+still-halted : answerAfter (plainCall 100 ∷ []) (plainCall 100) fresh (prying monitored 0x41) .run .steps ≡ 0
+unfolding computing
+still-halted = refl
+
 halted-again : answerAfter (plainCall 100 ∷ []) (restartingCall 100) fresh (prying monitored 0x41) .run .steps ≡ 3
 unfolding computing
 halted-again = refl
@@ -85,6 +109,14 @@ told-by-log : (getD (answerTo (loggedCall 11 33) fresh (prying unguarded 0x41) .
     × (getD (answerTo (loggedCall 11 33) fresh (prying unguarded 0) .log) 30 0 ≡ 0x021F)
 unfolding computing
 told-by-log = (refl, refl)
+
+shown-in-supervisor-mode : answerTo (plainCall 2) supervisor (showing 0x41) .run .output ≡ 0x41 ∷ []
+unfolding computing
+shown-in-supervisor-mode = refl
+
+replaced-by-stack : getD (answerTo (plainCall 2) stackElsewhere (prying monitored 0x41) .run .memory) 0x0400 0 ≡ 0x3002
+unfolding computing
+replaced-by-stack = refl
 
 interruptible-begins : Begins HasMonitor interruptible packing
 unfolding computing
@@ -104,11 +136,18 @@ examples-hold = record {
   begins = prying-begins;
   alike = prying-alike;
   answers = answer-is-there;
+  begins-used = used-begins;
+  six-words = six-words;
+  eight-words = eight-words;
+  ten-words = ten-words;
   halted = halted;
   nothing-shown = nothing-shown;
+  still-halted = still-halted;
   halted-again = halted-again;
   told = told;
   told-by-log = told-by-log;
+  shown-in-supervisor-mode = shown-in-supervisor-mode;
+  replaced-by-stack = replaced-by-stack;
   begins-too = interruptible-begins;
   ninth-and-tenth-before = before;
   ninth-and-tenth-after = after;

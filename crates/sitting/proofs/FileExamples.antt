@@ -9,15 +9,17 @@ use Rattle.object.specs.File.{bytesOf}
 use Rattle.start.specs.Start.{startedOf, userStartedOf}
 use Rattle.start.proofs.Examples.{opened as start-opened}
 use Rattle.sitting.specs.Sitting.{isSecretAbove, answerAfter}
-use Rattle.sitting.specs.HandedIn.{isMarkingWord, Prepared, FilesLearnNothingBy, LiesInMarkingWords, loadedWith}
+use Rattle.sitting.specs.HandedIn.{isMarkingWord, MarkingWordsStay, Prepared, FilesLearnNothingBy}
+use Rattle.sitting.specs.HandedIn.{LiesInMarkingWords, loadedWith}
 use Rattle.sitting.specs.Examples.{plainCall}
-use Rattle.sitting.specs.FileExamples.{answerFile, withAnswer, stealing, asking, firstAnswer, FileExamplesHold}
+use Rattle.sitting.specs.FileExamples.{answerFile, markFile, withAnswer, stealing, asking, firstAnswer}
+use Rattle.sitting.specs.FileExamples.{FileExamplesHold}
 use Rattle.sitting.proofs.HandedIn.{files-prepare}
 use Rattle.sitting.proofs.Examples.{computing as sitting-computing}
 
 -- To unfold this is to compute with the monitor and a file in memory.
 unfoldable computing : Unit {0}
-unfolding sitting-computing start-opened bytesOf loadedWith answerFile withAnswer stealing asking
+unfolding sitting-computing start-opened bytesOf loadedWith answerFile markFile withAnswer stealing asking
 computing = tt
 
 borders :
@@ -31,9 +33,26 @@ answer-file : (answer : ℕ) → LiesInMarkingWords (answerFile answer)
 unfolding computing isSecretAbove
 answer-file answer a l u = let e : a ≡ 0x2000 = omega arith in rw e
 
+mark-file : LiesInMarkingWords markFile
+unfolding computing isSecretAbove
+mark-file a l u = let e : a ≡ 0x2100 = omega arith in rw e
+
 answer-there : (answer : ℕ) → getD (withAnswer answer) 0x2000 0 ≡ answer
 unfolding computing
 answer-there answer = let e : answer / 256 * 256 + answer % 256 ≡ answer = omega arith in e
+
+mark-there : (answer : ℕ) → getD (withAnswer answer) 0x2100 0 ≡ 7
+unfolding computing
+mark-there answer = refl
+
+replaced : getD (startedOf (answerFile 0x42) (withAnswer 0x41) true 0xFDFF .memory) 0x2000 0 ≡ 0x42
+unfolding computing
+replaced = refl
+
+start-would-change :
+    MarkingWordsStay (withAnswer 0x41) (startedOf (answerFile 0x42) (withAnswer 0x41) true 0xFDFF .memory) → ⊥
+start-would-change f =
+    omega (arith, sym replaced ∙ f 0x2000 (unfold isSecretAbove in refl) ∙ answer-there 0x41)
 
 stolen : (firstAnswer 3 (startedOf stealing (withAnswer 0x41) true 0xFDFF) .run .output ≡ 0x41 ∷ [])
     × (firstAnswer 3 (startedOf stealing (withAnswer 0x42) true 0xFDFF) .run .output ≡ 0x42 ∷ [])
@@ -47,8 +66,8 @@ stealing-accepted = refl
 prepared : Prepared (withAnswer 0x41) (withAnswer 0x42)
 unfolding withAnswer
 prepared =
-    files-prepare (replicate 65536 0) (answerFile 0x41 ∷ []) (answerFile 0x42 ∷ []) (length-replicate {A = ℕ} 65536 0)
-    (answer-file 0x41, tt) (answer-file 0x42, tt)
+    files-prepare (replicate 65536 0) (answerFile 0x41 ∷ markFile ∷ []) (answerFile 0x42 ∷ markFile ∷ [])
+    (length-replicate {A = ℕ} 65536 0) (answer-file 0x41, (mark-file, tt)) (answer-file 0x42, (mark-file, tt))
 
 start-would-tell : FilesLearnNothingBy (λ file memory userStack. startedOf file memory true userStack) → ⊥
 unfolding answerAfter
@@ -74,7 +93,10 @@ pub file-examples-hold : FileExamplesHold
 file-examples-hold = record {
   borders = borders;
   answer-file = answer-file;
+  mark-file = mark-file;
   answer-there = answer-there;
+  mark-there = mark-there;
+  start-would-change = start-would-change;
   stolen = stolen;
   start-would-tell = start-would-tell;
   turned-away = turned-away;

@@ -9,16 +9,21 @@ use Rattle.object.specs.File.{fileOf}
 use Rattle.start.specs.Start.{Starting, startedOf, userStartedOf}
 use Rattle.logging.specs.LoggedRun.{Logged}
 use Rattle.sitting.specs.Sitting.{answerTo}
-use Rattle.sitting.specs.HandedIn.{isMarkingWord, FilesLearnNothingBy, LiesInMarkingWords, preparedOf}
+use Rattle.sitting.specs.HandedIn.{isMarkingWord, MarkingWordsStay, FilesLearnNothingBy, LiesInMarkingWords}
+use Rattle.sitting.specs.HandedIn.{preparedOf}
 use Rattle.sitting.specs.Examples.{plainCall}
 
 -- The examiner's file: an answer at x2000.
 unfoldable pub answerFile : ℕ → List ℕ
 answerFile answer = fileOf 0x2000 (answer ∷ [])
 
--- The monitor and the answer, in a memory of zeros.
+-- Another: a mark at x2100.
+unfoldable pub markFile : List ℕ
+markFile = fileOf 0x2100 (7 ∷ [])
+
+-- The monitor, the answer and the mark, in a memory of zeros.
 unfoldable pub withAnswer : ℕ → List ℕ
-withAnswer answer = preparedOf (replicate 65536 0) (answerFile answer ∷ [])
+withAnswer answer = preparedOf (replicate 65536 0) (answerFile answer ∷ markFile ∷ [])
 
 -- A file from x0102 on, the word that says where the access exception leads: to x0103, where stand LDI R0, #2;
 -- STI R0, #2; BRnzp #2; .FILL x2000; .FILL xFE06 (DDR); AND R1, R1, #0; STI R1, #1; BRnzp #-1; .FILL xFFFE (MCR). PC is
@@ -41,9 +46,14 @@ pub record FileExamplesHold : Type 0 where
       map isMarkingWord
       (0x0000 ∷ 0x02A4 ∷ 0x02A5 ∷ 0x2FF9 ∷ 0x2FFA ∷ 0x2FFF ∷ 0x3000 ∷ 0xFDFF ∷ 0xFE00 ∷ 0xFFFF ∷ [])
       ≡ false ∷ false ∷ true ∷ true ∷ false ∷ false ∷ false ∷ false ∷ true ∷ true ∷ []
-  -- the examiner's file may be loaded, and the answer is there
+  -- the examiner's files may be loaded, and the answer and the mark are there
   pub answer-file : (answer : ℕ) → LiesInMarkingWords (answerFile answer)
+  pub mark-file : LiesInMarkingWords markFile
   pub answer-there : (answer : ℕ) → getD (withAnswer answer) 0x2000 0 ≡ answer
+  pub mark-there : (answer : ℕ) → getD (withAnswer answer) 0x2100 0 ≡ 7
+  -- `start` lets a file replace an answer, so that marking words do not stay
+  pub start-would-change :
+      MarkingWordsStay (withAnswer 0x41) (startedOf (answerFile 0x42) (withAnswer 0x41) true 0xFDFF .memory) → ⊥
   -- `start` accepts the file that steals; within three steps the answer is shown
   pub stolen : (firstAnswer 3 (startedOf stealing (withAnswer 0x41) true 0xFDFF) .run .output ≡ 0x41 ∷ [])
       × (firstAnswer 3 (startedOf stealing (withAnswer 0x42) true 0xFDFF) .run .output ≡ 0x42 ∷ [])

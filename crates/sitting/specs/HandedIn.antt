@@ -1,6 +1,6 @@
 -- What a candidate can do by the file that is handed in. Our monitor and the examiner's words are in memory; the host
--- starts the file by `start_user` and runs it, in one call or many. No file, whatever its bytes are, learns or changes
--- one of the examiner's words.
+-- starts the file by `start_user` and runs it, in one call or many. No program, whatever the file's bytes are, learns or
+-- changes one of the examiner's words.
 use Prim.Native.Nat.{ℕ, _+_, _≤_, _<_}
 use mathlib.Core.Path.{_≡_}
 use mathlib.Core.Bool.{Bool, true, false}
@@ -23,8 +23,8 @@ isMarkingWord = isSecretAbove 0x2FFA
 
 -- ---- one candidate
 
--- What is started in this memory begins a sitting as `SittingTellsNothing` asks it, with no device that may interrupt,
--- and with every privileged word as it was lent.
+-- What is started in this memory meets the premises of `SittingTellsNothing`, with no device that may interrupt, and
+-- with every privileged word as it was lent.
 pub record BeginsIn (memory : List ℕ) (s : Starting) : Type 0 where
   pub begins : Begins HasMonitor (s .machine) (s .memory)
   pub no-interrupts : lowestStackWord (s .machine .devices) ≡ 0x2FFA
@@ -52,7 +52,8 @@ pub record SameStarts (s₁ s₂ : Starting) : Type 0 where
   pub refusal : s₁ .refusal ≡ s₂ .refusal
   pub memory : SameOutside isMarkingWord (s₁ .memory) (s₂ .memory)
 
--- Calls answer alike, and no marking word has changed. In the same memories the next candidate may sit.
+-- Calls answer alike, and no marking word has changed. So the same holds of what is started next in these memories.
+-- (User mode's words are as this sitting leaves them.)
 pub record SameSittings (memory₁ memory₂ : List ℕ) (a₁ a₂ : Logged) : Type 0 where
   pub same : SameAnswers isMarkingWord a₁ a₂
   pub stay₁ : MarkingWordsStay memory₁ (a₁ .run .memory)

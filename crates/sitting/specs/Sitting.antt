@@ -25,7 +25,7 @@ use Rattle.monitor.specs.Routines.{monitorWords}
 -- ---- secret words
 
 -- The interrupt enable, bit 14, of a status register. Bits 15 and 14 alone are defined, so it is clear in x0000 and
--- x8000 only.
+-- x8000 only. (An undefined bit counts as enabled: every call refuses it with 12.)
 unfoldable pub isEnabled : ℕ → Bool
 isEnabled status = not (eqb status 0 || eqb status 0x8000)
 
@@ -34,8 +34,8 @@ isEnabled status = not (eqb status 0 || eqb status 0x8000)
 unfoldable pub stackFrom : ℕ → Devices → ℕ
 stackFrom lowest d = lowest - cond (isEnabled (d .kbsr)) 2 0 - cond (isEnabled (d .«timer_status»)) 2 0
 
--- The lowest word of our monitor's stack, which ends at x2FFF. The deepest routine, PUTSP, has six words, two of the
--- trap's among them.
+-- The lowest word of our monitor's stack, which ends at x2FFF. The deepest routine, PUTSP, has six words, the
+-- trap's two among them.
 abbrev pub lowestStackWord : Devices → ℕ
 lowestStackWord = stackFrom 0x2FFA
 
@@ -80,8 +80,8 @@ answerAfter (c ∷ earlier) call m memory =
 
 -- ---- two sittings
 
--- A sitting begins beside a monitor. Nothing is asked of registers, PC, codes, priority, devices, clock and other words,
--- and nothing of the calls: one that is malformed is refused, in both sittings, and does nothing.
+-- A sitting begins beside a monitor. Nothing is asked of registers, PC, codes, priority, devices, clock and other
+-- words, and nothing of the calls: one that is malformed is refused, in both sittings, and does nothing.
 pub record Begins (Intact : List ℕ → Type 0) (m : Machine) (memory : List ℕ) : Type 0 where
   -- the record has R0 to R7, and memory 65,536 words
   pub registers : length (m .regs) ≡ 8
