@@ -45,6 +45,14 @@ pub(crate) fn same_record(a: Machine, b: Machine) -> bool {
     registers && control && devices && timer && a.clock == b.clock
 }
 
+// What two calls answered: record and counts.
+fn same_answer(a: Answer, b: Answer) -> bool {
+    let r = a.report;
+    let s = b.report;
+    let counts = r.steps == s.steps && r.keys == s.keys && r.shown == s.shown;
+    counts && same_record(a.machine, b.machine)
+}
+
 // A count with one more where a test holds.
 fn counted(count: u64, holds: bool) -> u64
     requires { ⌜ count ≤ 65536 ⌝ }
@@ -139,7 +147,7 @@ fn print_compared(steps: u64, same: u64) {
     print_number(steps, 1);
     print(b". After ");
     print_number(same, 1);
-    print(b" of them the whole record was the same in both sittings.\n");
+    print(b" of them record and counts were the same in both sittings.\n");
 }
 
 // Makes the two sittings, and answers the last record of the first.
@@ -169,7 +177,7 @@ pub(crate) fn sit_beside(
         }
         m = a.machine;
         o = b.machine;
-        same = counted(same, same_record(m, o));
+        same = counted(same, same_answer(a, b));
         at = later(at, r.keys, times.len());
         steps += 1;
     }

@@ -90,7 +90,7 @@ fn in_steps() -> Machine {
     let last = sit_beside(m, o, &mut memory, &mut other, &TIMES, &KEYS);
     print(b"Words of memory that differ at the end: ");
     print_number(count_different(&memory, &other), 1);
-    print(b", the answers.\n");
+    print(b"\n");
     last
 }
 
@@ -116,7 +116,12 @@ fn stolen(answers: &[u8]) -> u8 {
 fn attack() {
     print(b"\nAnother candidate hands in a file for x0102, the vector of the access exception:\n");
     let mut memory = [0u16; 65536];
+    start_sitting(&mut memory, &ANSWERS);
+    let before = memory;
     tell(&ATTACK, start_file(&ATTACK, &mut memory, true));
+    print(b"Words of memory that it has changed: ");
+    print_number(count_different(&memory, &before), 1);
+    print(b"\n");
     print(b"Loaded all the same it would show the first answer: ");
     print_shown(&[stolen(&ANSWERS)]);
     print(b" in the one sitting, ");

@@ -37,8 +37,8 @@ same-length-2 c = search needs
 returns : tie.Need-returns Inv-loop μ-loop
 returns c = search needs
 
-same-record-requires : tie.Need-same-record-requires Inv-loop μ-loop
-same-record-requires c κs = search needs
+same-answer-requires : tie.Need-same-answer-requires Inv-loop μ-loop
+same-answer-requires c κs = search needs
 
 counted-requires : tie.Need-counted-requires Inv-loop μ-loop
 counted-requires c κs = search needs
@@ -78,7 +78,7 @@ sit-beside-spec =
     same-length
     same-length-2
     returns
-    same-record-requires
+    same-answer-requires
     counted-requires
     later-requires
     add-steps
