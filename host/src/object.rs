@@ -136,8 +136,10 @@ pub fn start(
 /// word of memory outside them is replaced.
 ///
 /// Beside the [ready-made monitor](crate::install_monitor) no program that is started so learns or
-/// changes a word of x02A5 to x2FF9, or a lent word from xFE00 on, however long it runs. Beside
-/// another monitor that depends on the monitor.
+/// changes a word of x02A5 to x2FF9, or a lent word from xFE00 on, however long it is run from the
+/// record answered, by [`run`](crate::run()), [`run_long`](crate::run_long),
+/// [`step`](crate::step()) or [`run_logged`](crate::run_logged). Beside another monitor that depends
+/// on the monitor.
 ///
 /// A refused call alters nothing.
 ///
