@@ -59,6 +59,7 @@ from .constants import (
     VECTOR_WORDS,
     VERSION,
 )
+from .ending import EndKind, Ending, SittingReport
 from .log import LoggedStep, logged_steps
 from .memory import Line, Memory
 from .places import PlaceError
@@ -87,6 +88,8 @@ from .words import LineError, word
 __all__ = [
     "Change",
     "Edition",
+    "EndKind",
+    "Ending",
     "Instruction",
     "Key",
     "Kind",
@@ -117,6 +120,7 @@ __all__ = [
     "Routines",
     "Run",
     "Sitting",
+    "SittingReport",
     "Started",
     "Stop",
     "TracedStep",

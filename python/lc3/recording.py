@@ -45,10 +45,9 @@ from sys import byteorder
 from typing import Any, Sequence, Union
 
 from ._library import RecordStruct
-from .constants import MAX_CLOCK, MAX_STEPS, MEMORY_WORDS
-from .log import LoggedStep
+from .constants import MAX_CLOCK, MEMORY_WORDS
 from .machine import MEMORY_BYTES, Machine
-from .records import LONG_LIMIT, SHORT_FIELDS, WORD_LIMIT, Edition, Record, Refused, Stop, whole
+from .records import LONG_LIMIT, SHORT_FIELDS, WORD_LIMIT, Edition, Record, Refused, whole
 from .steps import NAMES
 from .strict_json import strict_json
 
@@ -431,21 +430,3 @@ def _recording(data: dict[str, Any]) -> Recording:
     if recording.end.shown > recording.steps:
         raise ValueError("more bytes are shown than steps made")
     return recording
-
-
-def follow(
-    machine: Machine, alterations: Sequence[Alteration], until: int, logged_from: int
-) -> list[LoggedStep]:
-    """Runs a machine to a clock, makes each alteration at its time, and tells of the steps from
-    another clock on."""
-    steps: list[LoggedStep] = []
-    for alteration in [*alterations, None]:
-        goal = until if alteration is None else min(alteration.clock, until)
-        while machine.record.clock < min(goal, logged_from):
-            left = min(goal, logged_from) - machine.record.clock
-            if machine.advance(min(left, MAX_STEPS)) is not Stop.DONE:
-                raise RecordingError("the machine stops before the end of what is followed")
-        steps += machine.steps_logged(goal - machine.record.clock)
-        if alteration is not None:
-            alteration.make(machine)
-    return steps

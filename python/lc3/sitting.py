@@ -18,15 +18,16 @@ from typing import TYPE_CHECKING, Iterator, NamedTuple, Sequence, Union
 from . import calls
 from .constants import KBSR_READY, MAX_CLOCK, MAX_STEPS, MCR_CLOCK, MEMORY_WORDS, USER_ORIGIN
 from .constants import USER_STACK
+from .ending import Ending, SittingReport, ending_of
 from .interrupts import Held
-from .log import LoggedStep
-from .machine import MEMORY_BYTES, Machine, Snapshot
+from .log import LoggedStep, logged_steps
+from .machine import MEMORY_BYTES, Machine
 from .memory import Line, Memory
+from .past import Mark, Past
 from .places import check_apart, check_examiner, check_pc
 from .recording import REPLAY_STEPS, Alteration, End, Program, Recording, RecordingError
-from .recording import RegisterAlteration, Typed, WordsAlteration, follow
-from .records import LONG_LIMIT, WORD_LIMIT, Edition, Mode, Record, Refusal, Refused, Report
-from .records import Stop, whole
+from .recording import RegisterAlteration, Typed, WordsAlteration
+from .records import LONG_LIMIT, WORD_LIMIT, Edition, Mode, Record, Refusal, Refused, Stop, whole
 from .steps import NAMES, TracedStep, value_of
 
 if TYPE_CHECKING:
@@ -140,7 +141,7 @@ candidate's belongs: give it another origin, or take fewer words
         self.stop = Stop.DONE
         self._mode, self._stack, self._anywhere = Mode.USER, USER_STACK, anywhere
         self._origin, self._started, self._has_monitor = USER_ORIGIN, 0, monitor
-        self._marks: list[tuple[Snapshot, int]] = []
+        self._marks: list[Mark] = []
         self.display_limit = display_limit
         if monitor:
             calls.monitor(self._machine.words)
@@ -221,6 +222,7 @@ than two: an object file is an origin and words, of two bytes each
         self._made = 0
         self._marks = []
         self._passed: tuple[int, int] | None = None
+        self._run_past: Past | None = None
         self.stop = Stop.DONE
 
     # Looking at the machine, and altering it.
@@ -390,7 +392,7 @@ than two: an object file is an origin and words, of two bytes each
 
     # Running.
 
-    def run(self, steps: int | None = None) -> Report:
+    def run(self, steps: int | None = None) -> SittingReport:
         """Runs so many steps, or without a number until the machine stops of itself.
 
         It stops earlier where the machine is halted, before an instruction at a breakpoint, or at
@@ -403,7 +405,7 @@ than two: an object file is an origin and words, of two bytes each
         >>> sitting.run().stop, sitting.here().text
         (<Stop.BREAKPOINT: -1>, 'BRnzp #-2')
         >>> sitting.run(3), sitting["R0"]
-        (Report(steps=2, keys=0, shown=0, stop=<Stop.BREAKPOINT: -1>), 2)
+        (SittingReport(steps=2, keys=0, shown=0, stop=<Stop.BREAKPOINT: -1>), 2)
         """
         end = self._end(steps)
         self._begin()
@@ -411,10 +413,11 @@ than two: an object file is an origin and words, of two bytes each
         arrived, shown = machine.arrived, machine.shown
         with Held() as held:
             self.stop = self._go(end, held)
-        made = self.clock - begun
-        return Report(made, machine.arrived - arrived, machine.shown - shown, self.stop)
+        self._run_past = self._past()
+        made, keys, bytes_ = self.clock - begun, machine.arrived - arrived, machine.shown - shown
+        return SittingReport(made, keys, bytes_, self.stop, self._run_past)
 
-    def step(self) -> Report:
+    def step(self) -> SittingReport:
         """Makes one step, also at a breakpoint."""
         self._passed = (self.clock, self["PC"])
         return self.run(1)
@@ -437,6 +440,7 @@ PSR x8001 -> x0001, Saved_USP x0000 -> xFDFF, x2FFE x0000 -> x3002, x2FFF x0000 
                 step = self._trace_one(end)
             if isinstance(step, Stop):
                 self.stop = step
+                self._run_past = self._past()
                 return
             yield step
 
@@ -464,7 +468,7 @@ PSR x8001 -> x0001, Saved_USP x0000 -> xFDFF, x2FFE x0000 -> x3002, x2FFF x0000 
         for address in self.breakpoints:
             whole(address, WORD_LIMIT, "a breakpoint")
         if not self._marks:
-            self._marks = [(self._machine.snapshot(), 0)]
+            self._marks = [Mark(self._machine.snapshot(), 0)]
 
     def _go(self, end: int, held: Held) -> Stop:
         """Runs to a clock, in as many calls as it takes, unless something stops it."""
@@ -518,7 +522,7 @@ PSR x8001 -> x0001, Saved_USP x0000 -> xFDFF, x2FFE x0000 -> x3002, x2FFF x0000 
             self._typed = bytearray(self._left.text)
             self._look, self._since, self._left = self._left.look, self._left.since, None
         if self.clock - self._marks[-1][0].clock >= MARK_EVERY:
-            self._marks.append((self._machine.snapshot(), self._made))
+            self._marks.append(Mark(self._machine.snapshot(), self._made))
             # The start is kept, and two more: the log may reach back beyond the last.
             del self._marks[1:-2]
 
@@ -536,17 +540,41 @@ PSR x8001 -> x0001, Saved_USP x0000 -> xFDFF, x2FFE x0000 -> x3002, x2FFF x0000 
         whole(count, LONG_LIMIT, "count")
         if not self._marks:
             return []
-        first = max(self.clock - count, self._marks[0][0].clock)
-        snapshot, made = [mark for mark in self._marks if mark[0].clock <= first][-1]
-        twin = self._twin(snapshot)
-        return follow(twin, self._alterations[made : self._made], self.clock, first)
+        past = self._past()
+        return logged_steps(past.log(max(self.clock - count, past.start)))
 
-    def _twin(self, snapshot: Snapshot) -> Machine:
-        """A machine of its own at a snapshot, with the same keys."""
+    def _past(self) -> Past:
+        """What led to where the machine stands."""
+        machine = self._machine
+        return Past(
+            self.edition,
+            tuple(self._marks),
+            self._alterations,
+            self._made,
+            machine.times,
+            machine.keys,
+            len(machine.output),
+            self.clock,
+        )
+
+    @property
+    def ending(self) -> Ending:
+        """How the last run ended, and where the program stood: see ``lc3.ending``.
+
+        >>> sitting = Sitting(bytes.fromhex("3000 1021 D000"))
+        >>> _ = sitting.run()
+        >>> print(sitting.ending)
+        stopped by the illegal opcode exception; PC x3001: .FILL xD000
+        """
+        self._begin()
+        return ending_of(self._run_past or self._past(), self.stop)
+
+    def _twin(self) -> Machine:
+        """A machine of its own where this one stands, with the same keys."""
         machine, twin = self._machine, Machine(self.edition)
         twin.times, twin.keys = machine.times[:], machine.keys[:]
         twin.output = array("B", bytes(len(machine.output)))
-        twin.restore(snapshot)
+        twin.restore(machine.snapshot())
         return twin
 
     def waits(self) -> bool:
@@ -560,7 +588,7 @@ PSR x8001 -> x0001, Saved_USP x0000 -> xFDFF, x2FFE x0000 -> x3002, x2FFF x0000 
         machine = self._machine
         if self._typed or self._left or machine.arrived < len(machine.times):
             return False
-        twin = self._twin(machine.snapshot())
+        twin = self._twin()
         # A busy display counts its steps, and no record would come again.
         twin.advance(twin.record.busy)
         state, shown, words = twin.state(), twin.shown, twin.words.tobytes()
