@@ -19,7 +19,8 @@ class Mark(NamedTuple):
 
 
 class Past(NamedTuple):
-    """What led to a clock: snapshots, keys and the alterations made from outside.
+    """What led to a clock: snapshots, the first of them at the start; keys; and the alterations
+    made from outside.
 
     The lists are the sitting's own. It only adds behind what has happened, so a past stays what it
     is while the sitting goes on.
@@ -41,46 +42,51 @@ class Past(NamedTuple):
 
     def machine_at(self, clock: int) -> Machine:
         """A machine of its own that stands at a clock, before the step of that number."""
-        machine, left = self._restored(clock)
-        self._follow(machine, left, clock)
-        return machine
+        return self._followed(clock)[0]
+
+    def nearer(self, clock: int) -> Past:
+        """The same past with a snapshot at a clock, for whoever asks for several steps after it."""
+        machine, made = self._followed(clock)
+        return self._replace(marks=(self.marks[0], Mark(machine.snapshot(), made)))
 
     def log(self, first: int) -> array[int]:
         """The words of the log of the steps from a clock on, three for each step."""
-        machine, left = self._restored(first)
-        self._follow(machine, left, first)
+        machine, made = self._followed(first)
         log: array[int] = array("H")
-        for alteration in [*left, None]:
-            goal = self.clock if alteration is None else min(alteration.clock, self.clock)
+        for place in range(made, self.made + 1):
+            alteration = self.alterations[place] if place < self.made else None
+            goal = self.clock if alteration is None else alteration.clock
             while machine.record.clock < goal:
                 n = min(goal - machine.record.clock, LOGGED_AT_ONCE)
-                stop, words = machine.advance_logged(n)
-                log += words
-                if stop is not Stop.DONE:
-                    return log
+                log += _whole(*machine.advance_logged(n))
             if alteration is not None:
                 alteration.make(machine)
         return log
 
-    def _restored(self, clock: int) -> tuple[Machine, list[Alteration]]:
-        """A machine at the last snapshot that is not after a clock, and the alterations from there
-        on."""
+    def _followed(self, clock: int) -> tuple[Machine, int]:
+        """A machine that stands at a clock, with all that was altered there, and how many
+        alterations were made by then."""
         snapshot, made = [mark for mark in self.marks if mark.snapshot.clock <= clock][-1]
         machine = Machine(self.edition)
         machine.times, machine.keys = self.times[:], self.keys[:]
         machine.output = array("B", bytes(self.room))
         machine.restore(snapshot)
-        return machine, list(self.alterations[made : self.made])
+        while made < self.made and self.alterations[made].clock <= clock:
+            _run_to(machine, self.alterations[made].clock)
+            self.alterations[made].make(machine)
+            made += 1
+        _run_to(machine, clock)
+        return machine, made
 
-    @staticmethod
-    def _follow(machine: Machine, left: list[Alteration], clock: int) -> None:
-        """Runs to a clock, and makes each alteration at its time; those made are taken off."""
-        while True:
-            altered = bool(left) and left[0].clock <= clock
-            goal = left[0].clock if altered else clock
-            while machine.record.clock < goal:
-                if machine.advance(min(goal - machine.record.clock, MAX_STEPS)) is not Stop.DONE:
-                    raise RecordingError("the machine stops before the end of what is followed")
-            if not altered:
-                return
-            left.pop(0).make(machine)
+
+def _run_to(machine: Machine, clock: int) -> None:
+    """Runs a machine to a clock."""
+    while machine.record.clock < clock:
+        _whole(machine.advance(min(clock - machine.record.clock, MAX_STEPS)))
+
+
+def _whole(stop: Stop, log: array[int] = array("H")) -> array[int]:
+    """The log of steps that were all made: what was run once runs again."""
+    if stop is not Stop.DONE:
+        raise RecordingError("the machine stops before the end of what is followed")
+    return log

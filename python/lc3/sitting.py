@@ -23,6 +23,7 @@ from .interrupts import Held
 from .log import LoggedStep, logged_steps
 from .machine import MEMORY_BYTES, Machine
 from .memory import Line, Memory
+from .own import last_own_steps
 from .past import Mark, Past
 from .places import check_apart, check_examiner, check_pc
 from .recording import REPLAY_STEPS, Alteration, End, Program, Recording, RecordingError
@@ -542,6 +543,18 @@ PSR x8001 -> x0001, Saved_USP x0000 -> xFDFF, x2FFE x0000 -> x3002, x2FFF x0000 
             return []
         past = self._past()
         return logged_steps(past.log(max(self.clock - count, past.start)))
+
+    def last_program_steps(self, count: int) -> list[LoggedStep]:
+        """The same without the steps of the monitor's routines: see ``lc3.own``. Fewer are told
+        where a routine has served for a million steps.
+
+        >>> sitting = Sitting(bytes.fromhex("3000 1021 F021 F025"))
+        >>> _ = sitting.run()
+        >>> [step.line for step in sitting.last_program_steps(10)]
+        ['ADD R0, R0, #1', 'TRAP x21', 'TRAP x25']
+        """
+        whole(count, LONG_LIMIT, "count")
+        return last_own_steps(self._past(), count) if self._marks and count else []
 
     def _past(self) -> Past:
         """What led to where the machine stands."""

@@ -22,7 +22,7 @@ from .terminal import Keyboard, Signals
 RIGHT, WRONG, NOT_HALTED = "right", "wrong display", "not halted"
 EXCEPTION, REFUSED = "exception", "refused"
 
-# The lines obeyed last that are told of a case that failed.
+# The program's own lines obeyed last that are told of a case that failed.
 LAST_LINES = 10
 
 # The bytes of both displays that are told around the first difference.
@@ -120,7 +120,7 @@ def result_of(sitting: Sitting, case: Case, ending: Ending) -> CaseResult:
     told = (ending.text, sitting.clock, here.address, here.text, len(sitting.display_bytes))
     if sitting.halted and found is None:
         return CaseResult(case.name, RIGHT, *told)
-    last = sitting.last_steps(LAST_LINES)
+    last = sitting.last_program_steps(LAST_LINES)
     verdict = WRONG
     if sitting.halted and any(step.reason in EXCEPTIONS for step in last):
         verdict = EXCEPTION

@@ -1,0 +1,265 @@
+"""Which steps of a machine are the program's own, and by which one it was left last.
+
+An entry (a trap, an exception or an interrupt) leads from the program to a routine of the monitor,
+and RTI leads back. Entries from which no RTI has returned are *open*. A program in User mode is
+easily told from what serves it: its steps are those made in User mode, which only an entry and an
+RTI change. Of one in Supervisor mode the steps are those outside of all entries.
+
+By the second edition's rules a TRAP is no entry but a call, from which RET returns in the same
+mode: there the steps in privileged memory, x0000 to x2FFF and from xFE00 on, are the monitor's.
+
+All is read from the log of the last steps, backwards, and no further than ``LOOKED_THROUGH`` says.
+Where a routine has served for longer, the PC that its entry saved on the supervisor stack still
+names the program's instruction. A program in User mode can alter neither log nor stack.
+"""
+
+from __future__ import annotations
+
+import re
+from array import array
+from itertools import islice
+from typing import Iterator, NamedTuple
+
+from .constants import LOG_WORDS, PSR_USER
+from .log import LoggedStep, logged_steps
+from .past import Past
+from .records import Edition, Reason, Record
+
+# The steps that a log is looked through: few at first, for most entries are short. The second
+# edition has no logged run, and its steps are made one at a time.
+LOOKED_THROUGH = {
+    Edition.THIRD: (1 << 9, 1 << 16, 1 << 20),
+    Edition.SECOND: (1 << 9, 1 << 13),
+}
+
+# The steps of a log that are looked at together for an entry or a return.
+BLOCK = 1 << 12
+
+# The bits of a PSR.
+PSR_BITS = 0x8707
+
+# The opcode of RTI in the high byte of a word, low byte first.
+_RTI = re.compile(rb"(?s)(?:..)*?.[\x80-\x8f]")
+
+# What a step does to the routines that are open.
+NOTHING, CALLS, ENTERS, RETURNS = range(4)
+
+
+class Left(NamedTuple):
+    """The step by which the program was left: its log, the registers before it, and the entries
+    that are open inside of it, the first one first."""
+
+    clock: int
+    step: LoggedStep
+    record: Record
+    inner: tuple[LoggedStep, ...] = ()
+
+    @property
+    def in_user_mode(self) -> bool:
+        """Whether the program runs in User mode."""
+        return bool(self.record.psr & PSR_USER)
+
+
+def privileged(address: int) -> bool:
+    """Whether User mode may not access an address.
+
+    >>> [privileged(address) for address in (0x2FFF, 0x3000, 0xFDFF, 0xFE00)]
+    [True, False, False, True]
+    """
+    return not 0x3000 <= address <= 0xFDFF
+
+
+def left_by(past: Past) -> Left | None:
+    """The step by which the program was left and has not been returned to; nothing where the
+    program itself runs."""
+    found: Left | None = None
+    if _in_user_mode(past, past.clock):
+        return found
+    for first in _beginnings(past):
+        near = past.nearer(first)
+        found = _left_since(near, first)
+        if found is not None and (found.in_user_mode or first == past.start):
+            return found
+    return _left_by_frame(past) or found
+
+
+def last_own_steps(past: Past, count: int) -> list[LoggedStep]:
+    """The last steps of the program, at most so many. Fewer are told where a routine of the
+    monitor has served for longer than the log is looked through."""
+    left, steps = left_by(past), []
+    for first in _beginnings(past):
+        near = past.nearer(first)
+        log = near.log(first)
+        places = list(islice(_own_places(near, log, first, left), count))
+        steps = [_step(log, place) for place in reversed(places)]
+        if len(steps) == count:
+            break
+    return [left.step] if left is not None and not steps else steps
+
+
+def _own_places(past: Past, log: array[int], first: int, left: Left | None) -> Iterator[int]:
+    """The steps of the program in the log from a clock on, the last one first."""
+    if past.edition is Edition.SECOND:
+        return (place for place in _places(log) if not privileged(log[LOG_WORDS * place]))
+    if _in_user_mode(past, past.clock) if left is None else left.in_user_mode:
+        return _user_places(past, log, first)
+    until = past.clock if left is None else left.clock + 1
+    return _outer_places(log[: LOG_WORDS * (until - first)])
+
+
+def _in_user_mode(past: Past, clock: int) -> bool:
+    """Whether the machine is in User mode at a clock, and that tells the program from others."""
+    third = past.edition is Edition.THIRD
+    return third and bool(past.machine_at(clock).record.psr & PSR_USER)
+
+
+def _beginnings(past: Past) -> Iterator[int]:
+    """The clocks from which on the log is looked through, one after the other."""
+    for count in LOOKED_THROUGH[past.edition]:
+        yield max(past.clock - count, past.start)
+        if past.clock - count <= past.start:
+            return
+
+
+def _step(log: array[int], place: int) -> LoggedStep:
+    """One step of a log."""
+    return logged_steps(log[place * LOG_WORDS : (place + 1) * LOG_WORDS])[0]
+
+
+def _left_since(past: Past, first: int) -> Left | None:
+    """The step by which the program was left, from the log from a clock on: the last open one that
+    was made in User mode; else the last one outside of privileged memory; else the first."""
+    log = past.log(first)
+    inner: list[LoggedStep] = []
+    found: Left | None = None
+    for place in open_places(log, past.edition):
+        step = _step(log, place)
+        record = past.machine_at(first + place).plain_record()
+        here = Left(first + place, step, record, tuple(reversed(inner)))
+        if _in_user_mode(past, first + place):
+            return here
+        if found is None or privileged(found.step.pc):
+            found = here
+        inner.append(step)
+    return found
+
+
+def _left_by_frame(past: Past) -> Left | None:
+    """The same from what a TRAP in User mode has pushed first on the supervisor stack, PSR and
+    then PC, where the stack is still filled that far."""
+    machine, base = past.machine_at(past.clock), _stack_base(past)
+    pc, psr = machine.words[base - 2 & 0xFFFF], machine.words[base - 1 & 0xFFFF]
+    at = pc - 1 & 0xFFFF
+    filled = 2 <= base - machine.record.regs[6] & 0xFFFF < 0x8000
+    pushed = not psr & ~PSR_BITS and psr & PSR_USER and machine.words[at] >> 12 == 15
+    if past.edition is Edition.SECOND or not filled or not pushed:
+        return None
+    record = machine.plain_record()
+    record.pc, record.psr, record.regs[6] = at, psr, record.saved_usp
+    return Left(past.clock, LoggedStep(at, machine.words[at], Reason.TRAP), record)
+
+
+def _stack_base(past: Past) -> int:
+    """The supervisor stack's pointer while the program runs, as a snapshot in User mode has it, or
+    else as every machine begins with it."""
+    for mark in reversed(past.marks):
+        record = past.machine_at(mark.snapshot.clock).plain_record()
+        if record.psr & PSR_USER:
+            return record.saved_ssp
+    return 0x3000
+
+
+def effect(word: int, reason: int, edition: Edition) -> int:
+    """What a step does to the routines that are open. By the second edition's rules TRAP enters,
+    JSR and JSRR call, and JMP R7 returns from either.
+
+    >>> effect(0xF021, Reason.TRAP, Edition.THIRD) == ENTERS
+    True
+    """
+    if reason != Reason.INSTRUCTION:
+        return ENTERS
+    opcode = word >> 12
+    if opcode == 8:
+        return RETURNS
+    if edition is Edition.SECOND:
+        if opcode == 12 and word >> 6 & 7 == 7:
+            return RETURNS
+        return {4: CALLS, 15: ENTERS}.get(opcode, NOTHING)
+    return NOTHING
+
+
+def open_places(log: array[int], edition: Edition) -> Iterator[int]:
+    """The entries of a log from which nothing has returned, the last one first, each by its place
+    among the steps.
+
+    >>> trap, rti = (0x3000, 0xF021, Reason.TRAP), (0x0204, 0x8000, Reason.INSTRUCTION)
+    >>> list(open_places(array("H", (*trap, *rti, *trap)), Edition.THIRD))
+    [2]
+    """
+    returned = 0
+    for place in _places(log) if edition is Edition.SECOND else _busy_places(log):
+        what = effect(log[LOG_WORDS * place + 1], log[LOG_WORDS * place + 2], edition)
+        if what == RETURNS:
+            returned += 1
+        elif what and returned:
+            returned -= 1
+        elif what == ENTERS:
+            yield place
+
+
+def _user_places(past: Past, log: array[int], first: int) -> Iterator[int]:
+    """The steps that were made in User mode, the last one first. An RTI leads back to the mode in
+    which its entry was made; the mode of an open entry is looked up."""
+    user = _in_user_mode(past, past.clock)
+    returned_to: list[bool] = []
+    for block in _blocks(log):
+        if not user and not _is_busy(log, block):
+            continue
+        for place in reversed(block):
+            what = effect(log[LOG_WORDS * place + 1], log[LOG_WORDS * place + 2], Edition.THIRD)
+            if what == RETURNS:
+                returned_to.append(user)
+                user = False
+            elif what == ENTERS:
+                open_ = not returned_to
+                user = _in_user_mode(past, first + place) if open_ else returned_to.pop()
+            if user:
+                yield place
+
+
+def _outer_places(log: array[int]) -> Iterator[int]:
+    """The steps outside of all entries that are returned from, the last one first."""
+    returned = 0
+    for place in _places(log):
+        what = effect(log[LOG_WORDS * place + 1], log[LOG_WORDS * place + 2], Edition.THIRD)
+        returned += what == RETURNS
+        returned -= what == ENTERS and returned > 0
+        if not returned and what != RETURNS:
+            yield place
+
+
+def _places(log: array[int]) -> Iterator[int]:
+    """The steps of a log, the last one first."""
+    return reversed(range(len(log) // LOG_WORDS))
+
+
+def _busy_places(log: array[int]) -> Iterator[int]:
+    """The same without those blocks in which nothing is entered or returned from."""
+    for block in _blocks(log):
+        if _is_busy(log, block):
+            yield from reversed(block)
+
+
+def _blocks(log: array[int]) -> Iterator[range]:
+    """The steps of a log in blocks, the last one first."""
+    end = len(log) // LOG_WORDS
+    while end > 0:
+        yield range(max(end - BLOCK, 0), end)
+        end -= BLOCK
+
+
+def _is_busy(log: array[int], block: range) -> bool:
+    """Whether a block has an entry or an RTI, by the third edition's rules."""
+    part = slice(LOG_WORDS * block.start, LOG_WORDS * block.stop)
+    words, reasons = log[part][1::LOG_WORDS], log[part][2::LOG_WORDS]
+    return any(reasons.tobytes()) or _RTI.match(words.tobytes()) is not None
