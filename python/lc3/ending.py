@@ -63,9 +63,9 @@ class Ending:
 
     ``text`` says it in words. ``pc`` is the address of the program's own instruction that ended
     the run, or that is obeyed next where nothing did; ``word`` is its word, or nothing where User
-    mode may not fetch it. ``reason`` is the exception, trap or interrupt by which the program was
-    left, and ``vector`` the trap's vector. ``record`` has the registers as the program had them
-    at ``pc``.
+    mode may not fetch it. ``reason`` is the trap, exception or interrupt by which the program was
+    left, and ``vector`` the trap's vector. ``record`` is the record as the program had it at
+    ``pc``.
     """
 
     kind: EndKind
@@ -84,7 +84,18 @@ class Ending:
     @property
     def place(self) -> str:
         """The address with its line."""
-        return f"PC x{self.pc:04X}: {self.line or 'not fetched'}"
+        return f"PC x{self.pc:04X}: {self.line or 'User mode fetches nothing there'}"
+
+    @property
+    def served(self) -> bool:
+        """Whether the program was left for a routine of the monitor, which made the last steps."""
+        return self.reason not in (None, Reason.INSTRUCTION)
+
+    @property
+    def finished(self) -> bool:
+        """Whether the program has ended of its own will: by HALT, or by a store to MCR that it made
+        itself, which only Supervisor mode can by the third edition's rules."""
+        return self.kind is EndKind.HALTED or (self.kind is EndKind.MCR and not self.served)
 
     def __str__(self) -> str:
         """The ending in one line.
@@ -112,7 +123,12 @@ class SittingReport(Report):
 
     @property
     def ending(self) -> Ending:
-        """How the run ended, whatever the sitting has done since."""
+        """How the run ended, whatever the sitting has done since.
+
+        >>> from .sitting import Sitting
+        >>> print(Sitting(bytes.fromhex("3000 1021 F025")).run().ending)
+        halted by HALT; PC x3001: TRAP x25
+        """
         return ending_of(self.past, self.stop)
 
 

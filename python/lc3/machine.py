@@ -11,7 +11,7 @@ from typing import Any, Callable, NamedTuple, Sequence
 
 from ._library import LIBRARY, RecordStruct
 from .buffers import NOWHERE
-from .constants import LOG_WORDS, MEMORY_WORDS
+from .constants import KBDR_BYTE, KBSR_READY, LOG_WORDS, MEMORY_WORDS
 from .log import LoggedStep, logged_steps
 from .records import Edition, Record, Refused, Stop
 from .steps import SHORT_BYTES, TracedStep, changes, logged_by_second, may_replace
@@ -199,6 +199,30 @@ class Machine:
         """All fields of the record but the clock: what the next steps depend on beside memory and
         keys."""
         return bytes(self.record)[:SHORT_BYTES]
+
+    def goes_round(self, most: int) -> bool:
+        """Makes steps until the machine stands as it does now, but for the clock, and has shown
+        nothing; whether it does so within so many."""
+        state, shown, words = self.state(), self.shown, self.words.tobytes()
+        for _ in range(most):
+            if self.advance(1) is not Stop.DONE or self.shown != shown:
+                return False
+            if self.state() == state and self.words.tobytes() == words:
+                return True
+        return False
+
+    def ignores_a_key(self, steps: int) -> bool:
+        """Whether a key that arrives now alters nothing in so many steps, after which the machine
+        stands as it does now, but that the key waits to be read."""
+        words, expected = self.words.tobytes(), RecordStruct.from_buffer_copy(self.record)
+        expected.kbsr |= KBSR_READY
+        expected.kbdr ^= KBDR_BYTE
+        self.times.append(self.record.clock)
+        self.keys.append(expected.kbdr)
+        shown, stop = self.shown, self.advance(steps)
+        expected.clock = self.record.clock
+        same = bytes(self.record) == bytes(expected) and self.words.tobytes() == words
+        return stop is Stop.DONE and self.shown == shown and same
 
     def plain_record(self) -> Record:
         """The record as a dataclass of its own."""

@@ -32,6 +32,9 @@ LOOKED_THROUGH = {
     Edition.SECOND: (1 << 9, 1 << 13),
 }
 
+# The open entries that are looked at: no monitor has more routines inside of one another.
+MOST_OPEN = 16
+
 # The steps of a log that are looked at together for an entry or a return.
 BLOCK = 1 << 12
 
@@ -132,7 +135,7 @@ def _left_since(past: Past, first: int) -> Left | None:
     log = past.log(first)
     inner: list[LoggedStep] = []
     found: Left | None = None
-    for place in open_places(log, past.edition):
+    for place in islice(open_places(log, past.edition), MOST_OPEN):
         step = _step(log, place)
         record = past.machine_at(first + place).plain_record()
         here = Left(first + place, step, record, tuple(reversed(inner)))

@@ -18,7 +18,7 @@ from typing import TYPE_CHECKING, Iterator, NamedTuple, Sequence, Union
 from . import calls
 from .constants import KBSR_READY, MAX_CLOCK, MAX_STEPS, MCR_CLOCK, MEMORY_WORDS, USER_ORIGIN
 from .constants import USER_STACK
-from .ending import Ending, SittingReport, ending_of
+from .ending import EndKind, Ending, SittingReport, ending_of
 from .interrupts import Held
 from .log import LoggedStep, logged_steps
 from .machine import MEMORY_BYTES, Machine
@@ -580,7 +580,10 @@ PSR x8001 -> x0001, Saved_USP x0000 -> xFDFF, x2FFE x0000 -> x3002, x2FFF x0000 
         stopped by the illegal opcode exception; PC x3001: .FILL xD000
         """
         self._begin()
-        return ending_of(self._run_past or self._past(), self.stop)
+        past = self._run_past
+        if past is None or past.clock != self.clock:
+            past = self._past()
+        return ending_of(past, self.stop)
 
     def _twin(self) -> Machine:
         """A machine of its own where this one stands, with the same keys."""
@@ -598,19 +601,29 @@ PSR x8001 -> x0001, Saved_USP x0000 -> xFDFF, x2FFE x0000 -> x3002, x2FFF x0000 
         >>> sitting.waits(), sitting.run(100).stop, sitting.waits()
         (False, <Stop.DONE: 0>, True)
         """
+        return self.idle() is EndKind.WAITING
+
+    def idle(self) -> EndKind | None:
+        """``WAITING`` where the machine does nothing but wait for a key, ``LOOP`` where it goes
+        round and round and not even a key can change that, and else nothing.
+
+        >>> Sitting(bytes.fromhex("3000 0FFF")).idle()
+        <EndKind.LOOP: 'endless loop'>
+        """
         machine = self._machine
-        if self._typed or self._left or machine.arrived < len(machine.times):
-            return False
+        # Typed text arrives only when the last key is read.
+        unread = bool(self._typed) and machine.record.kbsr & KBSR_READY
+        if self._left or machine.arrived < len(machine.times) or (self._typed and not unread):
+            return None
         twin = self._twin()
         # A busy display counts its steps, and no record would come again.
         twin.advance(twin.record.busy)
-        state, shown, words = twin.state(), twin.shown, twin.words.tobytes()
-        for _ in range(LONGEST_WAIT):
-            if twin.advance(1) is not Stop.DONE or twin.shown != shown:
-                return False
-            if twin.state() == state and twin.words.tobytes() == words:
-                return True
-        return False
+        start = twin.snapshot()
+        if not twin.goes_round(LONGEST_WAIT):
+            return None
+        round_ = twin.record.clock - start.clock
+        twin.restore(start)
+        return EndKind.LOOP if unread or twin.ignores_a_key(round_) else EndKind.WAITING
 
     # Recordings.
 

@@ -53,7 +53,7 @@ class Logging(Folder):
         traced = [row(step) for step in lc3.Sitting(hello).trace()]
         self.assertEqual(out.decode().splitlines(), [HEADER, *traced])
         self.assertEqual((code, len(traced)), (0, 152))
-        self.assertEqual(err, "lc3: the machine is halted; 152 steps; PC x027E: BRnzp #-3\n")
+        self.assertEqual(err, "lc3: halted by HALT; 152 steps; PC x3002: TRAP x25\n")
 
     def test_columns(self) -> None:
         program = self.file("until.obj", UNTIL_Q)
@@ -80,7 +80,7 @@ class Logging(Folder):
             code, out, err = ran("log", "--last", last, hello)
             rows = every[1:][-last:] if last else []
             self.assertEqual((code, out.splitlines()), (0, [every[0], *rows]))
-            self.assertIn("is halted; 152 steps", err)
+            self.assertIn("halted by HALT; 152 steps", err)
 
     def test_last_of_a_long_run(self) -> None:
         count = self.file("count.obj", COUNTING)
@@ -100,9 +100,9 @@ class Logging(Folder):
         hello, saved = self.file("hello.obj", HELLO), self.folder / "sitting.json"
         options = ("--supervisor", "--pc", "x3001", "--stack", "x5000", "--steps", 3, "--registers")
         code, out, err = ran("log", *options, "--save-sitting", saved, hello)
-        self.assertEqual((code, len(out.decode().splitlines())), (1, 1 + 3 + 5))
+        self.assertEqual((code, len(out.decode().splitlines())), (1, 1 + 3 + 6))
         self.assertIn("       0  x3001  xF022", out.decode())
-        self.assertIn("PSR x0001  Supervisor mode", out.decode())
+        self.assertIn("PSR x0002  Supervisor mode", out.decode())
         code, again, _ = ran("log", "--replay", saved, "--registers")
         self.assertEqual((code, again), (1, out))
         code, out, _ = ran("log", "--replay", saved, "--steps", 1)

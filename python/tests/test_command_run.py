@@ -20,7 +20,7 @@ class Running(Folder):
         hello = self.file("hello.obj", HELLO)
         code, out, err = ran("run", hello)
         self.assertEqual((code, out), (0, b"Hi\nHalted\n"))
-        self.assertEqual(err, "lc3: the machine is halted; 152 steps; PC x027E: BRnzp #-3\n")
+        self.assertEqual(err, "lc3: halted by HALT; 152 steps; PC x3002: TRAP x25\n")
 
     def test_the_last_file_runs(self) -> None:
         hello, count = self.file("hello.obj", HELLO), self.file("count.obj", COUNTING)
@@ -61,12 +61,13 @@ class Running(Folder):
         for given in ({"keys": b"ab"}, {}):
             code, out, err = ran("run", program, **given)
             self.assertEqual((code, out), (1, given.get("keys", b"")))
-            self.assertIn("the program does nothing but wait, and no more keys come; ", err)
-            self.assertIn("; PC x020", err)
+            self.assertIn("the program waits for a key, and no more keys come; ", err)
+            self.assertIn("; PC x3000: TRAP x20", err)
 
     def test_a_loop_that_nothing_ends(self) -> None:
         endless, until = self.file("endless.obj", ENDLESS), self.file("until.obj", UNTIL_Q)
-        self.assertIn("nothing but wait, and no more keys come", ran("run", endless).err)
+        code, _, err = ran("run", endless, keys=b"ab")
+        self.assertEqual((code, "a loop that not even a key can end; " in err), (1, True))
         # Steps that are asked for are made, to the last.
         for path in (endless, until):
             for keys in (b"", b"ab"):
@@ -88,7 +89,7 @@ class Running(Folder):
     def test_supervisor(self) -> None:
         # A load from x0000 is an access exception in User mode only.
         program = self.file("load.obj", object_file(0x3000, "LDR R0, R0, #0", "TRAP x25"))
-        self.assertEqual(ran("run", program)[:2], (0, b""))
+        self.assertEqual(ran("run", program)[:2], (4, b""))
         self.assertEqual(ran("run", "--supervisor", program)[:2], (0, b"Halted\n"))
 
     def test_pc_and_stack(self) -> None:
@@ -106,7 +107,7 @@ class Running(Folder):
         hello = self.file("halt-only.obj", object_file(0x3000, "TRAP x25"))
         self.assertEqual(ran("run", "--no-monitor", *monitor, hello)[:2], (0, b""))
         code, _, err = ran("run", "--no-monitor", "--steps", 1, hello)
-        self.assertEqual((code, "PC x0000" in err), (1, True))
+        self.assertEqual((code, "TRAP x25, which has no service" in err), (4, True))
 
     def test_edition_2(self) -> None:
         hello = self.file("hello.obj", HELLO)
@@ -198,7 +199,7 @@ class Processes(Folder):
                 os.write(running.stdin.fileno(), bytes([key]))
                 self.assertEqual(os.read(running.stdout.fileno(), 1), bytes([key]))
             self.assertEqual(running.stdout.read(), b"Halted\n")
-            self.assertIn(b"the machine is halted", running.stderr.read())
+            self.assertIn(b"halted by HALT; ", running.stderr.read())
             self.assertEqual(running.wait(20), 0)
 
     def test_closed_streams_and_a_full_disk(self) -> None:
@@ -206,7 +207,7 @@ class Processes(Folder):
         lc3_run = f"{PYTHON[0]} -m lc3 run"
         for line, code, said in (
             (f"{lc3_run} {echo} <&-", 1, "no more keys come"),
-            (f"{lc3_run} {hello} >&-", 0, "is halted"),
+            (f"{lc3_run} {hello} >&-", 0, "halted by HALT"),
             (f"{lc3_run} {hello} 2>&-", 0, ""),
             (f"{lc3_run} {hello} >/dev/full", 3, "standard output: no space is left"),
             (f"{lc3_run} {echo} < {hello}", 1, "no more keys come"),

@@ -31,7 +31,7 @@ class Interactive(Folder):
                 shown.see(shown.seen + (b"\r\n" if key == 10 else bytes([key])))
                 self.assertLessEqual(len(shown.seen), before + 2)
             shown.press(b"q")
-            shown.see(b"the machine is halted; ")
+            shown.see(b"halted by HALT; ")
             self.assertEqual(shown.process.wait(20), 0)
             self.assertEqual(shown.attributes(), shown.before)
             self.assertTrue(shown.seen.startswith(b"ab\r\ncqHalted\r\nlc3: "), shown.seen)
@@ -49,7 +49,7 @@ class Interactive(Folder):
             self.assertEqual(shown.process.wait(20), 0)
 
     def test_ctrl_c_in_a_wait_and_in_a_loop(self) -> None:
-        for content, line in ((ECHO, b"; PC x020"), (COUNTING, b"; PC x300")):
+        for content, line in ((ECHO, b"; PC x3000: TRAP x20"), (COUNTING, b"; PC x300")):
             program = self.file("program.obj", content)
             with OnTerminal("run", program) as shown:
                 shown.ready()
@@ -121,7 +121,7 @@ class Interactive(Folder):
             os.close(writing)
             shown.ready().press(b"aq")
             self.assertEqual(stream.read(), b"aqHalted\n")
-            self.assertTrue(shown.see(b"is halted").startswith(b"lc3: "))
+            self.assertTrue(shown.see(b"halted by HALT").startswith(b"lc3: "))
 
     def test_given_keys_leave_the_terminal_alone(self) -> None:
         program = self.file("echo.obj", ECHO)
@@ -135,7 +135,7 @@ class Interactive(Folder):
             shown.ready()
             shown.press(b"q")
             shown.see(b"shows 'q'")
-            shown.see(b"is halted")
+            shown.see(b"halted by HALT")
             self.assertEqual(shown.process.wait(20), 0)
             self.assertEqual(shown.attributes(), shown.before)
 

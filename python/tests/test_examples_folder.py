@@ -155,7 +155,7 @@ class Demonstration(unittest.TestCase):
         self.assertEqual((said.returncode, said.stderr), (0, ""))
         for text in (
             "$ lc3 run examples/hello.obj </dev/null\nHello, world!\nHalted\nlc3: ",
-            "The first answer is:\nlc3: the machine is halted; ",
+            "The first answer is:\nlc3: stopped by the access exception; ",
             "access exception",
             "With the answers in memory and without them, all ",
         ):

@@ -160,7 +160,7 @@ class Installed(unittest.TestCase):
     def test_the_command_runs(self) -> None:
         said = obey(self.prefix / "bin/lc3", "run", HELLO)
         self.assertEqual((said.returncode, said.stdout), (0, "Hello, world!\nHalted\n"))
-        self.assertIn("the machine is halted", said.stderr)
+        self.assertIn("halted by HALT", said.stderr)
 
     def test_the_command_without_its_library(self) -> None:
         said = obey(self.prefix / "bin/lc3", "run", HELLO, LC3_LIBRARY="no/liblc3.so")

@@ -400,8 +400,12 @@ class Keyboard(unittest.TestCase):
         sitting = Sitting(object_file(0x3000, 0xF025))
         sitting.run()
         self.assertFalse(sitting.waits())
+        # An endless loop waits for nothing, whether a key is there to be read or not.
         sitting = Sitting(object_file(0x3000, "BRnzp #-1"))
-        self.assertTrue(sitting.waits())
+        for typed in ("", "a", "b"):
+            sitting.type(typed)
+            sitting.run(100)
+            self.assertEqual((sitting.waits(), sitting.idle()), (False, lc3.EndKind.LOOP))
         # A loop that leaves its registers as they were and counts in memory.
         words = ["LD R0, #5", "ADD R0, R0, #1", "ST R0, #3", "AND R0, R0, #0", "BRnzp #-5", 0, 0]
         sitting = Sitting(object_file(0x3000, *words))

@@ -4,11 +4,12 @@ from __future__ import annotations
 
 import argparse
 
+from ..ending import Ending
 from ..records import Stop
 from ..sitting import Sitting
 from ..steps import TracedStep
 from .messages import Code
-from .seat import RUNNING, TRACING, Ending, Seat, finish, registers_of, seat_of, sit
+from .seat import RUNNING, TRACING, Seat, finish, registers_of, seat_of, sit
 from .terminal import Display, Signals
 
 HEADER = "    step  PC     word   line              reason               what changed"
@@ -43,8 +44,8 @@ def command(options: argparse.Namespace) -> Code:
                 ending = _run(seat, signals)
         if options.last is not None:
             _last_steps(seat.sitting, options.last, signals, display)
-        display.show(registers_of(options, seat).encode())
-        return finish(options, seat, ending)
+        display.show(registers_of(options, seat, ending).encode())
+        return finish(options, seat, signals, ending)
 
 
 def _write(display: Display, line: str) -> None:

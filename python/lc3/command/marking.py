@@ -11,12 +11,13 @@ import argparse
 from dataclasses import asdict, dataclass
 from typing import Any, Sequence
 
+from ..ending import Ending
 from ..records import Reason, Stop
 from ..sitting import Sitting
 from .cases import Case
 from .files import object_files, sitting_of
 from .messages import CommandError, readable
-from .seat import MARKING, Ending, sit
+from .seat import MARKING, sit
 from .terminal import Keyboard, Signals
 
 RIGHT, WRONG, NOT_HALTED = "right", "wrong display", "not halted"

@@ -8,6 +8,8 @@ import sys
 from enum import IntEnum
 from typing import IO, Any
 
+from ..ending import Ending
+from ..records import Record
 from ..sitting import Sitting
 
 
@@ -18,6 +20,7 @@ class Code(IntEnum):
     NOT_HALTED = 1
     WRONG_USE = 2
     REFUSED = 3
+    CRASHED = 4
     OTHER_END = 5
 
 
@@ -97,16 +100,21 @@ def readable(byte: int | None) -> str:
     return "the end" if byte is None else f"{repr(bytes([byte]))[1:]} (x{byte:02X})"
 
 
-def end_line(sitting: Sitting, stop: str) -> str:
-    """The line at the end of a run: the stop, the steps, PC and its line.
+def end_line(ending: Ending, steps: int) -> str:
+    """The line at the end of a run: how it ended, the steps, and the program's PC with its line.
 
     >>> sitting = Sitting(bytes.fromhex("3000 1021 0FFE"))
-    >>> end_line(sitting, sitting.run(3).stop.text)
+    >>> end_line(sitting.run(3).ending, 3)
     'all steps asked for were made; 3 steps; PC x3001: BRnzp #-2'
     """
-    here, steps = sitting.here(), sitting.clock
     made = f"{steps} step" if steps == 1 else f"{steps} steps"
-    return f"{stop}; {made}; PC x{here.address:04X}: {here.text}"
+    return f"{ending.text}; {made}; {ending.place}"
+
+
+# Said above the registers where a routine of the monitor made the last steps.
+OWN_REGISTERS = "the program's own registers, before its last instruction:"
+
+DEVICES = ("KBSR", "KBDR", "MCR", "TSR", "TIR")
 
 
 def registers(sitting: Sitting) -> str:
@@ -120,19 +128,44 @@ def registers(sitting: Sitting) -> str:
     KBSR x0000    KBDR x0000    MCR x8000    TSR x0000    TIR x0000
     """
     record, here = sitting.record, sitting.here()
+    return "\n".join([*_processor(record, here.text), _devices(sitting)])
+
+
+def own_registers(sitting: Sitting, ending: Ending) -> str:
+    """The same as the program had them at its last instruction, where a routine of the monitor has
+    made the last steps; the devices are as they stand.
+
+    >>> sitting = Sitting(bytes.fromhex("3000 1021 F025"))
+    >>> print(own_registers(sitting, sitting.run().ending))
+    the program's own registers, before its last instruction:
+    R0 x0001      1    R1 x0000      0    R2 x0000      0    R3 x0000      0
+    R4 x0000      0    R5 x0000      0    R6 xFDFF   -513    R7 x0000      0
+    PC x3001  TRAP x25
+    PSR x8001  User mode, priority 0, P    Saved_SSP x3000    Saved_USP x0000
+    KBSR x0000    KBDR x0000    MCR x0000    TSR x0000    TIR x0000
+    """
+    if not ending.served:
+        return registers(sitting)
+    own = _processor(ending.record, ending.line)
+    return "\n".join([OWN_REGISTERS, *own, _devices(sitting)])
+
+
+def _processor(record: Record, line: str) -> list[str]:
+    """The registers of the processor, with the line at PC."""
     values = [
         f"R{number} x{value:04X} {value - ((value & 0x8000) << 1):6}"
         for number, value in enumerate(record.regs)
     ]
-    named = [f"{name} x{sitting[name]:04X}" for name in ("KBSR", "KBDR", "MCR", "TSR", "TIR")]
     mode, codes = record.mode.name.capitalize(), record.codes or "no code"
-    saved = "    ".join(f"{name} x{sitting[name]:04X}" for name in ("Saved_SSP", "Saved_USP"))
-    return "\n".join(
-        [
-            "    ".join(values[:4]),
-            "    ".join(values[4:]),
-            f"PC x{here.address:04X}  {here.text}",
-            f"PSR x{record.psr:04X}  {mode} mode, priority {record.priority}, {codes}    {saved}",
-            "    ".join(named),
-        ]
-    )
+    saved = f"Saved_SSP x{record.saved_ssp:04X}    Saved_USP x{record.saved_usp:04X}"
+    return [
+        "    ".join(values[:4]),
+        "    ".join(values[4:]),
+        f"PC x{record.pc:04X}  {line}".rstrip(),
+        f"PSR x{record.psr:04X}  {mode} mode, priority {record.priority}, {codes}    {saved}",
+    ]
+
+
+def _devices(sitting: Sitting) -> str:
+    """The registers of the devices."""
+    return "    ".join(f"{name} x{sitting[name]:04X}" for name in DEVICES)

@@ -13,10 +13,11 @@ from .messages import plain
 
 EXIT_CODES = """\
 exit codes:
-  0  the machine is halted
-  1  it is not: the steps were made, Ctrl-C, or a wait where no more keys come
+  0  the program was halted by HALT, or by a store to MCR of its own
+  1  it was not: the steps were made, Ctrl-C, a wait where no more keys come, or a loop
   2  wrong use of the command
   3  a file was refused, or could not be read or written
+  4  the program crashed: an exception, a trap without a service, a string refused
   5  a replay came to another end than the sitting
 """
 
@@ -34,7 +35,7 @@ RUN = (
     "files must lie in x3000 to xFDFF, and those of --with in privileged memory. On a terminal, "
     "keys go to the program as they are pressed and Ctrl-C stops it; otherwise the bytes of "
     "standard input are the keys. What the program shows is standard output, byte for byte. One "
-    "line on standard error tells of the end."
+    "line on standard error tells how the program ended, and by which of its instructions."
 )
 RUN_EXAMPLES = """\
 examples:
@@ -60,6 +61,7 @@ LOG_EXAMPLES = """\
 examples:
   lc3 log hello.obj                      every step: number, PC, word, line, reason, changes
   lc3 log --last 20 --registers loop.obj < keys.txt
+  lc3 log --program hello.obj            without the steps of the monitor's routines
 
 """
 MARK = (
@@ -211,7 +213,8 @@ def _add_run(to: argparse.ArgumentParser) -> None:
         "--steps",
         type=count,
         metavar="N",
-        help="stop after N steps; without it a wait for keys is the end where no more come",
+        help="stop after N steps; without it a wait for keys is the end where no more come, and so "
+        "is a loop that no key can end",
     )
     to.add_argument(
         "--keys",
@@ -226,7 +229,9 @@ def _add_run(to: argparse.ArgumentParser) -> None:
         help="replay a saved sitting to its end, in the place of files and keys; with --steps its "
         "first steps",
     )
-    to.add_argument("--registers", action="store_true", help="write the registers at the end")
+    to.add_argument(
+        "--registers", action="store_true", help="write the program's registers at the end"
+    )
 
 
 def _add_mark(to: argparse.ArgumentParser) -> None:
@@ -307,6 +312,9 @@ def _add_log(to: argparse.ArgumentParser) -> None:
     """The options of log."""
     _add_run(to)
     to.add_argument("--last", type=count, metavar="N", help="only the last N steps")
+    to.add_argument(
+        "--program", action="store_true", help="leave out the steps of the monitor's routines"
+    )
 
 
 _ADD = {"run": _add_run, "list": _add_list, "log": _add_log, "mark": _add_mark}

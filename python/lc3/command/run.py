@@ -24,5 +24,5 @@ def command(options: argparse.Namespace) -> Code:
     with signals:
         with seat.keyboard:
             ending = sit(*seat[:2], signals, seat.end, advance, patient=seat.patient)
-        before = display.line_feed() + registers_of(options, seat)
-        return finish(options, seat, ending, before)
+        before = display.line_feed() + registers_of(options, seat, ending)
+        return finish(options, seat, signals, ending, before)

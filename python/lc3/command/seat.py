@@ -5,19 +5,22 @@ from __future__ import annotations
 
 import argparse
 import os
-import signal
+from dataclasses import replace
 from typing import Callable, NamedTuple
 
-from ..constants import MAX_CLOCK, MAX_STEPS, USER_STACK
+from ..constants import MAX_CLOCK, MAX_STEPS, USER_STACK, VECTOR_WORDS
+from ..ending import EndKind, Ending
 from ..recording import Recording, ReplayError
 from ..records import Stop
 from ..sitting import Sitting
 from .files import check_edition, object_files, recording_of, same_file, save, sitting_of
 from .files import whole_file
-from .messages import Code, CommandError, end_line, of_os_error, registers, say, tell
+from .messages import Code, CommandError, end_line, of_os_error, own_registers, say, tell
 from .terminal import Keyboard, Signals, die, standard_keyboard
 
-WAITS = "the program does nothing but wait, and no more keys come"
+WAITS = "the program waits for a key, and no more keys come"
+LOOPS = "the program goes round in a loop that not even a key can end"
+NOBODY_READS = "nobody reads the display any more"
 
 
 class Pace(NamedTuple):
@@ -41,13 +44,6 @@ TRACING = Pace(1 << 6, 4, 1 << 14, 1 << 10)
 MARKING = Pace(1 << 16, 16, 1 << 24, MAX_STEPS)
 
 
-class Ending(NamedTuple):
-    """Why a run is over, in words, and the signal that ended it, if any."""
-
-    text: str
-    signal: int = 0
-
-
 Advance = Callable[[int], Stop]
 
 
@@ -63,7 +59,8 @@ def sit(
     """Runs to a clock unless something ends it before. ``advance`` makes so many steps.
 
     A program that waits for a key costs nothing: the process waits for keys as well. Where no more
-    come, that is the end; but who is ``patient`` has all steps made.
+    come, that is the end; so is a loop that no key can end, and a trap or an exception that leads
+    to no routine. But who is ``patient`` has all steps made.
     """
     apart, keys = pace.first, keyboard.first
     look = sitting.clock + apart
@@ -81,24 +78,37 @@ def sit(
         if sitting.clock < look:
             continue
         apart = min(apart * pace.growth, pace.longest)
-        if sitting.waits():
+        look, stuck = sitting.clock + apart, _stuck(sitting)
+        if stuck is not None and stuck.kind is EndKind.WAITING:
             keys = keyboard.wait()
             ending = None if keys else _ended(sitting, signals, Stop.DONE, end)
-            if ending is not None or not (keys or patient):
-                return ending or Ending(WAITS)
-        look = sitting.clock + apart
+        if ending is None and stuck is not None and not (keys or patient):
+            ending = stuck
+        if ending is not None:
+            return ending
+
+
+def _stuck(sitting: Sitting) -> Ending | None:
+    """Why a program will never end, where that is plain."""
+    idle = sitting.idle()
+    if idle is not None:
+        text = WAITS if idle is EndKind.WAITING else LOOPS
+        return replace(sitting.ending, kind=idle, text=text)
+    # Only by a vector word of x0000 can a program be left that runs on.
+    ending = sitting.ending if 0 in sitting.memory[:VECTOR_WORDS] else None
+    return ending if ending is not None and ending.kind.crash else None
 
 
 def _ended(sitting: Sitting, signals: Signals, stop: Stop, end: int) -> Ending | None:
-    """Why a run is over after some steps, if it is."""
+    """How a run ended after some steps, if it did."""
     if signals.caught:
-        return Ending(f"stopped by {signals.name}", signals.caught)
-    if sitting.halted:
-        return Ending(Stop.HALTED.text)
-    if stop is Stop.INTERRUPTED:
-        return Ending("nobody reads the display any more")
-    if stop is not Stop.DONE or sitting.clock >= end:
-        return Ending(stop.text)
+        return replace(
+            sitting.ending, kind=EndKind.INTERRUPTED, text=f"stopped by {signals.name}"
+        )
+    if stop is Stop.INTERRUPTED and not sitting.halted:
+        return replace(sitting.ending, kind=EndKind.INTERRUPTED, text=NOBODY_READS)
+    if sitting.halted or stop is not Stop.DONE or sitting.clock >= end:
+        return sitting.ending
     return None
 
 
@@ -182,17 +192,21 @@ def _keyboard(keys: str | None, signals: Signals) -> Keyboard:
         raise CommandError(f"--keys: {of_os_error(error)}") from None
 
 
-def finish(options: argparse.Namespace, seat: Seat, ending: Ending, before: str = "") -> Code:
+def finish(
+    options: argparse.Namespace, seat: Seat, signals: Signals, ending: Ending, before: str = ""
+) -> Code:
     """Tells of the end, saves the sitting where that is asked for, and answers the exit code."""
     tell(before)
-    say(end_line(seat.sitting, ending.text))
+    say(end_line(ending, seat.sitting.clock))
     if options.save_sitting is not None:
         save(seat.sitting, options.save_sitting)
-    if ending.signal not in (0, signal.SIGINT):
+    if signals.fatal:
         # The terminal is set back: whoever sent the signal shall see that it was obeyed.
-        die(ending.signal)
+        die(signals.caught)
     _check_replay(options.replay, seat, ending)
-    return Code.HALTED if seat.sitting.halted else Code.NOT_HALTED
+    if ending.kind.crash:
+        return Code.CRASHED
+    return Code.HALTED if ending.finished else Code.NOT_HALTED
 
 
 def _check_replay(path: str, seat: Seat, ending: Ending) -> None:
@@ -207,6 +221,6 @@ def _check_replay(path: str, seat: Seat, ending: Ending) -> None:
         raise CommandError(text, Code.OTHER_END) from None
 
 
-def registers_of(options: argparse.Namespace, seat: Seat) -> str:
-    """The registers and a line feed, where they are asked for."""
-    return registers(seat.sitting) + "\n" if options.registers else ""
+def registers_of(options: argparse.Namespace, seat: Seat, ending: Ending) -> str:
+    """The program's registers and a line feed, where they are asked for."""
+    return own_registers(seat.sitting, ending) + "\n" if options.registers else ""
