@@ -41,6 +41,9 @@ BLOCK = 1 << 12
 # The bits of a PSR.
 PSR_BITS = 0x8707
 
+# The exceptions that an opcode raises in User mode.
+_RAISED = {8: Reason.PRIVILEGE, 13: Reason.ILLEGAL}
+
 # The opcode of RTI in the high byte of a word, low byte first.
 _RTI = re.compile(rb"(?s)(?:..)*?.[\x80-\x8f]")
 
@@ -81,7 +84,7 @@ def left_by(past: Past) -> Left | None:
     for first in _beginnings(past):
         near = past.nearer(first)
         found = _left_since(near, first)
-        if found is not None and (found.in_user_mode or first == past.start):
+        if found is not None and found.in_user_mode:
             return found
     return _left_by_frame(past) or found
 
@@ -148,28 +151,33 @@ def _left_since(past: Past, first: int) -> Left | None:
 
 
 def _left_by_frame(past: Past) -> Left | None:
-    """The same from what a TRAP in User mode has pushed first on the supervisor stack, PSR and
-    then PC, where the stack is still filled that far."""
-    machine, base = past.machine_at(past.clock), _stack_base(past)
-    pc, psr = machine.words[base - 2 & 0xFFFF], machine.words[base - 1 & 0xFFFF]
-    at = pc - 1 & 0xFFFF
-    filled = 2 <= base - machine.record.regs[6] & 0xFFFF < 0x8000
-    pushed = not psr & ~PSR_BITS and psr & PSR_USER and machine.words[at] >> 12 == 15
-    if past.edition is Edition.SECOND or not filled or not pushed:
+    """The same from what an entry in User mode has pushed first on the supervisor stack, PSR and
+    then PC, where the stack is still filled that far. What an entry was is told by the word: a
+    TRAP pushes the address behind it, and an exception that of the instruction."""
+    base = _stack_base(past)
+    if base is None:
         return None
+    machine = past.machine_at(past.clock)
+    pc, psr = machine.words[base - 2 & 0xFFFF], machine.words[base - 1 & 0xFFFF]
+    filled = 2 <= base - machine.record.regs[6] & 0xFFFF < 0x8000
+    if not filled or psr & ~PSR_BITS or not psr & PSR_USER:
+        return None
+    at, reason = pc - 1 & 0xFFFF, Reason.TRAP
+    if machine.words[at] >> 12 != 15:
+        at, reason = pc, _RAISED.get(machine.words[pc] >> 12, Reason.INSTRUCTION)
     record = machine.plain_record()
     record.pc, record.psr, record.regs[6] = at, psr, record.saved_usp
-    return Left(past.clock, LoggedStep(at, machine.words[at], Reason.TRAP), record)
+    step = LoggedStep(at, machine.words[at], reason)
+    return None if reason is Reason.INSTRUCTION else Left(past.clock, step, record)
 
 
-def _stack_base(past: Past) -> int:
-    """The supervisor stack's pointer while the program runs, as a snapshot in User mode has it, or
-    else as every machine begins with it."""
+def _stack_base(past: Past) -> int | None:
+    """The supervisor stack's pointer while the program runs, as a snapshot in User mode has it."""
     for mark in reversed(past.marks):
         record = past.machine_at(mark.snapshot.clock).plain_record()
-        if record.psr & PSR_USER:
+        if past.edition is Edition.THIRD and record.psr & PSR_USER:
             return record.saved_ssp
-    return 0x3000
+    return None
 
 
 def effect(word: int, reason: int, edition: Edition) -> int:
