@@ -13,15 +13,26 @@ A JSON file is a list of objects with the members ``name``, ``expected`` and, wh
 from __future__ import annotations
 
 import json
+from collections import Counter
 from dataclasses import dataclass
 from pathlib import Path
-from typing import Any
+from typing import Any, BinaryIO
 
 from ..constants import MAX_CLOCK
-from .files import whole_file
 from .messages import CommandError, of_os_error
+from .regular import opened
 
 MEMBERS = {"name", "expected", "keys", "steps"}
+
+# The bytes that the files of a folder may have in all. What has more is taken for a mistake, as a
+# file that never ends.
+LONGEST_FOLDER = 1 << 26
+
+# The bytes of a JSON file. Once it is read it may take some twenty times as many.
+LONGEST_JSON = 1 << 24
+
+# The bytes that are read at once.
+PIECE = 1 << 16
 
 
 @dataclass(frozen=True)
@@ -44,16 +55,43 @@ def cases_of(path: str) -> list[Case]:
         raise CommandError(f"{path}: no cases: {error}") from None
     if not cases:
         raise CommandError(f"{path}: no cases: give each a NAME.expected, or a JSON object")
-    names = [case.name for case in cases]
-    twice = sorted({name for name in names if names.count(name) > 1})
+    counts = Counter(case.name for case in cases)
+    twice = sorted(name for name, count in counts.items() if count > 1)
     if twice:
         raise CommandError(f"{path}: two cases have the name {twice[0]!r}: rename one")
     return cases
 
 
+class _Reader:
+    """Reads files that have so many bytes in all at most."""
+
+    def __init__(self, most: int) -> None:
+        """Nothing is read yet."""
+        self._most = self._left = most
+
+    def read(self, path: Path, stream: BinaryIO) -> bytes:
+        """The bytes of a file, piece by piece: one that is too long takes no memory."""
+        data = bytearray()
+        for piece in iter(lambda: stream.read(PIECE), b""):
+            data += piece
+            if len(data) > self._left:
+                text = f"{path}: refused: it is longer than"
+                if self._left < self._most:
+                    text = f"{path}: refused: with the files before it, it is longer than"
+                raise CommandError(f"{text} {self._most >> 20} MiB: name shorter files")
+        self._left -= len(data)
+        return bytes(data)
+
+    def file(self, path: Path) -> bytes:
+        """The bytes of a file in a folder."""
+        with opened(str(path), links=True) as stream:
+            return self.read(path, stream)
+
+
 def _of_folder(folder: Path) -> list[Case]:
     """The cases of a folder."""
     files = {file.name: file for file in folder.iterdir()}
+    reader = _Reader(LONGEST_FOLDER)
     for name in sorted(files):
         stem, dot, kind = name.rpartition(".")
         if dot and kind in ("keys", "steps") and f"{stem}.expected" not in files:
@@ -65,9 +103,9 @@ def _of_folder(folder: Path) -> list[Case]:
             keys, steps = files.get(f"{stem}.keys"), files.get(f"{stem}.steps")
             case = Case(
                 stem,
-                whole_file(files[name]),
-                b"" if keys is None else whole_file(keys),
-                None if steps is None else _steps(whole_file(steps), steps.name),
+                reader.file(files[name]),
+                b"" if keys is None else reader.file(keys),
+                None if steps is None else _steps(reader.file(steps), steps.name),
             )
             cases.append(case)
     return cases
@@ -82,14 +120,25 @@ def _steps(digits: bytes, name: str) -> int:
 
 
 def _of_json(file: Path) -> list[Case]:
-    """The cases of a JSON file."""
+    """The cases of a JSON file, which may be a pipe."""
+    with open(file, "rb") as stream:
+        text = _Reader(LONGEST_JSON).read(file, stream)
     try:
-        data = json.loads(whole_file(file))
-    except (ValueError, RecursionError) as error:
+        data = json.loads(text, object_pairs_hook=_members)
+    except (json.JSONDecodeError, UnicodeDecodeError, RecursionError) as error:
         raise ValueError(f"it is not JSON ({error})") from None
     if not isinstance(data, list):
         raise ValueError("it is not a list of cases")
     return [_of_object(item, number) for number, item in enumerate(data, 1)]
+
+
+def _members(pairs: list[tuple[str, Any]]) -> dict[str, Any]:
+    """The members of a JSON object, each of a name of its own."""
+    members = dict(pairs)
+    if len(members) < len(pairs):
+        counts = Counter(name for name, _ in pairs)
+        raise ValueError(f"an object has {counts.most_common(1)[0][0]!r} twice")
+    return members
 
 
 def _of_object(item: Any, number: int) -> Case:
@@ -114,7 +163,7 @@ def _of_object(item: Any, number: int) -> Case:
 def _bytes(item: dict[str, Any], name: str, number: int) -> bytes:
     """The bytes of a string of a case."""
     try:
-        return item.get(name, "").encode("latin-1")
-    except (AttributeError, UnicodeEncodeError):
+        return str.encode(item.get(name, ""), "latin-1")
+    except (TypeError, UnicodeEncodeError):
         problem = "is no string with characters up to \\u00ff, one for each byte"
         raise ValueError(f"{name!r} of case {number} {problem}") from None

@@ -1,0 +1,64 @@
+"""Files that others have handed in, opened so that none of them can keep a process waiting.
+
+A FIFO without a writer, a terminal or a device may never answer, and to open some devices sets them
+going. What is no regular file is refused without being opened. Where such a thing takes a file's
+place between the look and the opening, it is opened without waiting, and then seen and refused.
+"""
+
+from __future__ import annotations
+
+import os
+import stat
+from contextlib import contextmanager
+from typing import BinaryIO, Iterator
+
+from .messages import CommandError, of_os_error
+
+LINK = "it is a symbolic link: --follow-links has it followed"
+
+_OTHERS = (
+    (stat.S_ISLNK, LINK),
+    (stat.S_ISDIR, "it is a folder, and not a file"),
+    (stat.S_ISFIFO, "it is a FIFO, and not a regular file"),
+    (stat.S_ISSOCK, "it is a socket, and not a regular file"),
+    (stat.S_ISCHR, "it is a device, and not a regular file"),
+    (stat.S_ISBLK, "it is a device, and not a regular file"),
+)
+
+
+def other_kind(mode: int) -> str:
+    """What a file is by its mode that is no regular file; empty where it is one.
+
+    >>> other_kind(os.stat(os.devnull).st_mode), other_kind(stat.S_IFREG)
+    ('it is a device, and not a regular file', '')
+    """
+    return next((text for test, text in _OTHERS if test(mode)), "")
+
+
+def _check(path: str, mode: int) -> None:
+    """That a mode is that of a regular file."""
+    problem = other_kind(mode)
+    if problem:
+        raise CommandError(f"{path}: refused: {problem}")
+
+
+@contextmanager
+def opened(path: str, links: bool) -> Iterator[BinaryIO]:
+    """A regular file, opened to be read; symbolic links are followed where ``links`` is set.
+    Whatever else it is, and whatever the system refuses, is a ``CommandError``."""
+    flags = os.O_RDONLY | os.O_NONBLOCK | os.O_NOCTTY | os.O_CLOEXEC
+    try:
+        _check(path, os.stat(path, follow_symlinks=links).st_mode)
+        descriptor = os.open(path, flags if links else flags | os.O_NOFOLLOW)
+        try:
+            _check(path, os.fstat(descriptor).st_mode)
+            with open(descriptor, "rb", closefd=False) as stream:
+                yield stream
+        finally:
+            os.close(descriptor)
+    except OSError as error:
+        error.filename = path
+        raise CommandError(of_os_error(error)) from None
+    except ValueError as error:
+        # A name with a byte 0 in it is no name of a file.
+        raise CommandError(f"{path!r}: {error}: check its name") from None
