@@ -7,6 +7,7 @@ reader may take; it takes numbers of any length, fractions and ``NaN``. Here eac
 from __future__ import annotations
 
 import json
+from collections import Counter
 from typing import Any, NoReturn
 
 # As many as the greatest number of 64 bits has.
@@ -38,8 +39,7 @@ def _members(pairs: list[tuple[str, Any]]) -> dict[str, Any]:
     """The members of an object, each name once."""
     members = dict(pairs)
     if len(members) < len(pairs):
-        names = [name for name, _ in pairs]
-        twice = next(name for name in names if names.count(name) > 1)
+        twice = Counter(name for name, _ in pairs).most_common(1)[0][0]
         raise ValueError(f"the member {twice!r} is there twice")
     return members
 

@@ -19,6 +19,7 @@ from pathlib import Path
 from typing import Any, BinaryIO
 
 from ..constants import MAX_CLOCK
+from ..strict_json import strict_json
 from .messages import CommandError, of_os_error
 from .regular import opened
 
@@ -124,21 +125,12 @@ def _of_json(file: Path) -> list[Case]:
     with open(file, "rb") as stream:
         text = _Reader(LONGEST_JSON).read(file, stream)
     try:
-        data = json.loads(text, object_pairs_hook=_members)
+        data = strict_json(text)
     except (json.JSONDecodeError, UnicodeDecodeError, RecursionError) as error:
         raise ValueError(f"it is not JSON ({error})") from None
     if not isinstance(data, list):
         raise ValueError("it is not a list of cases")
     return [_of_object(item, number) for number, item in enumerate(data, 1)]
-
-
-def _members(pairs: list[tuple[str, Any]]) -> dict[str, Any]:
-    """The members of a JSON object, each of a name of its own."""
-    members = dict(pairs)
-    if len(members) < len(pairs):
-        counts = Counter(name for name, _ in pairs)
-        raise ValueError(f"an object has {counts.most_common(1)[0][0]!r} twice")
-    return members
 
 
 def _of_object(item: Any, number: int) -> Case:

@@ -8,28 +8,28 @@ stop a candidate that shows more.
 from __future__ import annotations
 
 import argparse
-from dataclasses import asdict, dataclass
-from typing import Any, Sequence
+from dataclasses import dataclass
+from typing import NamedTuple, Sequence
 
-from ..ending import Ending
-from ..records import Reason, Stop
-from ..sitting import Sitting
+from ..ending import Ending, EndKind
+from ..records import Stop
+from ..sitting import LONGEST_FILE, Sitting
+from .audit import now, sha256
+from .candidates import candidate_file, check_format
 from .cases import Case
-from .files import object_files, sitting_of
+from .files import sitting_of
+from .flags import Flag, flags_of
 from .messages import CommandError, readable
 from .seat import MARKING, sit
 from .terminal import Keyboard, Signals
 
-RIGHT, WRONG, NOT_HALTED = "right", "wrong display", "not halted"
-EXCEPTION, REFUSED = "exception", "refused"
+RIGHT, WRONG, NOT_HALTED, REFUSED = "right", "wrong display", "not halted", "refused"
 
 # The program's own lines obeyed last that are told of a case that failed.
 LAST_LINES = 10
 
 # The bytes of both displays that are told around the first difference.
 AROUND = 20
-
-EXCEPTIONS = (Reason.PRIVILEGE, Reason.ILLEGAL, Reason.ACCESS)
 
 
 @dataclass(frozen=True)
@@ -53,12 +53,15 @@ class Difference:
 
 @dataclass(frozen=True)
 class CaseResult:
-    """What became of one case: the verdict, the stop with the steps made, PC and its line, the
-    bytes shown, and for a failing case the first difference and the last lines obeyed."""
+    """What became of one case: the verdict, the flags, how the run ended, in a word or two and in
+    a line, the steps made, the program's own PC and its line, the bytes shown, and for a failing
+    case the first difference and the last lines obeyed."""
 
     case: str
     verdict: str
-    stop: str
+    flags: tuple[Flag, ...]
+    ending: str
+    ended: str
     steps: int
     pc: int
     line: str
@@ -70,18 +73,32 @@ class CaseResult:
 @dataclass(frozen=True)
 class Result:
     """What became of one candidate. ``verdict`` is ``right``, or that of the first case that
-    failed; ``problem`` says why a file was refused."""
+    failed; ``problem`` says why a file was refused; ``sha256`` is nothing where the file could not
+    be read or is longer than any object file; ``time`` is when the last case had ended."""
 
     candidate: str
     verdict: str
     right: int
     cases: int
+    sha256: str | None
+    time: str
     problem: str = ""
     results: tuple[CaseResult, ...] = ()
 
-    def to_json(self) -> dict[str, Any]:
-        """The result as JSON has it."""
-        return asdict(self)
+    @property
+    def flagged(self) -> list[tuple[str, Flag]]:
+        """The flags of all cases, each with the name of its case."""
+        return [(one.case, flag) for one in self.results for flag in one.flags]
+
+
+class Marking(NamedTuple):
+    """What all candidates of a marking share. The examiner's files and those of ``data`` are given
+    by their names and their bytes: each candidate meets the same."""
+
+    options: argparse.Namespace
+    cases: Sequence[Case]
+    examiner: Sequence[tuple[str, bytes]] = ()
+    data: Sequence[tuple[str, bytes]] = ()
 
 
 def difference(expected: bytes, got: bytes) -> Difference | None:
@@ -99,8 +116,8 @@ def difference(expected: bytes, got: bytes) -> Difference | None:
     at = next((place for place, (one, other) in enumerate(pairs) if one != other), short)
     first = max(at - AROUND, 0)
     around = [text[first : at + AROUND].decode("latin-1") for text in (expected, got)]
-    bytes_ = [text[at] if at < len(text) else None for text in (expected, got)]
-    return Difference(at + 1, expected[:at].count(b"\n") + 1, *bytes_, *around)
+    wanted, came = [text[at] if at < len(text) else None for text in (expected, got)]
+    return Difference(at + 1, expected[:at].count(b"\n") + 1, wanted, came, *around)
 
 
 def play(sitting: Sitting, keys: bytes, steps: int, most: int, signals: Signals) -> Ending:
@@ -114,41 +131,57 @@ def play(sitting: Sitting, keys: bytes, steps: int, most: int, signals: Signals)
     return sit(sitting, Keyboard(keys), signals, steps, advance, MARKING)
 
 
-def result_of(sitting: Sitting, case: Case, ending: Ending) -> CaseResult:
+def verdict_of(ending: Ending, halted: bool, same: bool, any_halt: bool) -> str:
+    """The verdict on a case: how its run ended, whether the machine is halted, whether the display
+    is the one that is expected, and whether every halt is as good as HALT."""
+    if halted and not any_halt and ending.kind is not EndKind.HALTED:
+        return str(ending.kind.value)
+    if not halted and ending.kind is not EndKind.OUTPUT_LIMIT:
+        return NOT_HALTED
+    return RIGHT if same else WRONG
+
+
+def result_of(
+    options: argparse.Namespace, sitting: Sitting, case: Case, ending: Ending, signals: Signals
+) -> CaseResult:
     """What became of a case whose machine has stopped."""
     found = difference(case.expected, sitting.display_bytes)
-    here = sitting.here()
-    told = (ending.text, sitting.clock, here.address, here.text, len(sitting.display_bytes))
-    if sitting.halted and found is None:
-        return CaseResult(case.name, RIGHT, *told)
-    last = sitting.last_program_steps(LAST_LINES)
-    verdict = WRONG
-    if sitting.halted and any(step.reason in EXCEPTIONS for step in last):
-        verdict = EXCEPTION
-    elif not sitting.halted and sitting.stop is not Stop.OUTPUT_FULL:
-        verdict = NOT_HALTED
-    return CaseResult(case.name, verdict, *told, found, tuple(str(step) for step in last))
+    verdict = verdict_of(ending, sitting.halted, found is None, options.any_halt)
+    last = () if verdict == RIGHT else tuple(map(str, sitting.last_program_steps(LAST_LINES)))
+    return CaseResult(
+        case.name,
+        verdict,
+        flags_of(options, sitting, ending, signals),
+        ending.kind.value,
+        ending.text,
+        sitting.clock,
+        ending.pc,
+        ending.line,
+        len(sitting.display_bytes),
+        found,
+        last,
+    )
 
 
-def mark(
-    options: argparse.Namespace, cases: Sequence[Case], candidate: str, signals: Signals
-) -> Result:
+def mark(marking: Marking, candidate: str, signals: Signals) -> Result:
     """Marks one candidate. A file that is refused is a result as well. Where a signal has come,
     the result means nothing."""
-    results = []
+    options, cases, digest, results = marking.options, marking.cases, None, []
     try:
-        examiner = object_files(options.with_files)
-        files = object_files([*options.data_files, candidate])
+        data = candidate_file(candidate, options.follow_links)
+        digest = sha256(data) if len(data) < LONGEST_FILE else None
+        check_format(candidate, data)
         for case in cases:
-            sitting = sitting_of(options, examiner, files)
+            sitting = sitting_of(options, marking.examiner, [*marking.data, (candidate, data)])
             steps = options.steps if case.steps is None else case.steps
             # One byte more than expected is enough to know that there are too many.
             ending = play(sitting, case.keys, steps, len(case.expected) + 1, signals)
             if signals.caught:
                 break
-            results.append(result_of(sitting, case, ending))
+            results.append(result_of(options, sitting, case, ending, signals))
     except CommandError as error:
-        return Result(candidate, REFUSED, 0, len(cases), str(error))
+        return Result(candidate, REFUSED, 0, len(cases), digest, now(), str(error))
     verdicts = [result.verdict for result in results]
     failed = next((verdict for verdict in verdicts if verdict != RIGHT), RIGHT)
-    return Result(candidate, failed, verdicts.count(RIGHT), len(cases), "", tuple(results))
+    right = verdicts.count(RIGHT)
+    return Result(candidate, failed, right, len(cases), digest, now(), "", tuple(results))

@@ -22,6 +22,8 @@ class Code(IntEnum):
     REFUSED = 3
     CRASHED = 4
     OTHER_END = 5
+    # What a shell tells of a process that Ctrl-C has ended.
+    INTERRUPTED = 130
 
 
 class CommandError(Exception):

@@ -66,16 +66,19 @@ examples:
 """
 MARK = (
     "Runs every candidate with the keys of every case and compares all that it shows with what is "
-    "expected, byte for byte; the machine must be halted as well. CASES is a folder with NAME.keys "
-    "(the keys; none where it is missing), NAME.steps (the greatest number of steps, where it is "
-    "not that of --steps) and NAME.expected for each case, or a JSON file: a list of objects with "
-    'the members "name", "expected" and, where wanted, "keys" and "steps", one character for each '
-    "byte."
+    "expected, byte for byte; the machine must be halted by HALT as well. Exceptions, traps "
+    "without a service and strings that the monitor refused are flagged, whatever was shown. A "
+    "folder is walked with all folders in it, for files named *.obj; every other file is listed "
+    "as passed over. CASES is a folder with NAME.keys (the keys; none where it is missing), "
+    "NAME.steps (the greatest number of steps, where it is not that of --steps) and NAME.expected "
+    'for each case, or a JSON file: a list of objects with the members "name", "expected" and, '
+    'where wanted, "keys" and "steps", one character for each byte. Results are written as they '
+    "come; the manual page has the members of JSON and the columns of CSV."
 )
 MARK_EXAMPLES = """\
 examples:
   lc3 run model.obj < cases/one.keys > cases/one.expected      make a case from a model
-  lc3 mark --cases cases students                              a table for students/*.obj
+  lc3 mark --cases cases students                              a table for a folder of files
   lc3 mark --cases cases --with answers.obj students           the examiner's words beside each
   lc3 mark --cases cases --csv students > marks.csv
   parallel lc3 mark --cases cases --one ::: students/*.obj     one JSON line for each candidate;
@@ -85,7 +88,9 @@ exit codes:
   0  every candidate is right; with --one: the line was written, whatever it says
   1  some candidate is not right
   2  wrong use of the command
-  3  the cases were refused, or a file could not be read or written
+  3  nothing to mark, cases or a file of --with or --data were refused, or the results could not
+     be written
+  130, or as a shell tells of the signal: stopped by Ctrl-C or a signal; results so far are written
 """
 
 
@@ -242,6 +247,11 @@ def _add_mark(to: argparse.ArgumentParser) -> None:
         metavar="CANDIDATE",
         help="object files to mark, or folders of files named *.obj",
     )
+    to.add_argument(
+        "--follow-links",
+        action="store_true",
+        help="follow symbolic links, which are refused or passed over without it",
+    )
     to.add_argument("--cases", required=True, metavar="CASES", help="a folder, or a JSON file")
     to.add_argument(
         "--steps",
@@ -249,6 +259,11 @@ def _add_mark(to: argparse.ArgumentParser) -> None:
         metavar="N",
         default=10_000_000,
         help="the steps a candidate has for a case that sets none (10000000)",
+    )
+    to.add_argument(
+        "--any-halt",
+        action="store_true",
+        help="a case is passed however the machine was halted, and not by HALT alone",
     )
     _add_files(to, "with", WITH)
     _add_files(to, "data", DATA)

@@ -1,83 +1,286 @@
-"""The results of a marking: a table for people, CSV and JSON for programs."""
+"""The results of a marking: a table for people, CSV for spreadsheets, JSON for programs.
+
+A form of results makes text of each as it comes. JSON is one object a line (JSON Lines), so that a
+marking that was cut off anywhere can still be read up to there.
+"""
 
 from __future__ import annotations
 
 import csv
-import fcntl
+import io
 import json
-from typing import Iterator, Sequence, TextIO
+import os
+from dataclasses import asdict, dataclass, field
+from typing import Any, Iterator, Sequence
 
+from .audit import Audit, now
+from .candidates import Found
 from .cases import Case
 from .marking import REFUSED, RIGHT, CaseResult, Result
 from .messages import plain
 
-COLUMNS = ("candidate", "case", "verdict", "stop", "steps", "byte", "expected", "got", "problem")
+PASSED_OVER = "passed over"
+
+COLUMNS = (
+    "candidate",
+    "case",
+    "verdict",
+    "flags",
+    "ending",
+    "steps",
+    "pc",
+    "line",
+    "shown",
+    "byte",
+    "expected",
+    "got",
+    "problem",
+    "sha256",
+    "time",
+    "lc3",
+    "interface",
+    "options",
+)
+
+# What a spreadsheet takes for the beginning of a formula, also as East Asian keyboards write it.
+FORMULAS = ("=", "+", "-", "@", "\uff1d", "\uff0b", "\uff0d", "\uff20")
 
 
-def write_json(results: Sequence[Result], stream: TextIO) -> None:
-    """A list with an object for each candidate, each on a line of its own."""
-    lines = ",\n".join(json.dumps(result.to_json()) for result in results)
-    stream.write(f"[\n{lines}\n]\n")
+@dataclass
+class Total:
+    """The sums of a marking: the candidates that there are and those that were marked, the right
+    and the flagged ones among these, and the signal that ended it, if any."""
+
+    candidates: int
+    marked: int = 0
+    right: int = 0
+    flagged: int = 0
+    passed_over: int = 0
+    stopped_by: str | None = None
+
+    def add(self, result: Result) -> None:
+        """Counts a result."""
+        self.marked += 1
+        self.right += result.verdict == RIGHT
+        self.flagged += bool(result.flagged)
+
+    @property
+    def whole(self) -> bool:
+        """Whether every candidate is right."""
+        return self.right == self.candidates
 
 
-def write_one(result: Result, stream: TextIO) -> None:
-    """One candidate as one line of JSON.
+class Form:
+    """A form of results: the text before all, of each result, of each file that was passed over,
+    and after all."""
 
-    Processes that xargs starts share their output, and a pipe takes only short lines in one piece:
-    each waits until the line of another is written.
+    def __init__(self, audit: Audit, cases: Sequence[Case], found: Sequence[Found]) -> None:
+        """What the marking is made with, and all files that it is about."""
+        self.audit, self.cases = audit, cases
+        self.names = [file.name for file in found if not file.passed_over]
+
+    def head(self) -> str:
+        """The text before all results."""
+        return ""
+
+    def result(self, result: Result) -> str:
+        """The text of a result."""
+        raise NotImplementedError
+
+    def passed_over(self, file: Found) -> str:
+        """The text of a file that was passed over."""
+        return ""
+
+    def end(self, total: Total) -> str:
+        """The text after all results."""
+        return ""
+
+
+class One(Form):
+    """One line of JSON for each result, and nothing else."""
+
+    def result(self, result: Result) -> str:
+        """The result with what it was marked with."""
+        named = _named(result.candidate)
+        return _line({"kind": "candidate", **named, **asdict(result), **vars(self.audit)})
+
+
+class Json(One):
+    """A line of JSON for each file, and one at the end."""
+
+    def passed_over(self, file: Found) -> str:
+        """The file, and the reason."""
+        return _line({"kind": PASSED_OVER, **_named(file.name), "problem": file.passed_over})
+
+    def end(self, total: Total) -> str:
+        """The sums."""
+        return _line({"kind": "end", **vars(total), "time": now()})
+
+
+def _line(data: dict[str, Any]) -> str:
+    """An object as a line of JSON."""
+    return json.dumps(_text(data)) + "\n"
+
+
+def _named(name: str) -> dict[str, str | None]:
+    """The name of a file; where it is no text, also its bytes."""
+    exact = name.encode("utf-8", "replace") == os.fsencode(name)
+    return {"candidate": name, "name_hex": None if exact else os.fsencode(name).hex()}
+
+
+def _text(value: Any) -> Any:
+    """Data without lone surrogates, which many readers of JSON refuse: names of files that are no
+    text have them. They are written as escapes.
+
+    >>> _text({"name": ["a\\udcff.obj", 1]})
+    {'name': ['a\\\\udcff.obj', 1]}
     """
-    try:
-        fcntl.lockf(stream, fcntl.LOCK_EX)
-    except (OSError, ValueError):
-        # What can't be locked, as a file on some network, is written to all the same.
-        pass
-    stream.write(json.dumps(result.to_json()) + "\n")
-    stream.flush()
+    if isinstance(value, str):
+        return value.encode("utf-8", "backslashreplace").decode("utf-8")
+    if isinstance(value, dict):
+        return {key: _text(item) for key, item in value.items()}
+    return [_text(item) for item in value] if isinstance(value, (list, tuple)) else value
 
 
-def write_csv(results: Sequence[Result], cases: Sequence[Case], stream: TextIO) -> None:
-    """A row for each candidate and case, under a row of names."""
-    writer = csv.writer(stream, lineterminator="\n")
-    writer.writerow(COLUMNS)
-    for result in results:
-        for case in cases if result.verdict == REFUSED else ():
-            row = (result.candidate, case.name, REFUSED, "", "", "", "", "", result.problem)
-            writer.writerow(row)
-        for one in result.results:
-            found = one.difference
-            at = ("", "", "") if found is None else (found.byte, found.expected, found.got)
-            row = (result.candidate, one.case, one.verdict, one.stop, one.steps, *at, "")
-            writer.writerow(["" if item is None else item for item in row])
+class Csv(Form):
+    """A row for each case of each candidate, and one for each file that was passed over."""
+
+    def head(self) -> str:
+        """The names of the columns."""
+        return _row(COLUMNS)
+
+    def result(self, result: Result) -> str:
+        """The rows of a result; a candidate that was refused has one for each case as well."""
+        told: dict[str, Any] = {
+            "candidate": result.candidate,
+            "problem": result.problem,
+            "sha256": result.sha256,
+            "time": result.time,
+            **vars(self.audit),
+            "options": json.dumps(_text(self.audit.options)),
+        }
+        rows = [_cells(one) for one in result.results]
+        if result.verdict == REFUSED:
+            rows = [{"case": case.name, "verdict": REFUSED} for case in self.cases]
+        return "".join(self._written({**told, **row}) for row in rows)
+
+    def passed_over(self, file: Found) -> str:
+        """The row of a file that was passed over."""
+        told = {"candidate": file.name, "verdict": PASSED_OVER, "problem": file.passed_over}
+        return self._written(told)
+
+    @staticmethod
+    def _written(cells: dict[str, Any]) -> str:
+        """A row of named cells; those that are not named are empty."""
+        return _row([cells.get(name) for name in COLUMNS])
 
 
-def write_table(results: Sequence[Result], stream: TextIO) -> None:
-    """A line for each candidate and the sum of all; then each case that failed."""
-    names = [plain(result.candidate) for result in results]
-    width = max(len("candidate"), *map(len, names))
-    print(f"{'candidate':<{width}}  {'right':>7}  verdict", file=stream)
-    for name, result in zip(names, results):
-        share = f"{result.right}/{result.cases}"
-        print(f"{name:<{width}}  {share:>7}  {plain(_verdict(result))}", file=stream)
-    right = sum(result.verdict == RIGHT for result in results)
-    print(f"\n{right} of {len(results)} candidates right", file=stream)
-    for name, result in zip(names, results):
-        for one in result.results:
-            if one.verdict != RIGHT:
-                print("", *_failure(name, one), sep="\n", file=stream)
+def _cells(one: CaseResult) -> dict[str, Any]:
+    """The cells of a case."""
+    cells: dict[str, Any] = {**vars(one), "flags": "; ".join(map(str, one.flags))}
+    found = one.difference
+    if found is not None:
+        cells.update(byte=found.byte, expected=found.expected, got=found.got)
+    return cells
+
+
+def _row(values: Sequence[object]) -> str:
+    """A row of CSV. Texts are quoted, so that no other separator than the comma divides them."""
+    row = io.StringIO()
+    csv.writer(row, lineterminator="\n", quoting=csv.QUOTE_NONNUMERIC).writerow(map(cell, values))
+    return row.getvalue()
+
+
+def cell(value: object) -> object:
+    """A value as a cell of a spreadsheet: a text that would be taken for a formula gets an
+    apostrophe before it, and characters that work on a terminal are written as escapes.
+
+    >>> cell("=1+1"), cell("a\\nb"), cell(None), cell(7)
+    ("'=1+1", 'a\\\\nb', '', 7)
+    """
+    if isinstance(value, int):
+        return value
+    text = plain(str("" if value is None else value))
+    return f"'{text}" if text.lstrip().startswith(FORMULAS) else text
+
+
+@dataclass
+class _Told:
+    """What the table keeps for its end."""
+
+    failures: list[tuple[str, CaseResult]] = field(default_factory=list)
+    passed_over: list[str] = field(default_factory=list)
+
+
+class Table(Form):
+    """A line for each candidate as it comes; then the sums, what was passed over, and each case
+    that failed."""
+
+    def head(self) -> str:
+        """The names of the columns."""
+        self._told = _Told()
+        self._width = max(len(plain(name)) for name in ("candidate", *self.names))
+        return f"{'candidate':<{self._width}}  {'right':>7}  verdict\n"
+
+    def result(self, result: Result) -> str:
+        """The line of a candidate; the cases that failed are kept for the end."""
+        name, share = plain(result.candidate), f"{result.right}/{result.cases}"
+        failed = [(name, one) for one in result.results if one.verdict != RIGHT]
+        self._told.failures += failed
+        return f"{name:<{self._width}}  {share:>7}  {plain(_verdict(result))}\n"
+
+    def passed_over(self, file: Found) -> str:
+        """Nothing yet: it is kept for the end."""
+        self._told.passed_over.append(f"  {plain(file.name)}: {file.passed_over}")
+        return ""
+
+    def end(self, total: Total) -> str:
+        """The sums, what was passed over, and the cases that failed."""
+        lines = ["", _sums(total)]
+        if self._told.passed_over:
+            lines += ["", f"{PASSED_OVER}:", *self._told.passed_over]
+        for name, one in self._told.failures:
+            lines += ["", *_failure(name, one)]
+        return "\n".join(lines) + "\n"
+
+
+def _sums(total: Total) -> str:
+    """The line with the sums.
+
+    >>> _sums(Total(9, 7, 5, flagged=1, passed_over=2, stopped_by="Ctrl-C"))
+    '5 of 7 candidates right; 1 flagged; 2 files passed over; 2 not marked: stopped by Ctrl-C'
+    """
+    parts = [f"{total.right} of {total.marked} candidates right"]
+    if total.flagged:
+        parts.append(f"{total.flagged} flagged")
+    if total.passed_over:
+        files = "file" if total.passed_over == 1 else "files"
+        parts.append(f"{total.passed_over} {files} passed over")
+    if total.stopped_by:
+        left = total.candidates - total.marked
+        parts.append(f"{left} not marked: stopped by {total.stopped_by}")
+    return "; ".join(parts)
 
 
 def _verdict(result: Result) -> str:
-    """The verdict on a candidate, with the case or the problem that it is about."""
+    """The verdict on a candidate, with the case or the problem that it is about, and the flags."""
     if result.verdict == REFUSED:
-        return result.problem
+        problem = result.problem.removeprefix(f"{result.candidate}: ")
+        return problem if problem.startswith(REFUSED) else f"{REFUSED}: {problem}"
     failed = [one.case for one in result.results if one.verdict != RIGHT]
-    return f"{result.verdict} in {failed[0]}" if failed else RIGHT
+    verdict = f"{result.verdict} in {failed[0]}" if failed else RIGHT
+    flagged = result.flagged
+    if flagged:
+        more = f", and {len(flagged) - 1} more" if len(flagged) > 1 else ""
+        verdict += f"; flagged: {flagged[0][1]} in {flagged[0][0]}{more}"
+    return verdict
 
 
 def _failure(candidate: str, one: CaseResult) -> Iterator[str]:
     """The lines that tell of a case that failed."""
     yield f"{candidate}, case {plain(one.case)}: {one.verdict}"
-    yield f"  {one.stop}; {one.steps} steps; PC x{one.pc:04X}: {one.line}"
+    yield f"  {one.ended}; {one.steps} steps; PC x{one.pc:04X}: {one.line or 'not fetched'}"
+    yield from (f"  flagged: {flag}" for flag in one.flags)
     if one.difference is not None:
         yield f"  {one.difference}"
         yield f"    expected: {one.difference.expected_text!r}"
@@ -86,3 +289,6 @@ def _failure(candidate: str, one: CaseResult) -> Iterator[str]:
         yield f"  the last {len(one.last)} lines obeyed:"
     for line in one.last:
         yield f"    {line}"
+
+
+FORMS = {None: Table, "csv": Csv, "json": Json, "one": One}

@@ -1,0 +1,76 @@
+"""Standard output for results: each piece is written when it comes, and nothing is kept back."""
+
+from __future__ import annotations
+
+import errno
+import fcntl
+import os
+import select
+import sys
+import time
+
+from .messages import CommandError, let_go, of_os_error
+from .terminal import Signals
+
+# A pipe that has room at all has room for so many bytes.
+PIECE = select.PIPE_BUF
+
+# The seconds after which a wait for a reader, or for another writer, looks for signals.
+PATIENCE = 0.1
+
+GONE = "standard output can't be written to any more: whoever read it is gone"
+
+
+class Output:
+    """Writes text to standard output at once, so that a process that is killed leaves all of it.
+
+    A reader that reads no more, or a terminal that is stopped by Ctrl-S, could keep the process for
+    ever. After a signal what is not taken within a moment is dropped.
+    """
+
+    def __init__(self, signals: Signals) -> None:
+        """The stream of this process."""
+        self._signals = signals
+        self._encoding = sys.stdout.encoding or "utf-8"
+        try:
+            self._fd: int | None = sys.stdout.fileno()
+        except (OSError, ValueError):
+            # It is no file at all.
+            self._fd = None
+
+    def write(self, text: str) -> None:
+        """Writes text; where that fails, a ``CommandError`` says why."""
+        data = text.encode(self._encoding, "backslashreplace")
+        try:
+            if self._fd is None:
+                sys.stdout.write(data.decode(self._encoding))
+                return
+            while data and self._writable(self._fd):
+                data = data[os.write(self._fd, data[:PIECE]) :]
+        except OSError as error:
+            let_go(sys.stdout)
+            # The other end of the pipe, or the terminal's window, is closed.
+            if error.errno in (errno.EPIPE, errno.EIO):
+                raise CommandError(GONE) from None
+            error.filename = "standard output"
+            raise CommandError(of_os_error(error)) from None
+
+    def _writable(self, fd: int) -> bool:
+        """Waits until a piece can be written; not where a signal has come and it can't."""
+        while not select.select([], [fd], [], PATIENCE)[1]:
+            if self._signals.caught:
+                return False
+        return True
+
+    def lock(self) -> None:
+        """Waits until no other process writes a line. Those that xargs starts share their output,
+        and a pipe takes only short lines in one piece."""
+        while self._fd is not None and not self._signals.caught:
+            try:
+                fcntl.lockf(self._fd, fcntl.LOCK_EX | fcntl.LOCK_NB)
+                return
+            except (BlockingIOError, PermissionError):
+                time.sleep(PATIENCE / 10)
+            except OSError:
+                # What can't be locked, as a file on some network, is written to all the same.
+                return

@@ -1,0 +1,214 @@
+"""What ``lc3 mark`` flags, also of a candidate whose display is right, and which halt passes."""
+
+from __future__ import annotations
+
+import csv
+import io
+import unittest
+from typing import Any
+
+import lc3
+
+from .mark_support import Marking, doubling
+from .support import fresh, object_file
+
+# A routine for exceptions that goes on behind the instruction: it adds 1 to the PC on the stack.
+GO_ON = (
+    "ADD R6, R6, #-1",
+    "STR R0, R6, #0",
+    "LDR R0, R6, #1",
+    "ADD R0, R0, #1",
+    "STR R0, R6, #1",
+    "LDR R0, R6, #0",
+    "ADD R6, R6, #1",
+    "RTI",
+)
+
+
+def forgiving_monitor() -> bytes:
+    """A monitor of a class's own: the ready-made one, but programs go on after an exception."""
+    memory = fresh()
+    lc3.monitor(memory)
+    for vector in (0x100, 0x101, 0x102):
+        memory[vector] = 0x0300
+    memory[0x300 : 0x300 + len(GO_ON)] = type(memory)("H", map(lc3.word, GO_ON))
+    return object_file(0, *memory[: 0x300 + len(GO_ON)])
+
+
+def then_doubling(*lines: str) -> bytes:
+    """A program that does some things, and then shows a key twice and halts."""
+    return object_file(0x3000, *lines, "TRAP x20", "TRAP x21", "TRAP x21", "TRAP x25")
+
+
+class Halts(Marking):
+    """How a run must end."""
+
+    def setUp(self) -> None:
+        super().setUp()
+        # All that is expected is shown before the end.
+        self.file("cases/one.expected", "aa")
+        (self.cases / "two.expected").unlink()
+        (self.cases / "two.keys").unlink()
+        (self.cases / "two.steps").unlink()
+
+    def one(self, content: bytes, *options: object, code: int = 1) -> dict[str, Any]:
+        """The result of the case, from JSON; other forms have the same verdict and flags."""
+        path = self.file("candidate.obj", content)
+        (result,) = self.marked(*options, path, code=code)
+        (one,) = result["results"]
+        flags = [
+            f"{flag['flag']} at x{flag['pc']:04X}: {flag['line'] or 'not fetched'}"
+            + (f" ({flag['times']} times)" if flag["times"] > 1 else "")
+            for flag in one["flags"]
+        ]
+        text = self.mark("--csv", *options, path).out.decode()
+        (row,) = csv.DictReader(io.StringIO(text))
+        self.assertEqual((row["verdict"], row["flags"]), (one["verdict"], "; ".join(flags)))
+        table = self.mark(*options, path).out.decode()
+        self.assertEqual(table.count("; flagged: "), bool(flags))
+        self.assertEqual("1 flagged\n" in table, bool(flags))
+        self.assertTrue(all(flag in table for flag in flags[:1]))
+        return {**one, "told": flags}
+
+    def test_right_displays_and_every_kind_of_crash(self) -> None:
+        for last, verdict, flag in (
+            ("LD R0, #-256", "exception", "access exception at x3003: LD R0, #-256"),
+            ("ST R0, #-256", "exception", "access exception at x3003: ST R0, #-256"),
+            ("RTI", "exception", "privilege exception at x3003: RTI"),
+            (".FILL xD000", "exception", "illegal opcode exception at x3003: .FILL xD000"),
+            ("TRAP x26", "trap without service", "trap without service at x3003: TRAP x26"),
+            ("TRAP xFF", "trap without service", "trap without service at x3003: TRAP xFF"),
+            # At xFDFF there is no instruction to end by, and the next word is privileged.
+            ("JMP R6", "exception", "access exception at xFE00: not fetched"),
+        ):
+            content = doubling(2, last)
+            one = self.one(content)
+            self.assertEqual((one["verdict"], one["told"]), (verdict, [flag]))
+            self.assertIsNone(one["difference"])
+            # Who asks for any halt gets the case passed, and the flag as well.
+            one = self.one(content, "--any-halt", code=0)
+            self.assertEqual((one["verdict"], one["told"]), ("right", [flag]))
+
+    def test_a_string_that_the_monitor_refused(self) -> None:
+        for trap, name in (("TRAP x22", "PUTS"), ("TRAP x24", "PUTSP")):
+            program = ["TRAP x20", "TRAP x21", "TRAP x21", "AND R0, R0, #0", trap]
+            one = self.one(object_file(0x3000, *program))
+            self.assertEqual(one["verdict"], "string refused")
+            self.assertEqual(one["told"], [f"string refused at x3004: {trap}"])
+            self.assertIn(name, one["ended"])
+
+    def test_a_store_to_mcr(self) -> None:
+        content = object_file(0x3000, "TRAP x20", "TRAP x21", "TRAP x21", "STI R3, #0", 0xFFFE)
+        one = self.one(content, "--supervisor")
+        self.assertEqual((one["verdict"], one["told"]), ("store to MCR", []))
+        one = self.one(content, "--supervisor", "--any-halt", code=0)
+        self.assertEqual((one["verdict"], one["told"]), ("right", []))
+
+    def test_no_halt_at_all(self) -> None:
+        for option in ((), ("--any-halt",)):
+            one = self.one(doubling(2, "BRnzp #-1"), *option)
+            self.assertEqual((one["verdict"], one["told"]), ("not halted", []))
+
+    def test_a_wrong_display_and_any_halt(self) -> None:
+        one = self.one(doubling(1, "RTI"), "--any-halt")
+        flag = "privilege exception at x3002: RTI"
+        self.assertEqual((one["verdict"], one["told"]), ("wrong display", [flag]))
+
+    def test_the_text_book_s_loop(self) -> None:
+        # A program that polls DSR itself, as the second edition's does.
+        one = self.one(object_file(0x3000, "LDI R1, #2", "BRzp #-2", "TRAP x25", 0xFE04))
+        self.assertEqual(one["told"], ["access exception at x3000: LDI R1, #2"])
+
+
+class Survived(Marking):
+    """Exceptions after which a class's own monitor goes on."""
+
+    def setUp(self) -> None:
+        super().setUp()
+        self.monitor = self.file("monitor.obj", forgiving_monitor())
+
+    def flags(self, content: bytes, *options: object, code: int = 0) -> list[list[Any]]:
+        """The flags of each case."""
+        options = ("--no-monitor", "--with", self.monitor, *options)
+        (result,) = self.marked(*options, self.file("candidate.obj", content), code=code)
+        self.assertEqual(result["verdict"], "wrong display" if code else "right")
+        return [[list(flag.values()) for flag in one["flags"]] for one in result["results"]]
+
+    def test_none(self) -> None:
+        self.assertEqual(self.flags(doubling()), [[], []])
+
+    def test_every_exception_is_counted(self) -> None:
+        reach = "LD R0, #-256"
+        attempts = then_doubling(reach, ".FILL xD000", reach, "RTI", reach)
+        expected = [
+            ["access exception", 0x3000, reach, 3],
+            ["illegal opcode exception", 0x3001, ".FILL xD000", 1],
+            ["privilege exception", 0x3003, "RTI", 1],
+        ]
+        self.assertEqual(self.flags(attempts), [expected, expected])
+
+    def test_one_long_before_the_end(self) -> None:
+        # 100 times 1000 times round, with an attempt each time.
+        program: list[int | str] = [
+            "LD R1, #12",
+            "LD R2, #12",
+            "ADD R2, R2, #-1",
+            "BRp #-2",
+            "LD R0, #-256",
+            "ADD R1, R1, #-1",
+            "BRp #-6",
+            "TRAP x20",
+            "TRAP x21",
+            "TRAP x21",
+            "TRAP x25",
+            0,
+            0,
+            100,
+            1000,
+        ]
+        flag = ["access exception", 0x3004, "LD R0, #-256", 100]
+        self.file("cases/two.steps", "1000000")
+        self.assertEqual(self.flags(object_file(0x3000, *program)), [[flag], [flag]])
+
+    def test_a_wrong_display(self) -> None:
+        attempt = object_file(0x3000, "TRAP x20", "LD R1, #-256", "TRAP x21", "TRAP x25")
+        flag = ["access exception", 0x3001, "LD R1, #-256", 1]
+        self.assertEqual(self.flags(attempt, code=1), [[flag], [flag]])
+
+    def test_the_exit_code_is_that_of_the_verdict(self) -> None:
+        path = self.file("candidate.obj", then_doubling("LD R0, #-256"))
+        done = self.mark("--no-monitor", "--with", self.monitor, path)
+        self.assertEqual(done.code, 0)
+        self.assertIn("  2/2  right; flagged: access exception at x3000", done.out.decode())
+        self.assertIn("LD R0, #-256 in one, and 1 more\n", done.out.decode())
+        self.assertIn("\n1 of 1 candidates right; 1 flagged\n", done.out.decode())
+
+    def test_supervisor_mode(self) -> None:
+        # The program gives the illegal opcode a routine of its own, goes on, and sets it back.
+        alter = ["LEA R0, #8", "LDI R1, #15", "STI R0, #14", ".FILL xD000", "STI R1, #12"]
+        double = ["TRAP x20", "TRAP x21", "TRAP x21", "TRAP x25"]
+        content = object_file(0x3000, *alter, *double, *GO_ON, 0x0101)
+        (result,) = self.marked("--supervisor", self.file("c.obj", content), code=0)
+        self.assertEqual(
+            [[list(flag.values()) for flag in one["flags"]] for one in result["results"]],
+            [[["illegal opcode exception", 0x3003, ".FILL xD000", 1]]] * 2,
+        )
+
+
+class Second(Marking):
+    """By the second edition's rules only what ended a run is told."""
+
+    def test_what_ended_the_run(self) -> None:
+        memory = fresh()
+        lc3.monitor(memory)
+        monitor = self.file("monitor.obj", object_file(0, *memory[: lc3.MONITOR_WORDS]))
+        self.file("cases/one.expected", "")
+        options = ("--edition", 2, "--no-monitor", "--with", monitor)
+        for last, flags in ((".FILL xD000", ["illegal opcode exception"]), ("TRAP x25", [])):
+            content = object_file(0x3000, last)
+            (result,) = self.marked(*options, self.file("c.obj", content))
+            self.assertEqual([flag["flag"] for flag in result["results"][0]["flags"]], flags)
+
+
+if __name__ == "__main__":
+    unittest.main()
