@@ -161,8 +161,8 @@ class AsTheyCome(Running):
             self.assertEqual(pipe(running.stderr).read(), said)
 
 
-class Killed(Marking):
-    """Workers that are killed."""
+class Killed(Running):
+    """Processes that are killed, and signals that are ignored."""
 
     def killed(
         self, files: list[str], when: str, *options: str
@@ -193,6 +193,31 @@ class Killed(Marking):
         self.assertEqual(verdicts(results), [*planted[:bad], "refused", *planted[bad + 1 :]])
         self.assertIn("the process that marked it was killed", results[bad]["problem"])
         self.assertIsNone(results[bad]["sha256"])
+
+    def test_the_first_process_is_killed(self) -> None:
+        count = self.file("c.obj", COUNTING)
+        running = self.start("--jobs", 2, count, count)
+        children = self.children(running, 2)
+        running.kill()
+        # Whoever reads the results comes to their end: no worker holds the pipe open for ever.
+        running.communicate(timeout=20)
+        until = time.monotonic() + 20
+        while any(Path(f"/proc/{child}").exists() for child in children):
+            self.assertLess(time.monotonic(), until)
+            time.sleep(0.1)
+
+    def test_what_is_ignored_stays_ignored(self) -> None:
+        count = self.file("c.obj", COUNTING)
+        # As nohup starts it.
+        ignoring = {"preexec_fn": lambda: signal.signal(signal.SIGHUP, signal.SIG_IGN)}
+        running = self.start("--json", "--steps", 10**9, "--jobs", 2, count, count, **ignoring)
+        children = self.children(running, 2)
+        os.killpg(running.pid, signal.SIGHUP)
+        time.sleep(0.2)
+        self.assertEqual(self.children(running, 2), children)
+        out, err = running.communicate(timeout=60)
+        self.assertEqual((running.returncode, err), (1, b""))
+        self.assertEqual(verdicts(lines_of(out)[:-1]), ["not halted"] * 2)
 
     def test_every_worker_is_killed(self) -> None:
         files = [str(self.file(name, doubling())) for name in ("a.obj", "b.obj", "c.obj")]

@@ -7,15 +7,21 @@
 
 ``lc3 COMMAND --help`` says more. Of each command one module has the work; the others are
 
-``options``   what may stand on the command line
-``files``     object files and saved sittings as the command takes them
-``formats``   files that are plainly something else
-``seat``      a sitting with keyboard and display, run until something ends it
-``terminal``  where keys come from, and signals
-``messages``  what is said to people, and the exit codes
-``cases``     the cases of a marking
-``marking``   one candidate against them
-``report``    results as a table, as CSV and as JSON
+``options``     what may stand on the command line
+``files``       object files and saved sittings as the command takes them
+``formats``     files that are plainly something else
+``seat``        a sitting with keyboard and display, run until something ends it
+``terminal``    where keys come from, and signals
+``messages``    what is said to people, and the exit codes
+``cases``       the cases of a marking
+``candidates``  which files are marked, and which are passed over
+``regular``     files that can't keep a process waiting
+``marking``     one candidate against the cases
+``flags``       what an examiner looks at in a run, whatever was shown
+``audit``       what a marking was made with
+``workers``     many candidates by several processes
+``report``      results as a table, as CSV and as JSON
+``output``      standard output for them
 """
 
 from __future__ import annotations

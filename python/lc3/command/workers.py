@@ -3,10 +3,13 @@
 from __future__ import annotations
 
 import multiprocessing
+import os
 import signal
+import time
 from collections import deque
 from concurrent.futures import Future, ProcessPoolExecutor, wait
 from concurrent.futures.process import BrokenProcessPool
+from threading import Thread
 from typing import Generator, Iterator, Sequence
 
 from .audit import now
@@ -15,6 +18,9 @@ from .terminal import NOTICED, Signals
 
 # The seconds after which a wait for results looks whether a signal has come.
 PATIENCE = 0.1
+
+# The seconds after which a worker looks whether the first process is still there.
+WATCH = 1
 
 KILLED = "refused: the process that marked it was killed, perhaps for want of memory: mark it alone"
 
@@ -68,7 +74,8 @@ def _by_pool(
     """The results by a pool of processes, which ends with this."""
     others = set(multiprocessing.active_children())
     context = multiprocessing.get_context("fork")
-    pool = ProcessPoolExecutor(min(jobs, len(candidates)), context, _begin, (marking,))
+    shared = (marking, os.getpid())
+    pool = ProcessPoolExecutor(min(jobs, len(candidates)), context, _begin, shared)
     left: deque[Future[Result]] = deque()
     try:
         left.extend(pool.submit(_mark, candidate) for candidate in candidates)
@@ -96,13 +103,23 @@ def _has_result(future: Future[Result]) -> bool:
     return future.done() and not future.cancelled() and future.exception() is None
 
 
-def _begin(marking: Marking) -> None:
-    """Sets up a worker. Ctrl-C reaches it too, and is for the first process to obey."""
+def _begin(marking: Marking, first: int) -> None:
+    """Sets up a worker of the first process. Ctrl-C reaches it too, and is for the first process to
+    obey; what is ignored, as under nohup, stays ignored."""
     signal.set_wakeup_fd(-1)
     for number in NOTICED:
-        signal.signal(number, signal.SIG_DFL)
+        if signal.getsignal(number) is not signal.SIG_IGN:
+            signal.signal(number, signal.SIG_DFL)
     signal.signal(signal.SIGINT, signal.SIG_IGN)
+    Thread(target=_watch, args=(first,), daemon=True).start()
     _WORK[:] = [marking]
+
+
+def _watch(first: int) -> None:
+    """Ends a worker when the first process is gone, and nobody takes its results."""
+    while os.getppid() == first:
+        time.sleep(WATCH)
+    os._exit(1)
 
 
 def _mark(candidate: str) -> Result:
