@@ -97,7 +97,7 @@ class Cases(Folder):
             (json.dumps([{**case, "steps": True}]), "'steps' of case 1 is no number"),
             (json.dumps([{**case, "steps": -1}]), "'steps' of case 1 is no number"),
             (json.dumps([{**case, "name": None}]), "'name' of case 1 is no string"),
-            ('[{"name": "a", "expected": "x", "expected": "y"}]', "the member 'expected' is there twice"),
+            ('[{"name": "a", "expected": "x", "expected": ""}]', "'expected' is there twice"),
             ("[" + "9" * 5000 + "]", "no cases: "),
         ):
             self.refused(self.file("cases.json", text.encode("latin-1")), said)
