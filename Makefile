@@ -1,6 +1,7 @@
 # make run        the demonstration: the command lc3 on the programs of examples/
 # make demo       the proved demonstration: a candidate's program beside the examiner's monitor
 # make test       everything: formatting, the proofs with the wrong programs that must be refused, the host tests
+# make lint       mypy and flake8 on our Python; setup.cfg says how
 # make lib        build/liblc3.a and build/liblc3.so; the header is include/lc3.h
 # make install    library, header, lc3.pc, module, command and manual page, under DESTDIR and PREFIX
 # make uninstall  takes away what `make install` put there
@@ -36,7 +37,7 @@ FOLDERS = $(LIBDIR)/pkgconfig $(PREFIX)/include $(PREFIX)/bin $(PREFIX)/share/ma
 LOADER = @[ -n "$(DESTDIR)" ] || /sbin/ldconfig 2>/dev/null || \
     echo "Run ldconfig as root, so that programs find $(SONAME)."
 
-.PHONY: run told demo test lib install uninstall bench rate soak format host clean
+.PHONY: run told demo test lib install uninstall bench rate soak format lint host clean
 
 run: told lib
 	@examples/run.sh
@@ -56,7 +57,7 @@ test:
 	@echo "Everything: formatting, all proofs from nothing, wrong programs that must be refused, and then the host tests."
 	@echo "That takes about 50 minutes on two cores."
 	@tools/prerequisites
-	@$(MAKE) --no-print-directory format
+	@$(MAKE) --no-print-directory format lint
 	@tools/progress build/ci.log rt ci
 	@$(MAKE) --no-print-directory host
 	@tail -n 1 build/ci.log
@@ -65,6 +66,10 @@ format:
 	python3 docs/check.py
 	rt fmt --check
 	cargo fmt --check --manifest-path host/Cargo.toml
+
+lint:
+	mypy
+	flake8 python docs examples tools/lc3.in
 
 host: lib
 	host/c/run.sh
