@@ -39,8 +39,7 @@ import re
 import zlib
 from array import array
 from dataclasses import asdict, dataclass, field
-from os import PathLike, fspath
-from pathlib import Path
+from os import PathLike
 from sys import byteorder
 from typing import Any, Sequence, Union
 
@@ -50,6 +49,7 @@ from .machine import MEMORY_BYTES, Machine
 from .records import LONG_LIMIT, SHORT_FIELDS, WORD_LIMIT, Edition, Record, Refused, whole
 from .steps import NAMES
 from .strict_json import strict_json
+from .writing import write_file
 
 FORMAT, FORMAT_VERSION = "lc3 sitting", 2
 
@@ -246,16 +246,11 @@ class Recording:
             raise RecordingError(f"no recording of a sitting: {problem}") from None
 
     def save(self, path: str | PathLike[str]) -> None:
-        """Writes the file."""
+        """Writes the file, whole or not at all: see ``lc3.writing``."""
         text = self.to_json()
         if len(text) > LONGEST:
             raise RecordingError(f"{path}: the sitting is longer than {LONGEST >> 20} MiB")
-        try:
-            Path(path).write_text(text, encoding="utf-8")
-        except OSError as error:
-            # A disk that is full while words are written does not say whose they are.
-            error.filename = error.filename or fspath(path)
-            raise
+        write_file(path, text.encode("utf-8"))
 
     @classmethod
     def load(cls, path: str | PathLike[str]) -> Recording:
