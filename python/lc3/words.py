@@ -82,7 +82,7 @@ FORMS: dict[str, tuple[tuple[Place, ...], Maker]] = {
     "RET": ((), lambda: write(Instruction(Kind.JMP, 7))),
     "RTI": ((), lambda: write(Instruction(Kind.RTI))),
     "TRAP": ((VECTOR,), lambda v: write(Instruction(Kind.TRAP, value=v))),
-    ".FILL": ((DATA,), lambda v: v & 0xFFFF),
+    ".FILL": ((DATA,), lambda v: int(v) & 0xFFFF),
 }
 
 # BR alone is BRnzp, as the book's assembler has it.
@@ -113,17 +113,19 @@ def _binary(register: Kind, immediate: Kind) -> Maker:
 FORMS["ADD"] = ((DR, SR1, SECOND), _binary(Kind.ADD_REGISTER, Kind.ADD_IMMEDIATE))
 FORMS["AND"] = ((DR, SR1, SECOND), _binary(Kind.AND_REGISTER, Kind.AND_IMMEDIATE))
 
-# The names that the book's assembler has for traps: no line has them.
+# The names that Table A.3 of the book has for traps; a word's own line is TRAP x25.
 TRAPS = {"GETC": 0x20, "OUT": 0x21, "PUTS": 0x22, "IN": 0x23, "PUTSP": 0x24, "HALT": 0x25}
+for _name, _vector in TRAPS.items():
+    FORMS[_name] = ((), lambda vector=_vector: write(Instruction(Kind.TRAP, value=vector)))
 
 # Numbers have at most so many digits that none of any length is ever computed.
 _REGISTER = re.compile(r"R([0-7])", re.IGNORECASE)
 _DECIMAL = re.compile(r"#([+-]?[0-9]{1,9})")
-_HEXADECIMAL = re.compile(r"(-?)x([0-9A-F]{1,8})", re.IGNORECASE)
+_HEXADECIMAL = re.compile(r"(-?)0?x([0-9A-F]{1,8})", re.IGNORECASE)
 
 
 def _number(operand: str) -> int | None:
-    """The number that an operand is, decimal after # or hexadecimal after x; or none."""
+    """The number that an operand is, decimal after # or hexadecimal after x or 0x; or none."""
     decimal = _DECIMAL.fullmatch(operand)
     if decimal:
         return int(decimal[1])
@@ -156,7 +158,7 @@ def _not_an_operand(operand: str) -> str:
         return "no operand: a line has no comment"
     if re.fullmatch(r"[+-]?[0-9]+", operand):
         return "no operand: a decimal number begins with # and a hexadecimal one with x"
-    if re.fullmatch(r"#.*|-?x[0-9A-F]+", operand, re.IGNORECASE | re.DOTALL):
+    if re.fullmatch(r"#.*|-?0?x[0-9A-F]+", operand, re.IGNORECASE | re.DOTALL):
         return "no number that a word holds"
     if re.fullmatch(r"[A-Z_][A-Z_0-9]*", operand, re.IGNORECASE):
         return "no operand: a line has offsets in the place of labels"
@@ -168,14 +170,14 @@ def _form(mnemonic: str) -> tuple[tuple[Place, ...], Maker]:
     name = mnemonic.upper()
     if name in FORMS:
         return FORMS[name]
-    if name in TRAPS:
-        raise ValueError(f"{mnemonic} is a trap's name; its line is TRAP x{TRAPS[name]:02X}")
     if re.fullmatch("BR[NZP]+", name):
         raise ValueError(f"{mnemonic} is no branch; its codes are some of n, z, p in that order")
     if name in (".ORIG", ".END", ".BLKW", ".STRINGZ"):
         raise ValueError(f"{mnemonic} is for an assembler; the only one here is .FILL")
     known = "BR, ADD, LD, ST, JSR, JSRR, AND, LDR, STR, RTI, NOT, LDI, STI, JMP, RET, LEA, TRAP"
-    raise ValueError(f"{_short(mnemonic)!r} is no mnemonic; one of {known} or .FILL expected")
+    traps = ", ".join(TRAPS)
+    expected = f"one of {known}, {traps} or .FILL expected"
+    raise ValueError(f"{_short(mnemonic)!r} is no mnemonic; {expected}")
 
 
 def _parts(text: str) -> tuple[str, list[str]]:
@@ -206,12 +208,12 @@ def word(text: str) -> int:
     """The word of a line of text: ``word(line(w)) == w`` for every word.
 
     Letters may be small or capital, and spaces and tabs may stand around each part, as may a line
-    feed at the end. Numbers may be decimal after ``#`` or hexadecimal after ``x`` in any place,
-    ``JMP R7`` is ``RET`` and ``BR`` is ``BRnzp``, as in the book. Any other text is a
-    ``LineError``.
+    feed at the end. Numbers may be decimal after ``#`` or hexadecimal after ``x`` or ``0x`` in any
+    place. ``JMP R7`` is ``RET``, ``BR`` is ``BRnzp``, and GETC, OUT, PUTS, IN, PUTSP and HALT are
+    the traps that Table A.3 of the book calls so. Any other text is a ``LineError``.
 
-    >>> hex(word("add r2,r3,#7")), hex(word("TRAP #37"))
-    ('0x14e7', '0xf025')
+    >>> hex(word("add r2,r3,#7")), hex(word("TRAP #37")), hex(word("HALT"))
+    ('0x14e7', '0xf025', '0xf025')
     >>> word("LD R8, #0")
     Traceback (most recent call last):
     lc3.words.LineError: 'LD R8, #0': operand 1 of LD: R8 is no register; DR, R0 to R7, expected

@@ -14,6 +14,8 @@ from .support import fresh
 class EveryWord(unittest.TestCase):
     """All 65,536 of them."""
 
+    lines: list[str]
+
     @classmethod
     def setUpClass(cls) -> None:
         memory = fresh()
@@ -41,6 +43,14 @@ class EveryWord(unittest.TestCase):
             "TRAP #37": "TRAP x25",
             "ADD R0, R0, xF": "ADD R0, R0, #15",
             "ADD R0, R0, -x10": "ADD R0, R0, #-16",
+            "TRAP 0x25": "TRAP x25",
+            "LD R0, -0x1": "LD R0, #-1",
+            "GETC": "TRAP x20",
+            "out": "TRAP x21",
+            "PUTS": "TRAP x22",
+            "IN": "TRAP x23",
+            "PUTSP": "TRAP x24",
+            " halt ": "TRAP x25",
             ".FILL #-1": ".FILL xFFFF",
             ".FILL #65535": ".FILL xFFFF",
             "LD R1, #+5": "LD R1, #5",
@@ -55,8 +65,10 @@ HOSTILE = {
     "": ("it is empty", 0),
     " \t\r\n": ("it is empty", 0),
     "FOO": ("'FOO' is no mnemonic", 0),
-    "HALT": ("its line is TRAP x25", 0),
-    "getc": ("its line is TRAP x20", 0),
+    "HALT x25": ("HALT takes no operand, and 1 is given", 0),
+    "PUTC": ("'PUTC' is no mnemonic; one of BR, ADD, ", 0),
+    "TRAP 00x25": ("neither a register nor a number", 1),
+    "TRAP 0x" + "F" * 9: ("no number", 1),
     "BRzn #1": ("n, z, p in that order", 0),
     "BRnn #1": ("n, z, p in that order", 0),
     ".ORIG x3000": (".ORIG is for an assembler", 0),
