@@ -40,7 +40,7 @@ class Lent(NamedTuple):
     """What a call is handed for a buffer."""
 
     address: int
-    count: int
+    elements: int
 
 
 class _View(ctypes.Structure):
@@ -154,10 +154,10 @@ class Lending(ExitStack):
     def _lend(self, buffer: Any, element: Element, name: str, write: bool) -> Lent:
         """Lends a buffer that does not overlap another where one of the two is written."""
         part = self.enter_context(lent(buffer, element, name, write))
-        first, last = part.address, part.address + part.count * element.size
+        first, last = part.address, part.address + part.elements * element.size
         for start, end, other in self._written + (self._read if write else []):
             if first < end and start < last:
                 raise ValueError(f"{name} overlaps {other}: the buffers of a call must lie apart")
-        if part.count:
+        if part.elements:
             (self._written if write else self._read).append((first, last, name))
         return part

@@ -40,7 +40,7 @@ def version() -> int:
     >>> version()
     7
     """
-    return LIBRARY.lc3_version()
+    return int(LIBRARY.lc3_version())
 
 
 def start(
@@ -89,7 +89,7 @@ candidate's belongs: give it another origin, or take fewer words
     return Started(Record.from_c(answer.record), answer.words)
 
 
-def _lend_run(lending: Lending, memory: Any, times: Any, keys: Any, output: Any) -> tuple:
+def _lend_run(lending: Lending, memory: Any, times: Any, keys: Any, output: Any) -> tuple[int, ...]:
     """The buffers that every run and step takes, as the library takes them."""
     return (
         *lending.write(memory, WORD, "memory"),
@@ -287,13 +287,15 @@ def write(instruction: Instruction) -> int:
     """
     written = LIBRARY.lc3_write(instruction.to_c())
     _accepted(written.refusal)
-    return written.word
+    return int(written.word)
 
 
 @overload
 def line(word: int) -> str: ...
 @overload
 def line(word: int, output: WriteableBuffer) -> int: ...
+
+
 def line(word: int, output: Any = None) -> Any:
     """Writes a word as a line of text: the line itself without its line feed, or with an output
     the number of bytes that were written there, line feed included.
@@ -320,13 +322,15 @@ def line_length(word: int) -> int:
     >>> line_length(0x14E7)
     15
     """
-    return LIBRARY.lc3_line_length(whole(word, WORD_LIMIT, "word"))
+    return int(LIBRARY.lc3_line_length(whole(word, WORD_LIMIT, "word")))
 
 
 @overload
 def page(memory: ReadableBuffer, first: int, count: int) -> str: ...
 @overload
 def page(memory: ReadableBuffer, first: int, count: int, output: WriteableBuffer) -> int: ...
+
+
 def page(memory: Any, first: int, count: int, output: Any = None) -> Any:
     """Lists a range of memory: the lines of ``count`` words from ``first`` on, each with its line
     feed. With an output, the number of bytes that were written there.
@@ -353,6 +357,8 @@ def page(memory: Any, first: int, count: int, output: Any = None) -> Any:
 def save(memory: ReadableBuffer, origin: int, words: int) -> bytes: ...
 @overload
 def save(memory: ReadableBuffer, origin: int, words: int, output: WriteableBuffer) -> int: ...
+
+
 def save(memory: Any, origin: int, words: int, output: Any = None) -> Any:
     """Writes a range of memory as an object file: the file itself, or with an output the number of
     bytes that were written there.
@@ -402,6 +408,8 @@ def monitor_routines() -> Routines:
 def vectors(routines: Routines) -> array[int]: ...
 @overload
 def vectors(routines: Routines, output: WriteableBuffer) -> None: ...
+
+
 def vectors(routines: Routines, output: Any = None) -> Any:
     """Writes the words x0000 to x01FF of a monitor with these routines: as an array, or to the
     start of an output, which may be memory itself.

@@ -55,7 +55,7 @@ DEVICES = {
 def value_of(record: RecordStruct, name: str) -> int:
     """The register of a record that has one of the ``NAMES``."""
     place = NAMES[name]
-    return record.regs[place] if isinstance(place, int) else getattr(record, place)
+    return int(record.regs[place] if isinstance(place, int) else getattr(record, place))
 
 
 def reason_by_second(record: RecordStruct, word: int, key_arrived: bool) -> Reason:
