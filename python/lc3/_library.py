@@ -3,13 +3,16 @@
 It is looked for in this order:
 
 1. the file that the environment variable ``LC3_LIBRARY`` names; nothing else is tried then;
-2. beside the package: ``liblc3.so.7`` in its own folder, in the folder ``lib`` that the package is
+2. where ``make install`` has put it: the package's file ``liblc3.path`` names it, from the
+   package's folder on;
+3. beside the package: ``liblc3.so.7`` in its own folder, in the folder ``lib`` that the package is
    installed under, or in that one's folder ``x86_64-linux-gnu``;
-3. ``build/liblc3.so`` of the source tree that the package stands in;
-4. where the system's loader looks for ``liblc3.so.7``.
+4. ``build/liblc3.so`` of the source tree that the package stands in;
+5. where the system's loader looks for ``liblc3.so.7``.
 
-A library of another version is passed over. Where none is left, importing the package fails with
-an ``ImportError`` that says what was tried and what to do.
+A library of another version is passed over. It is looked for when it is first needed: the package
+is imported without it. Where there is none, whatever needs it fails with a ``LibraryError`` that
+says what was tried and what to do.
 """
 
 from __future__ import annotations
@@ -19,32 +22,38 @@ import os
 from ctypes import Structure, c_bool, c_int32, c_size_t, c_uint8, c_uint16, c_uint32, c_uint64
 from ctypes import c_void_p
 from pathlib import Path
-from typing import Any, Callable, Iterator
+from typing import Any, Iterator
 
 from .constants import VERSION
 
 SONAME = f"liblc3.so.{VERSION}"
 
+# The file of the package by which `make install` says where the library is.
+INSTALLED = "liblc3.path"
+
+
+class LibraryError(ImportError):
+    """No library of this interface was found, or this is no host for it."""
+
 
 class RecordStruct(Structure):
     """``lc3_record``."""
 
-    _fields_ = [("regs", c_uint16 * 8)] + [
-        (name, c_uint16)
-        for name in (
-            "pc",
-            "psr",
-            "saved_ssp",
-            "saved_usp",
-            "kbsr",
-            "kbdr",
-            "mcr",
-            "busy",
-            "timer_status",
-            "timer_interval",
-            "timer_count",
-        )
-    ] + [("clock", c_uint64)]  # type: ignore[operator]
+    _fields_ = [
+        ("regs", c_uint16 * 8),
+        ("pc", c_uint16),
+        ("psr", c_uint16),
+        ("saved_ssp", c_uint16),
+        ("saved_usp", c_uint16),
+        ("kbsr", c_uint16),
+        ("kbdr", c_uint16),
+        ("mcr", c_uint16),
+        ("busy", c_uint16),
+        ("timer_status", c_uint16),
+        ("timer_interval", c_uint16),
+        ("timer_count", c_uint16),
+        ("clock", c_uint64),
+    ]
 
 
 class AnswerStruct(Structure):
@@ -191,20 +200,28 @@ class Library:
     def __init__(self, path: str) -> None:
         """Loads the library, or raises ``OSError`` where it is none of this interface."""
         self.path = path
-        self._dll = ctypes.CDLL(path)
+        dll = ctypes.CDLL(path)
         for name, (result, arguments) in FUNCTIONS.items():
             try:
-                function = getattr(self._dll, name)
+                function = getattr(dll, name)
             except AttributeError:
                 raise OSError(f"it has no function {name}") from None
             function.restype, function.argtypes = result, arguments
-        version = self._dll.lc3_version()
+            setattr(self, name, function)
+        version = dll.lc3_version()
         if version != VERSION:
             raise OSError(f"its interface has version {version}, not {VERSION}")
 
-    def __getattr__(self, name: str) -> Callable[..., Any]:
-        """The function of the library that has the name."""
-        return getattr(self._dll, name)
+
+class Needed:
+    """The library, which is looked for when something of it is first asked for."""
+
+    def __getattr__(self, name: str) -> Any:
+        """A function of the library, or its path; from then on all of them are here."""
+        if name != "path" and name not in FUNCTIONS:
+            raise AttributeError(name)
+        self.__dict__.update(vars(load()))
+        return self.__dict__[name]
 
 
 def places() -> Iterator[str]:
@@ -220,6 +237,9 @@ def places() -> Iterator[str]:
         yield named
         return
     package = Path(__file__).resolve().parent
+    if (package / INSTALLED).exists():
+        installed = (package / INSTALLED).read_text(encoding="utf-8").rstrip("\n")
+        yield os.path.normpath(package / installed)
     yield str(package / SONAME)
     for folder in package.parents:
         if folder.name == "lib":
@@ -230,10 +250,10 @@ def places() -> Iterator[str]:
 
 
 def load() -> Library:
-    """The first library of this interface, or an ``ImportError`` that says what was tried."""
+    """The first library of this interface, or a ``LibraryError`` that says what was tried."""
     for struct, size in SIZES.items():
         if ctypes.sizeof(struct) != size:
-            raise ImportError(
+            raise LibraryError(
                 f"{struct.__doc__} has {ctypes.sizeof(struct)} bytes here, not {size}: "
                 "liblc3.so is for x86-64 with the System V calling convention"
             )
@@ -243,10 +263,10 @@ def load() -> Library:
             return Library(place)
         except OSError as error:
             tried.append(f"{place}: {error}")
-    raise ImportError(
+    raise LibraryError(
         f"no liblc3.so of version {VERSION} was found; build it with `make lib`, or name it in the "
         "environment variable LC3_LIBRARY. Tried:\n  " + "\n  ".join(tried)
     )
 
 
-LIBRARY = load()
+LIBRARY = Needed()

@@ -1,5 +1,8 @@
 """The sizes, limits, bits and addresses of lc3.h, under its names without ``LC3_``."""
 
+__version__ = "0.1.0"
+"""The version of the product, by the rules of semantic versioning. It is written here alone."""
+
 VERSION = 7
 """The version of the interface that this package is written for."""
 

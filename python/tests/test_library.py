@@ -9,6 +9,7 @@ import sys
 import tempfile
 import unittest
 from pathlib import Path
+from unittest import mock
 
 import lc3
 from lc3 import _library
@@ -18,15 +19,22 @@ from . import ROOT
 PACKAGE = ROOT / "python" / "lc3"
 
 
-def imported(package_parent: Path, library: str | None) -> subprocess.CompletedProcess[str]:
-    """What a new interpreter says that imports the package of a folder."""
+def python(
+    package_parent: Path, library: str | None, *arguments: str
+) -> subprocess.CompletedProcess[str]:
+    """What a new interpreter says that has the package of a folder."""
     environment = {key: value for key, value in os.environ.items() if key != "LC3_LIBRARY"}
     environment["PYTHONPATH"] = str(package_parent)
     if library is not None:
         environment["LC3_LIBRARY"] = library
-    program = "import lc3; print(lc3._library.LIBRARY.path, lc3.version())"
-    command = [sys.executable, "-c", program]
+    command = [sys.executable, *arguments]
     return subprocess.run(command, env=environment, capture_output=True, text=True, cwd="/")
+
+
+def imported(package_parent: Path, library: str | None) -> subprocess.CompletedProcess[str]:
+    """What is said where the package is imported and the library needed."""
+    program = "import lc3; print(lc3._library.LIBRARY.path, lc3.version())"
+    return python(package_parent, library, "-c", program)
 
 
 class Places(unittest.TestCase):
@@ -38,7 +46,7 @@ class Places(unittest.TestCase):
     def test_the_named_one_and_no_other(self) -> None:
         self.assertIn(str(self.library), imported(ROOT / "python", str(self.library)).stdout)
         said = imported(ROOT / "python", "/nowhere/liblc3.so").stderr
-        self.assertIn("ImportError: no liblc3.so of version 7 was found", said)
+        self.assertIn("LibraryError: no liblc3.so of version 7 was found", said)
         self.assertIn("LC3_LIBRARY", said)
         self.assertIn("/nowhere/liblc3.so: ", said)
         self.assertNotIn("build", said.split("Tried:")[1])
@@ -59,6 +67,14 @@ class Places(unittest.TestCase):
                 library.parent.mkdir(exist_ok=True)
                 library.symlink_to(self.library)
                 self.assertTrue(imported(installed, None).stdout.startswith(str(library)))
+            named = installed / "lc3" / "liblc3.path"
+            named.write_text("../../../../other place/liblc3.so\n")
+            (Path(folder) / "other place").mkdir()
+            other = Path(folder) / "other place" / "liblc3.so"
+            other.symlink_to(self.library)
+            self.assertTrue(imported(installed, None).stdout.startswith(str(other)))
+            other.unlink()
+            self.assertTrue(imported(installed, None).stdout.startswith(str(library)))
             beside = parent / "lc3" / _library.SONAME
             beside.symlink_to(self.library)
             self.assertTrue(imported(parent, None).stdout.startswith(str(beside)))
@@ -73,14 +89,63 @@ class Places(unittest.TestCase):
                 _library.Library(file.name)
 
     def test_a_library_of_another_version(self) -> None:
-        version, _library.VERSION = _library.VERSION, 8
-        try:
+        with mock.patch("lc3._library.VERSION", 8):
             with self.assertRaisesRegex(OSError, "its interface has version 7, not 8"):
                 _library.Library(str(self.library))
-            with self.assertRaisesRegex(ImportError, "make lib"):
+            with self.assertRaisesRegex(lc3.LibraryError, "make lib"):
                 _library.load()
-        finally:
-            _library.VERSION = version
+
+
+class WithoutTheLibrary(unittest.TestCase):
+    """The package is imported without it, and says what is missing when it is needed."""
+
+    NOWHERE = "/nowhere/liblc3.so"
+
+    def test_what_needs_no_library(self) -> None:
+        program = "import lc3; print(lc3.__version__, lc3.VERSION, lc3.Record().halted)"
+        said = python(ROOT / "python", self.NOWHERE, "-c", program)
+        self.assertEqual(said.stdout, f"{lc3.__version__} {lc3.VERSION} True\n", said.stderr)
+        for option, expected in (("--help", "usage: lc3"), ("--version", f"lc3 {lc3.__version__}")):
+            said = python(ROOT / "python", self.NOWHERE, "-m", "lc3", option)
+            self.assertEqual((said.returncode, said.stderr), (0, ""))
+            self.assertTrue(said.stdout.startswith(expected), said.stdout)
+        said = python(ROOT / "python", self.NOWHERE, "-m", "lc3", "run", "--help")
+        self.assertEqual((said.returncode, said.stderr), (0, ""))
+
+    def test_what_needs_it(self) -> None:
+        for use in ("Sitting()", "word('HALT')", "line(0)", "monitor_routines()", "version()"):
+            program = f"import lc3\ntry: lc3.{use}\nexcept lc3.LibraryError as e: print(e)"
+            said = python(ROOT / "python", self.NOWHERE, "-c", program)
+            self.assertEqual(said.stderr, "")
+            self.assertTrue(said.stdout.startswith("no liblc3.so of version 7 was found"), use)
+        hello = str(ROOT / "examples/hello.obj")
+        for command in (("run", hello), ("list", hello), ("log", hello)):
+            said = python(ROOT / "python", self.NOWHERE, "-m", "lc3", *command)
+            self.assertEqual((said.returncode, said.stdout), (3, ""))
+            self.assertTrue(said.stderr.startswith("lc3: no liblc3.so of version 7 was found"))
+            self.assertNotIn("Traceback", said.stderr)
+
+    def test_it_is_found_when_it_has_come(self) -> None:
+        program = f"""
+import os, lc3
+os.environ["LC3_LIBRARY"] = {self.NOWHERE!r}
+try:
+    lc3.version()
+except lc3.LibraryError:
+    os.environ["LC3_LIBRARY"] = {lc3._library.LIBRARY.path!r}
+    print(lc3.version())
+"""
+        said = python(ROOT / "python", None, "-c", program)
+        self.assertEqual((said.stdout, said.stderr), ("7\n", ""))
+
+
+class Versions(unittest.TestCase):
+    """The version of the product, beside that of the interface."""
+
+    def test_it_is_semantic_and_shown(self) -> None:
+        self.assertRegex(lc3.__version__, r"^(0|[1-9]\d*)\.(0|[1-9]\d*)\.(0|[1-9]\d*)$")
+        said = python(ROOT / "python", None, "-m", "lc3", "--version").stdout
+        self.assertEqual(said, f"lc3 {lc3.__version__}, interface {lc3.VERSION}\n")
 
 
 if __name__ == "__main__":

@@ -32,7 +32,8 @@ import sys
 from importlib import import_module
 from typing import Sequence
 
-from .messages import Code, CommandError, let_go, of_os_error, say
+from .._library import LibraryError
+from .messages import Code, CommandError, let_go, of_os_error, say, tell
 from .options import parser
 
 
@@ -42,7 +43,7 @@ def main(argv: Sequence[str] | None = None) -> int:
     Whatever is wrong with a file or an option is said in one line on standard error.
 
     >>> main(["--version"])
-    lc3, interface 7
+    lc3 0.1.0, interface 7
     0
     """
     _set_up_streams()
@@ -59,6 +60,10 @@ def main(argv: Sequence[str] | None = None) -> int:
     except CommandError as error:
         say(str(error))
         return int(error.code)
+    except LibraryError as error:
+        # It has a line for each place that was tried.
+        tell(f"lc3: {error}\n")
+        return int(Code.REFUSED)
     except BrokenPipeError:
         let_go(sys.stdout)
         return int(Code.NOT_HALTED)

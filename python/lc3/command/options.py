@@ -7,9 +7,11 @@ import os
 import re
 from typing import Any, NoReturn, Sequence
 
-from ..constants import MAX_CLOCK, USER_STACK, VERSION
+from ..constants import MAX_CLOCK, USER_STACK, VERSION, __version__
 from ..records import WORD_LIMIT
 from .messages import plain
+
+VERSIONS = f"lc3 {__version__}, interface {VERSION}"
 
 EXIT_CODES = """\
 exit codes:
@@ -299,7 +301,7 @@ def parser() -> argparse.ArgumentParser:
         description="The LC-3 of Patt and Patel: run, list, log and mark object files.",
         epilog="example: lc3 run hello.obj\nlc3 COMMAND --help says more of a command.",
     )
-    whole.add_argument("--version", action="version", version=f"lc3, interface {VERSION}")
+    whole.add_argument("--version", action="version", version=VERSIONS)
     commands: Sequence[tuple[str, str, str, str, str]] = (
         ("run", "run", "run a program", RUN, RUN_EXAMPLES + EXIT_CODES),
         ("list", "listing", "list address, word and line", "", LIST_EXAMPLE),
