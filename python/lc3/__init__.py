@@ -21,11 +21,15 @@ The calls of lc3.h are here one to one, for hosts that lend buffers of their own
 ``monitor_routines``, ``vectors``; with ``logged_steps`` to read a log. A call that is refused
 raises ``Refused`` and alters nothing.
 
-The library is found as ``lc3._library`` says. docs/MACHINE.md has the rules of the machine.
+``__version__`` is the version of the product, and ``VERSION`` that of the interface. The library
+is looked for when it is first needed, as ``lc3._library`` says. docs/MACHINE.md has the rules of
+the machine.
 """
 
 # The current folder goes off the path of ``python3 -m lc3`` before another module is looked for.
 from . import _folder  # noqa: F401
+from ._library import LibraryError
+from .breakpoints import Breakpoints
 from .calls import (
     line,
     line_length,
@@ -58,8 +62,10 @@ from .constants import (
     USER_STACK,
     VECTOR_WORDS,
     VERSION,
+    __version__,
 )
 from .ending import EndKind, Ending, SittingReport
+from .exclusive import InUseError
 from .log import LoggedStep, logged_steps
 from .memory import Line, Memory
 from .places import PlaceError
@@ -86,14 +92,17 @@ from .steps import Change, TracedStep
 from .words import LineError, word
 
 __all__ = [
+    "Breakpoints",
     "Change",
     "Edition",
     "EndKind",
     "Ending",
+    "InUseError",
     "Instruction",
     "Key",
     "Kind",
     "LOG_WORDS",
+    "LibraryError",
     "Line",
     "LineError",
     "LoggedRun",
@@ -128,6 +137,7 @@ __all__ = [
     "USER_STACK",
     "VECTOR_WORDS",
     "VERSION",
+    "__version__",
     "line",
     "line_length",
     "logged_steps",

@@ -25,7 +25,10 @@ FIRST_ROOM = 4096
 LOGGED_AT_ONCE = 65536
 
 # The call by which a machine of each edition runs, and so every sitting and every marking.
-RUNS_BY = {Edition.THIRD: LIBRARY.lc3_run_long, Edition.SECOND: LIBRARY.lc3_run_second}
+RUNS_BY = {Edition.THIRD: "lc3_run_long", Edition.SECOND: "lc3_run_second"}
+
+# The stops that a call answers, by their numbers.
+STOPS = (Stop.DONE, Stop.HALTED, Stop.OUTPUT_FULL, Stop.LOG_FULL)
 
 
 class Snapshot(NamedTuple):
@@ -51,25 +54,47 @@ class Machine:
         self.edition = edition
         self.record = RecordStruct()
         self.words = array("H", bytes(MEMORY_BYTES))
-        # An array that is viewed can't be resized, and so its address stays.
-        self._view = memoryview(self.words)
-        self._memory = self.words.buffer_info()[0]
         self._log = array("H")
         self.times, self.keys, self.arrived = array("Q"), array("B"), 0
         self.output, self.shown = array("B", bytes(FIRST_ROOM)), 0
         self.limit: int | None = None
-        self._run = RUNS_BY[edition]
+        self._bind()
+
+    def _bind(self) -> None:
+        """Fetches the call by which the machine runs, and the address of its memory."""
+        self._run = getattr(LIBRARY, RUNS_BY[self.edition])
+        # An array that is viewed can't be resized, and so its address stays.
+        self._view = memoryview(self.words)
+        self._memory = self.words.buffer_info()[0]
+
+    def __getstate__(self) -> dict[str, Any]:
+        """What a copy is made of, in objects of its own: no call, no view and no address."""
+        state = {**vars(self), "record": bytes(self.record), "_log": array("H")}
+        for name in ("words", "times", "keys", "output"):
+            state[name] = state[name][:]
+        for name in ("_run", "_view", "_memory"):
+            del state[name]
+        return state
+
+    def __setstate__(self, state: dict[str, Any]) -> None:
+        """A machine that stands where another one stood."""
+        vars(self).update(state)
+        self.record = RecordStruct.from_buffer_copy(state["record"])
+        self._bind()
 
     def _lent(self) -> tuple[int, ...]:
         """Memory, the keys that have not arrived, and the free bytes of the output."""
         count = len(self.times) - self.arrived
-        times = keys = NOWHERE
+        times = keys = output = NOWHERE
         if count:
             times = self.times.buffer_info()[0] + 8 * self.arrived
             keys = self.keys.buffer_info()[0] + self.arrived
         room = len(self.output) if self.limit is None else min(len(self.output), self.limit)
-        free = max(room - self.shown, 0)
-        output = self.output.buffer_info()[0] + self.shown if free else NOWHERE
+        free = room - self.shown
+        if free > 0:
+            output = self.output.buffer_info()[0] + self.shown
+        else:
+            free = 0
         return self._memory, MEMORY_WORDS, times, count, keys, count, output, free
 
     def _enlarged(self) -> bool:
@@ -81,14 +106,8 @@ class Machine:
         return True
 
     def _answer(self, call: Callable[..., Any], *more: int) -> Any:
-        """What a call answers to which all is lent, with record and counts booked.
-
-        What is lent is viewed meanwhile: another thread that would resize it, and so move it away
-        under the call, gets a ``BufferError``.
-        """
-        views = memoryview(self.times), memoryview(self.keys), memoryview(self.output)
+        """What a call answers to which all is lent, with record and counts booked."""
         answer = call(self.record, *self._lent(), *more)
-        del views
         if answer.refusal:
             raise Refused(answer.refusal, answer.index)
         self.record = answer.record
@@ -101,8 +120,9 @@ class Machine:
         while True:
             answer = self._answer(self._run, n)
             n -= answer.steps
-            if answer.stop != Stop.OUTPUT_FULL or not self._enlarged():
-                return Stop(answer.stop)
+            stop = STOPS[answer.stop]
+            if stop is not Stop.OUTPUT_FULL or not self._enlarged():
+                return stop
 
     def advance_logged(self, n: int) -> tuple[Stop, array[int]]:
         """Makes up to n steps, at most ``LOGGED_AT_ONCE``, with the words of their log."""
@@ -110,14 +130,16 @@ class Machine:
             return self._advance_second(n)
         if len(self._log) < LOG_WORDS * n:
             self._log = array("H", bytes(2 * LOG_WORDS * n))
-        address, logged, asked = self._log.buffer_info()[0] if n else NOWHERE, 0, n
+        log, logged, asked = self._log, 0, n
+        address = log.buffer_info()[0] if n else NOWHERE
         while True:
             room = (address + 2 * logged, LOG_WORDS * asked - logged)
             answer = self._answer(LIBRARY.lc3_run_logged, *room, n)
             n -= answer.steps
             logged += answer.logged
-            if answer.stop != Stop.OUTPUT_FULL or not self._enlarged():
-                return Stop(answer.stop), self._log[:logged]
+            stop = STOPS[answer.stop]
+            if stop is not Stop.OUTPUT_FULL or not self._enlarged():
+                return stop, log[:logged]
 
     def _advance_second(self, n: int) -> tuple[Stop, array[int]]:
         """The same by single steps: the library has no logged run for the second edition."""

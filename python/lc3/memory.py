@@ -3,11 +3,11 @@
 from __future__ import annotations
 
 from array import array
-from typing import Callable, Iterable, Iterator, NamedTuple, Union, overload
+from typing import Callable, Iterable, Iterator, NamedTuple, NoReturn, Union, overload
 
 from .calls import line, page
 from .constants import MEMORY_WORDS
-from .records import WORD_LIMIT, whole
+from .records import WORD_LIMIT, as_word, whole
 from .words import word
 
 # A word as a number, or as a line of text.
@@ -32,11 +32,13 @@ class Line(NamedTuple):
 
 def _number(value: Word) -> int:
     """The word that is given as a number or as a line of text."""
-    return word(value) if isinstance(value, str) else whole(value, WORD_LIMIT, "a word")
+    return word(value) if isinstance(value, str) else as_word(value, "a word")
 
 
 class Memory:
-    """The 65,536 words of a sitting, by address.
+    """The 65,536 words of a sitting, by address. A word is given as a number from -32768 to 65,535
+    or as a line of text. It is part of its sitting: while that is in use no word is altered, and it
+    is copied with it.
 
     >>> from lc3 import Sitting
     >>> memory = Sitting().memory
@@ -68,10 +70,15 @@ class Memory:
         """The words from x0000 on."""
         return iter(self._words)
 
+    def __reduce__(self) -> NoReturn:
+        """Whoever copies memory alone is told what to do."""
+        raise TypeError("memory is part of its sitting: copy that, or take list(memory)")
+
     @overload
     def __getitem__(self, address: int) -> int: ...
     @overload
     def __getitem__(self, address: slice) -> list[int]: ...
+
     def __getitem__(self, address: int | slice) -> int | list[int]:
         """The word at an address, or the words of a range."""
         if isinstance(address, slice):
@@ -83,6 +90,7 @@ class Memory:
     def __setitem__(self, address: int, value: Word) -> None: ...
     @overload
     def __setitem__(self, address: slice, value: Iterable[Word]) -> None: ...
+
     def __setitem__(self, address: int | slice, value: Word | Iterable[Word]) -> None:
         """Replaces a word, or as many words as a range has. A word may be a line of text."""
         if not isinstance(address, slice):

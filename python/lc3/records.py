@@ -187,12 +187,29 @@ def whole(value: Any, greatest: int, name: str) -> int:
     Traceback (most recent call last):
     ValueError: pc is 70000, and must be from 0 to 65535
     """
+    return _between(value, 0, greatest, name)
+
+
+def as_word(value: Any, name: str) -> int:
+    """A word given as a number from 0 to 65,535, or as a negative one in two's complement.
+
+    >>> as_word(-1, "R0")
+    65535
+    >>> as_word(-32769, "R0")
+    Traceback (most recent call last):
+    ValueError: R0 is -32769, and must be from -32768 to 65535
+    """
+    return _between(value, -0x8000, WORD_LIMIT, name) & WORD_LIMIT
+
+
+def _between(value: Any, least: int, greatest: int, name: str) -> int:
+    """A whole number in a range, or the error that names it."""
     try:
         number = index(value)
     except TypeError:
         raise TypeError(f"{name} must be a whole number, not {value!r}") from None
-    if not 0 <= number <= greatest:
-        raise ValueError(f"{name} is {number}, and must be from 0 to {greatest}")
+    if not least <= number <= greatest:
+        raise ValueError(f"{name} is {number}, and must be from {least} to {greatest}")
     return number
 
 

@@ -12,14 +12,17 @@ from __future__ import annotations
 import re
 from array import array
 from bisect import bisect_right
+from copy import copy
 from os import PathLike, fspath
-from typing import TYPE_CHECKING, Iterator, NamedTuple, Sequence, Union
+from signal import SIGINT
+from typing import TYPE_CHECKING, Any, Iterable, Iterator, NamedTuple, Sequence, Union
 
 from . import calls
+from .breakpoints import Breakpoints
 from .constants import KBSR_READY, MAX_CLOCK, MAX_STEPS, MCR_CLOCK, MEMORY_WORDS, USER_ORIGIN
-from .constants import USER_STACK
+from .constants import USER_STACK, __version__
 from .ending import EndKind, Ending, SittingReport, ending_of
-from .interrupts import Held
+from .exclusive import Exclusive, exclusive
 from .log import LoggedStep, logged_steps
 from .machine import MEMORY_BYTES, Machine
 from .memory import Line, Memory
@@ -28,7 +31,8 @@ from .past import Mark, Past
 from .places import check_apart, check_examiner, check_pc
 from .recording import REPLAY_STEPS, Alteration, End, Program, Recording, RecordingError
 from .recording import RegisterAlteration, Typed, WordsAlteration
-from .records import LONG_LIMIT, WORD_LIMIT, Edition, Mode, Record, Refusal, Refused, Stop, whole
+from .records import LONG_LIMIT, WORD_LIMIT, Edition, Mode, Record, Refusal, Refused, Stop
+from .records import as_word, whole
 from .steps import NAMES, TracedStep, value_of
 
 if TYPE_CHECKING:
@@ -116,8 +120,14 @@ candidate's belongs: give it another origin, or take fewer words
 
     **Recording.** ``save`` writes a file that ``replay`` and ``of`` make the same sitting of.
 
-    **Threads.** A sitting is for one thread at a time; several sittings may run at once, each in a
-    thread, since a call lets the other threads run.
+    **Copies.** ``copy.copy``, ``copy.deepcopy`` and ``pickle`` make a sitting of its own that
+    stands where this one stands, with the same past.
+
+    **Threads and signals.** A sitting is for one call at a time. What runs, alters or copies it
+    while another call goes on raises ``InUseError`` and alters nothing, in another thread as well
+    as in a handler; to look at it is allowed. Several sittings may run at once, each in a thread,
+    since a call lets the other threads run. A handler of a signal that raises never ends a call in
+    the middle: memory, record, keys and display agree when it does.
     """
 
     def __init__(
@@ -135,9 +145,10 @@ candidate's belongs: give it another origin, or take fewer words
         """Loads the files, the examiner's first, and starts a machine."""
         if isinstance(examiner, (str, PathLike, bytes, bytearray, memoryview)):
             raise TypeError("examiner is a list of files: write examiner=[file]")
+        self._use = Exclusive()
         self._machine = Machine(Edition(edition))
         self.memory = Memory(self._machine.words, self._alter_words)
-        self.breakpoints: set[int] = set()
+        self._breakpoints = Breakpoints(self._use)
         self.programs: list[Program] = []
         self.stop = Stop.DONE
         self._mode, self._stack, self._anywhere = Mode.USER, USER_STACK, anywhere
@@ -171,9 +182,14 @@ than two: an object file is an origin and words, of two bytes each
         """
         if isinstance(file, (str, PathLike)):
             name = name or fspath(file)
+            # Not in exclusive use: a pipe may keep its reader waiting, and Ctrl-C shall end that.
             with open(file, "rb") as stream:
                 file = stream.read(LONGEST_FILE)
-        anywhere = self._anywhere if anywhere is None else anywhere
+        return self._load(file, name, examiner, self._anywhere if anywhere is None else anywhere)
+
+    @exclusive
+    def _load(self, file: ReadableBuffer, name: str, examiner: bool, anywhere: bool) -> Program:
+        """Loads the bytes of an object file where they may lie."""
         confined = not (examiner or anywhere)
         # What is refused leaves memory alone: first the file is loaded where nothing is.
         program = _loaded(file, array("H", bytes(MEMORY_BYTES)), confined, name)
@@ -191,6 +207,7 @@ than two: an object file is an origin and words, of two bytes each
         """The words that memory has where a file lies."""
         return self._machine.words[program.origin : program.origin + program.words]
 
+    @exclusive
     def start(
         self,
         pc: int | None = None,
@@ -241,7 +258,7 @@ than two: an object file is an origin and words, of two bytes each
     @property
     def clock(self) -> int:
         """The steps made."""
-        return self._machine.record.clock
+        return int(self._machine.record.clock)
 
     @property
     def halted(self) -> bool:
@@ -263,14 +280,17 @@ than two: an object file is an origin and words, of two bytes each
         return self.memory[int(name[1:], 16)]
 
     def __setitem__(self, name: str, value: int | str) -> None:
-        """Sets a register or a word. A bit that a register does not have is refused with 12."""
+        """Sets a register or a word to a number from -32768 to 65,535, a word also to a line. A bit
+        that a register does not have is refused with 12."""
         name = self._name(name)
         if name not in NAMES:
             self.memory[int(name[1:], 16)] = value
             return
-        change = RegisterAlteration(self.clock, name, whole(value, WORD_LIMIT, name))
-        change.make(self._machine)
-        self._keep(change)
+        number = as_word(value, name)
+        with self._use:
+            change = RegisterAlteration(self.clock, name, number)
+            change.make(self._machine)
+            self._keep(change)
 
     @staticmethod
     def _name(name: str) -> str:
@@ -282,6 +302,7 @@ than two: an object file is an origin and words, of two bytes each
         names = ", ".join(NAMES)
         raise KeyError(f"{name!r} is no register; one of {names}, or an address as x3000")
 
+    @exclusive
     def _alter_words(self, address: int, words: array[int]) -> None:
         """Replaces words of memory."""
         change = WordsAlteration(self.clock, address, words)
@@ -307,10 +328,22 @@ than two: an object file is an origin and words, of two bytes each
         """The word that PC points to, with its line."""
         return self.lines(self["PC"], 1)[0]
 
+    @property
+    def breakpoints(self) -> Breakpoints:
+        """The addresses before whose instructions a run stops."""
+        return self._breakpoints
+
+    @breakpoints.setter
+    def breakpoints(self, addresses: Iterable[int]) -> None:
+        """Replaces the breakpoints."""
+        breakpoints = Breakpoints(self._use, addresses)
+        with self._use:
+            self._breakpoints = breakpoints
+
     # Keyboard and display.
 
     def type(self, text: str | bytes) -> None:
-        """Types text; in a ``str`` each character is the key of its number, at most 255.
+        """Types text. The keys of a ``str`` are its bytes in UTF-8, as a terminal sends them.
 
         >>> echo = bytes.fromhex("3000 F020 F021 0FFD")
         >>> sitting = Sitting(echo)
@@ -319,7 +352,15 @@ than two: an object file is an origin and words, of two bytes each
         >>> sitting.display, sitting.keys[0]
         ('ada', Key(time=0, byte=97))
         """
-        keys = text.encode("latin-1") if isinstance(text, str) else memoryview(text).tobytes()
+        if isinstance(text, str):
+            # Bytes of a command line that are no UTF-8 come as surrogates.
+            self._type(text.encode("utf-8", "surrogateescape"))
+        else:
+            self._type(memoryview(text).tobytes())
+
+    @exclusive
+    def _type(self, keys: bytes) -> None:
+        """Types keys."""
         # Who types at a replay departs from it.
         self._left = None
         if keys and not self._typed:
@@ -336,14 +377,18 @@ than two: an object file is an origin and words, of two bytes each
 
     def press(self, keys: bytes, at: int) -> None:
         """Presses keys at a time on the clock, whether the ones before were read or not."""
-        pressed = memoryview(keys).tobytes()
-        if whole(at, LONG_LIMIT, "at") < self.clock:
-            raise Refused(Refusal.TIME)
+        pressed, at = memoryview(keys).tobytes(), whole(at, LONG_LIMIT, "at")
+        with self._use:
+            self._press(pressed, at)
+
+    def _press(self, keys: bytes, at: int) -> None:
+        """Puts keys behind those that arrive at the same time or before."""
         machine = self._machine
+        if at < machine.record.clock:
+            raise Refused(Refusal.TIME)
         place = bisect_right(machine.times, at, machine.arrived)
-        for key in reversed(pressed):
-            machine.times.insert(place, at)
-            machine.keys.insert(place, key)
+        machine.times[place:place] = array("Q", [at]) * len(keys)
+        machine.keys[place:place] = array("B", keys)
 
     @property
     def keys(self) -> list[Key]:
@@ -362,7 +407,7 @@ than two: an object file is an origin and words, of two bytes each
             if self._machine.record.kbsr & KBSR_READY:
                 self._put_off()
                 continue
-            self.press(self._typed[:1], self.clock)
+            self._press(self._typed[:1], self.clock)
             del self._typed[0]
             self._since, self._look = self.clock, self.clock + FIRST_LOOK
 
@@ -376,6 +421,7 @@ than two: an object file is an origin and words, of two bytes each
         """All that was shown."""
         return self._machine.output[: self._machine.shown].tobytes()
 
+    @exclusive
     def take_display(self) -> bytes:
         """What was shown since this was asked last: for a host that shows it as it comes."""
         taken, self._taken = self._taken, self._machine.shown
@@ -389,7 +435,9 @@ than two: an object file is an origin and words, of two bytes each
     @display_limit.setter
     def display_limit(self, limit: int | None) -> None:
         """Sets the limit, or takes it away."""
-        self._machine.limit = None if limit is None else whole(limit, LONG_LIMIT, "display_limit")
+        number = None if limit is None else whole(limit, LONG_LIMIT, "display_limit")
+        with self._use:
+            self._machine.limit = number
 
     # Running.
 
@@ -399,7 +447,8 @@ than two: an object file is an origin and words, of two bytes each
         It stops earlier where the machine is halted, before an instruction at a breakpoint, or at
         the limit of the display. Ctrl-C stops it between two steps: the sitting is whole then and
         can go on, and the usual handler is called, which raises ``KeyboardInterrupt``. Where a
-        handler of the host's own raises nothing, the stop is ``INTERRUPTED``.
+        handler of the host's own raises nothing, the stop is ``INTERRUPTED``. The handlers of other
+        signals are called between two steps as well; the run goes on where they raise nothing.
 
         >>> sitting = Sitting(bytes.fromhex("3000 1021 0FFE"))
         >>> sitting.breakpoints.add(0x3001)
@@ -408,20 +457,30 @@ than two: an object file is an origin and words, of two bytes each
         >>> sitting.run(3), sitting["R0"]
         (SittingReport(steps=2, keys=0, shown=0, stop=<Stop.BREAKPOINT: -1>), 2)
         """
-        end = self._end(steps)
-        self._begin()
-        machine, begun = self._machine, self.clock
-        arrived, shown = machine.arrived, machine.shown
-        with Held() as held:
-            self.stop = self._go(end, held)
-        self._run_past = self._past()
-        made, keys, bytes_ = self.clock - begun, machine.arrived - arrived, machine.shown - shown
-        return SittingReport(made, keys, bytes_, self.stop, self._run_past)
+        with self._use:
+            end = self._end(steps)
+            self._begin()
+            counts = self._counts()
+            # So it is where a handler raises.
+            self.stop, self._run_past = Stop.INTERRUPTED, None
+            self.stop = self._go(end)
+            return self._report(*counts)
 
     def step(self) -> SittingReport:
         """Makes one step, also at a breakpoint."""
-        self._passed = (self.clock, self["PC"])
-        return self.run(1)
+        with self._use:
+            counts = self._counts()
+            if counts[0] >= MAX_CLOCK:
+                raise Refused(Refusal.STEPS)
+            self._begin()
+            self._settle()
+            self._look_at_keyboard()
+            self.stop = self._machine.advance(1)
+            if self.stop is Stop.DONE:
+                self._settle()
+            else:
+                self._passed = self._here()
+            return self._report(*counts)
 
     def trace(self, steps: int | None = None) -> Iterator[TracedStep]:
         """Runs as ``run`` does, a step at a time, and tells of each what it did. ``stop`` says at
@@ -434,14 +493,15 @@ than two: an object file is an origin and words, of two bytes each
              1  x3001  xF021  TRAP x21          trap  R6 xFDFF -> x2FFE, PC x3001 -> x0204, \
 PSR x8001 -> x0001, Saved_USP x0000 -> xFDFF, x2FFE x0000 -> x3002, x2FFF x0000 -> x8001
         """
-        end = self._end(steps)
-        self._begin()
+        with self._use:
+            end = self._end(steps)
+            self._begin()
         while True:
-            with Held():
+            with self._use:
                 step = self._trace_one(end)
+                if isinstance(step, Stop):
+                    self.stop, self._run_past = step, self._past()
             if isinstance(step, Stop):
-                self.stop = step
-                self._run_past = self._past()
                 return
             yield step
 
@@ -455,6 +515,17 @@ PSR x8001 -> x0001, Saved_USP x0000 -> xFDFF, x2FFE x0000 -> x3002, x2FFF x0000 
         self._look_at_keyboard()
         return self._machine.step_traced()
 
+    def _counts(self) -> tuple[int, int, int]:
+        """The steps made, the keys that have arrived and the bytes shown."""
+        machine = self._machine
+        return machine.record.clock, machine.arrived, machine.shown
+
+    def _report(self, clock: int, arrived: int, shown: int) -> SittingReport:
+        """What was done since the counts were these."""
+        past = self._run_past = self._past()
+        now = self._counts()
+        return SittingReport(now[0] - clock, now[1] - arrived, now[2] - shown, self.stop, past)
+
     def _end(self, steps: int | None) -> int:
         """The clock at which a run of so many steps is over."""
         if steps is None:
@@ -466,31 +537,37 @@ PSR x8001 -> x0001, Saved_USP x0000 -> xFDFF, x2FFE x0000 -> x3002, x2FFF x0000 
 
     def _begin(self) -> None:
         """Keeps the machine as it stands before the first step: there the recording begins."""
-        for address in self.breakpoints:
-            whole(address, WORD_LIMIT, "a breakpoint")
         if not self._marks:
             self._marks = [Mark(self._machine.snapshot(), 0)]
 
-    def _go(self, end: int, held: Held) -> Stop:
+    def _go(self, end: int) -> Stop:
         """Runs to a clock, in as many calls as it takes, unless something stops it."""
         machine, search = self._machine, FIRST_SEARCH
         while True:
             self._settle()
             if self.clock >= end:
                 return Stop.DONE
-            if held.pressed:
+            if self._use.caught and self._interrupted():
                 return Stop.INTERRUPTED
             if self._at_breakpoint():
                 return Stop.BREAKPOINT
             self._look_at_keyboard()
             n = self._reach(end)
-            if self.breakpoints:
-                stop = machine.advance_to(min(n, search), tuple(self.breakpoints))
+            if self._breakpoints:
+                stop = machine.advance_to(min(n, search), tuple(self._breakpoints))
                 search *= 2
             else:
                 stop = machine.advance(n)
             if stop not in (Stop.DONE, Stop.BREAKPOINT):
                 return stop
+
+    def _interrupted(self) -> bool:
+        """Whether Ctrl-C was pressed: its handler is called at the end of the run. Those of other
+        signals are called now."""
+        if SIGINT in self._use.caught:
+            return True
+        self._use.hand_on()
+        return False
 
     def _reach(self, end: int) -> int:
         """The steps up to a clock, or to where something is to be done before."""
@@ -505,24 +582,27 @@ PSR x8001 -> x0001, Saved_USP x0000 -> xFDFF, x2FFE x0000 -> x3002, x2FFF x0000 
 
     def _at_breakpoint(self) -> bool:
         """Whether to stop here: PC is at a breakpoint that no run has stopped at just now."""
-        here = (self.clock, self["PC"])
-        if here[1] not in self.breakpoints or here == self._passed:
+        here = self._here()
+        if here[1] not in self._breakpoints or here == self._passed:
             return False
         self._passed = here
         return True
 
+    def _here(self) -> tuple[int, int]:
+        """The clock and PC."""
+        return self._machine.record.clock, self._machine.record.pc
+
     def _settle(self) -> None:
         """Makes what a replay alters at this clock, and takes a snapshot where the last one is far
         back."""
-        while self._made < len(self._alterations):
-            if self._alterations[self._made].clock > self.clock:
-                break
+        clock = self._machine.record.clock
+        while self._made < len(self._alterations) and self._alterations[self._made].clock <= clock:
             self._alterations[self._made].make(self._machine)
             self._made += 1
-        if self._left is not None and self.clock >= self._left_until:
+        if self._left is not None and clock >= self._left_until:
             self._typed = bytearray(self._left.text)
             self._look, self._since, self._left = self._left.look, self._left.since, None
-        if self.clock - self._marks[-1][0].clock >= MARK_EVERY:
+        if clock - self._marks[-1].snapshot.clock >= MARK_EVERY:
             self._marks.append(Mark(self._machine.snapshot(), self._made))
             # The start is kept, and two more: the log may reach back beyond the last.
             del self._marks[1:-2]
@@ -539,10 +619,11 @@ PSR x8001 -> x0001, Saved_USP x0000 -> xFDFF, x2FFE x0000 -> x3002, x2FFF x0000 
         ['0x3001', '0x3000']
         """
         whole(count, LONG_LIMIT, "count")
-        if not self._marks:
-            return []
-        past = self._past()
-        return logged_steps(past.log(max(self.clock - count, past.start)))
+        with self._use:
+            if not self._marks:
+                return []
+            past = self._past()
+        return logged_steps(past.log(max(past.clock - count, past.start)))
 
     def last_program_steps(self, count: int) -> list[LoggedStep]:
         """The same without the steps of the monitor's routines: see ``lc3.own``. Fewer are told
@@ -554,20 +635,24 @@ PSR x8001 -> x0001, Saved_USP x0000 -> xFDFF, x2FFE x0000 -> x3002, x2FFF x0000 
         ['ADD R0, R0, #1', 'TRAP x21', 'TRAP x25']
         """
         whole(count, LONG_LIMIT, "count")
-        return last_own_steps(self._past(), count) if self._marks and count else []
+        with self._use:
+            if not self._marks or not count:
+                return []
+            past = self._past()
+        return last_own_steps(past, count)
 
     def _past(self) -> Past:
         """What led to where the machine stands."""
         machine = self._machine
         return Past(
-            self.edition,
+            machine.edition,
             tuple(self._marks),
             self._alterations,
             self._made,
             machine.times,
             machine.keys,
             len(machine.output),
-            self.clock,
+            machine.record.clock,
         )
 
     @property
@@ -579,11 +664,12 @@ PSR x8001 -> x0001, Saved_USP x0000 -> xFDFF, x2FFE x0000 -> x3002, x2FFF x0000 
         >>> print(sitting.ending)
         stopped by the illegal opcode exception; PC x3001: .FILL xD000
         """
-        self._begin()
-        past = self._run_past
-        if past is None or past.clock != self.clock:
-            past = self._past()
-        return ending_of(past, self.stop)
+        with self._use:
+            self._begin()
+            past, stop = self._run_past, self.stop
+            if past is None or past.clock != self.clock:
+                past = self._past()
+        return ending_of(past, stop)
 
     def _twin(self) -> Machine:
         """A machine of its own where this one stands, with the same keys."""
@@ -611,11 +697,12 @@ PSR x8001 -> x0001, Saved_USP x0000 -> xFDFF, x2FFE x0000 -> x3002, x2FFF x0000 
         <EndKind.LOOP: 'endless loop'>
         """
         machine = self._machine
-        # Typed text arrives only when the last key is read.
-        unread = bool(self._typed) and machine.record.kbsr & KBSR_READY
-        if self._left or machine.arrived < len(machine.times) or (self._typed and not unread):
-            return None
-        twin = self._twin()
+        with self._use:
+            # Typed text arrives only when the last key is read.
+            unread = bool(self._typed) and machine.record.kbsr & KBSR_READY
+            if self._left or machine.arrived < len(machine.times) or (self._typed and not unread):
+                return None
+            twin = self._twin()
         # A busy display counts its steps, and no record would come again.
         twin.advance(twin.record.busy)
         start = twin.snapshot()
@@ -625,8 +712,30 @@ PSR x8001 -> x0001, Saved_USP x0000 -> xFDFF, x2FFE x0000 -> x3002, x2FFF x0000 
         twin.restore(start)
         return EndKind.LOOP if unread or twin.ignores_a_key(round_) else EndKind.WAITING
 
-    # Recordings.
+    # Copies and recordings.
 
+    @exclusive
+    def __getstate__(self) -> dict[str, Any]:
+        """What ``copy`` and ``pickle`` make a sitting of: all but what is this one's alone."""
+        own = ("_use", "memory", "_breakpoints")
+        state = {name: copy(value) for name, value in vars(self).items() if name not in own}
+        return {**state, "_breakpoints": set(self._breakpoints), "version": __version__}
+
+    def __setstate__(self, state: dict[str, Any]) -> None:
+        """A sitting that stands where another one stood."""
+        version = state.get("version")
+        if version != __version__:
+            raise ValueError(
+                f"this sitting was pickled by version {version} of lc3, and this is {__version__}: "
+                "a pickle is for one version; keep sittings by save, and replay them"
+            )
+        vars(self).update(state)
+        del self.__dict__["version"]
+        self._use = Exclusive()
+        self.memory = Memory(self._machine.words, self._alter_words)
+        self._breakpoints = Breakpoints(self._use, self._breakpoints)
+
+    @exclusive
     def recording(self) -> Recording:
         """The sitting so far as a recording: see ``lc3.recording``."""
         self._begin()

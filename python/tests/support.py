@@ -136,3 +136,8 @@ def sitting_of(
     machine = sitting._machine
     machine.record, machine.words[:] = record.to_c(), memory
     return sitting
+
+
+def whole_state(sitting: lc3.Sitting) -> tuple[object, ...]:
+    """All that two equal sittings have in common."""
+    return sitting.record, sitting.memory.words.tobytes(), sitting.display_bytes, sitting.keys

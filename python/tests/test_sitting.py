@@ -10,19 +10,15 @@ import threading
 import unittest
 from array import array
 from pathlib import Path
+from time import perf_counter
 
 import lc3
 from lc3 import Refused, Sitting, Stop
 
 from .support import COUNTING, ECHO, fresh, object_file, random_keys, random_memory
-from .support import random_record, simulator, sitting_of, user
+from .support import random_record, simulator, sitting_of, user, whole_state
 
 THIRD, SECOND = lc3.Edition.THIRD, lc3.Edition.SECOND
-
-
-def whole_state(sitting: Sitting) -> tuple:
-    """All that two equal sittings have in common."""
-    return sitting.record, sitting.memory.words.tobytes(), sitting.display_bytes, sitting.keys
 
 
 class Loading(unittest.TestCase):
@@ -201,26 +197,6 @@ class Running(unittest.TestCase):
         self.assertEqual({sitting["R0"] for sitting in sittings}, {100_000 & 0xFFFF})
 
 
-    def test_nothing_that_is_lent_can_be_moved_away(self) -> None:
-        sitting = Sitting(ECHO)
-        machine, calls = sitting._machine, []
-
-        def spy(*lent: object) -> object:
-            """The call, and what another thread may try meanwhile."""
-            for part in (machine.words, machine.times, machine.keys, machine.output):
-                with self.assertRaises(BufferError):
-                    part.append(0)
-            calls.append(lent)
-            return usual(*lent)
-
-        usual, machine._run = machine._run, spy
-        sitting.type("ab")
-        sitting.run(500)
-        self.assertEqual(sitting.display, "ab")
-        self.assertGreater(len(calls), 1)
-        machine.times.append(1 << 40), machine.keys.append(0)
-
-
 class Breakpoints(unittest.TestCase):
     """A run stops before each of them, and skips none."""
 
@@ -296,9 +272,22 @@ class Breakpoints(unittest.TestCase):
     def test_addresses_that_are_none(self) -> None:
         sitting = Sitting(COUNTING)
         for wrong in (-1, 65536):
-            sitting.breakpoints = {wrong}
             with self.assertRaisesRegex(ValueError, "a breakpoint is"):
-                sitting.run(1)
+                sitting.breakpoints = {0x3000, wrong}
+            with self.assertRaisesRegex(ValueError, "a breakpoint is"):
+                sitting.breakpoints.add(wrong)
+        self.assertEqual(sitting.breakpoints, set())
+
+    def test_they_are_a_set(self) -> None:
+        sitting = Sitting(COUNTING)
+        sitting.breakpoints |= {0x3001, 0x3000}
+        sitting.breakpoints.remove(0x3000)
+        self.assertEqual((sitting.breakpoints, repr(sitting.breakpoints)), ({0x3001}, "{x3001}"))
+        self.assertEqual(sitting.breakpoints & {0x3001, 5}, {0x3001})
+        with self.assertRaises(KeyError):
+            sitting.breakpoints.remove(0x3000)
+        sitting.breakpoints.clear()
+        self.assertFalse(sitting.breakpoints)
 
     def test_a_trace_stops_there_too(self) -> None:
         sitting = self.sitting(THIRD)
@@ -368,6 +357,16 @@ class Keyboard(unittest.TestCase):
         sitting.run(200)
         self.assertEqual(sitting.display, "interactive")
 
+    def test_a_million_keys_are_pressed_at_once(self) -> None:
+        sitting, keys = Sitting(ECHO), random.Random(1).randbytes(1 << 20)
+        begun = perf_counter()
+        sitting.press(keys, 1000)
+        sitting.press(b"first", 1000 - 1)
+        sitting.press(b"last", 1000)
+        self.assertLess(perf_counter() - begun, 5)
+        recorded = bytes(byte for _, byte in sitting.recording().keys)
+        self.assertEqual(recorded, b"first" + keys + b"last")
+
     def test_pressed_keys_come_at_their_times(self) -> None:
         sitting = Sitting(ECHO)
         sitting.press(b"b", 500)
@@ -383,12 +382,13 @@ class Keyboard(unittest.TestCase):
     def test_what_can_be_typed(self) -> None:
         sitting = Sitting(ECHO)
         sitting.type("")
-        sitting.type("\xff\x00")
+        sitting.type("\xe9\x00")
         sitting.type(b"\x80")
+        sitting.type(os.fsdecode(b"\xff"))
         sitting.run(2000)
-        self.assertEqual(sitting.display_bytes, b"\xff\x00\x80")
+        self.assertEqual(sitting.display_bytes, b"\xc3\xa9\x00\x80\xff")
         with self.assertRaises(UnicodeEncodeError):
-            sitting.type("\u20ac")
+            sitting.type("\ud800")
         for wrong in (5, None, [1]):
             with self.assertRaises(TypeError):
                 sitting.type(wrong)  # type: ignore[arg-type]
@@ -477,6 +477,15 @@ class Altering(unittest.TestCase):
         sitting["TIR"] = 0
         self.assertEqual(sitting.record.timer_count, 0)
 
+    def test_negative_numbers_are_two_s_complements(self) -> None:
+        sitting = Sitting(COUNTING)
+        sitting["R0"], sitting["x4000"], sitting.memory[0x4001] = -1, -32768, -2
+        sitting.memory[0x4002:0x4004] = [-3, 3]
+        self.assertEqual((sitting["R0"], sitting.memory[0x4000]), (0xFFFF, 0x8000))
+        self.assertEqual(sitting.memory[0x4001:0x4004], [0xFFFE, 0xFFFD, 3])
+        with self.assertRaises(Refused):
+            sitting["PSR"] = -1
+
     def test_words_by_name(self) -> None:
         sitting = Sitting(COUNTING)
         self.assertEqual((sitting["x3000"], sitting["X3001"]), (0x1021, 0x0FFE))
@@ -498,9 +507,11 @@ class Altering(unittest.TestCase):
             with self.assertRaises(Refused) as caught:
                 sitting[name] = value
             self.assertEqual(caught.exception.number, 12)
-        for value in (-1, 65536):
-            with self.assertRaises(ValueError):
+        for value in (-32769, 65536):
+            with self.assertRaisesRegex(ValueError, "R0 is .* from -32768 to 65535"):
                 sitting["R0"] = value
+            with self.assertRaisesRegex(ValueError, "a word is .* from -32768 to 65535"):
+                sitting["x3000"] = value
         for name in ("R8", "", "clock", "DSR", "x300", "x10000", "3000", "x300G", None, 0x3000):
             with self.assertRaises(KeyError):
                 sitting[name]
@@ -524,8 +535,10 @@ class Altering(unittest.TestCase):
                 memory[address]
             with self.assertRaises(IndexError):
                 memory[address] = 0
+        memory[0x3000] = "HALT"
+        self.assertEqual(memory.line(0x3000), "TRAP x25")
         with self.assertRaises(lc3.LineError):
-            memory[0x3000] = "HALT"
+            memory[0x3000] = "STOP"
         with self.assertRaisesRegex(ValueError, "3 words are given for a range of 2"):
             memory[0x3000:0x3002] = [1, 2, 3]
         with self.assertRaises(ValueError):
