@@ -49,6 +49,10 @@
 
 #ifdef __cplusplus
 extern "C" {
+typedef bool lc3_bool;
+#else
+/* C89 has it as an extension. */
+__extension__ typedef _Bool lc3_bool;
 #endif
 
 /*
@@ -334,7 +338,7 @@ uint32_t lc3_version(void);
  * a file that is not trusted there is lc3_start_user.
  */
 lc3_started lc3_start(const uint8_t *file, size_t file_len, uint16_t *memory, size_t memory_len,
-                      bool user, uint16_t user_stack);
+                      lc3_bool user, uint16_t user_stack);
 
 /*
  * Starts a file that is not trusted, such as a candidate's: as lc3_start does it in User mode, but
@@ -500,13 +504,19 @@ uint32_t lc3_vectors(lc3_routines routines, uint16_t *output, size_t output_len)
 
 #ifdef __cplusplus
 }
+#endif
+
+/* Compilers that know no assertion refuse an array of -1 elements. */
+#if defined(__cplusplus) && __cplusplus >= 201103L
 #define LC3_LAYOUT(condition) static_assert(condition, #condition)
-#else
+#elif !defined(__cplusplus) && defined(__STDC_VERSION__) && __STDC_VERSION__ >= 201112L
 #define LC3_LAYOUT(condition) _Static_assert(condition, #condition)
+#else
+#define LC3_LAYOUT(condition) extern const char lc3_layout[(condition) ? 1 : -1]
 #endif
 
 /* The library was built for this layout; a compiler that lays out otherwise is told so here. */
-LC3_LAYOUT(sizeof(bool) == 1);
+LC3_LAYOUT(sizeof(lc3_bool) == 1);
 LC3_LAYOUT(sizeof(size_t) == 8);
 
 LC3_LAYOUT(sizeof(lc3_record) == 48);

@@ -1,5 +1,5 @@
-// The header under C++17: that it compiles, twice included, is the test.
+/* The header as C and as C++: that it compiles, twice included, is the test. */
 #include "lc3.h"
 #include "lc3.h"
 
-int main() { return 0; }
+int main(void) { return 0; }

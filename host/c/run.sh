@@ -1,9 +1,10 @@
 #!/bin/sh
-# Compiles the header as C11 and C++17 without a warning, runs the test of the interface and the
-# README's example, and sees that header, library and the shared library's SONAME have one version.
+# Compiles the header by every standard from C89 and C++98 on without a warning, runs the test of
+# the interface and the README's example, and sees that header, library and the shared library's
+# SONAME have one version.
 #
 #   LC3_LIB_DIR   where liblc3.a and liblc3.so are   build
-#   CC, CXX       compilers                          gcc, g++
+#   CC, CXX       compilers                          gcc, g++; clang as well where it is there
 set -eu
 cd "$(dirname "$0")/../.."
 
@@ -17,7 +18,14 @@ trap 'rm -rf "$work"' EXIT
 
 # $strict is a list of words.
 # shellcheck disable=SC2086
-${CXX:-g++} -std=c++17 $strict host/c/header.cpp -o "$work/header"
+header() { # COMPILER LANGUAGE STANDARD..: the header alone, by each standard
+    compiler=$1 language=$2
+    shift 2
+    command -v "$compiler" >/dev/null || return 0
+    for standard; do "$compiler" -x "$language" "-std=$standard" $strict -fsyntax-only host/c/header.cpp; done
+}
+for compiler in "${CC:-gcc}" clang; do header "$compiler" c c89 c99 c11 c17; done
+for compiler in "${CXX:-g++}" clang++; do header "$compiler" c++ c++98 c++11 c++17 c++20; done
 # shellcheck disable=SC2086
 ${CC:-gcc} -std=c11 -O1 -g $strict -fsanitize=address,undefined host/c/interface.c "$lib" \
     -o "$work/interface"
@@ -26,7 +34,6 @@ awk '/^```c$/ { on = 1; next } /^```$/ { on = 0 } on' README.md >"$work/readme.c
 ${CC:-gcc} -std=c11 $strict "$work/readme.c" "$lib" -o "$work/readme"
 # shellcheck disable=SC2086
 ${CC:-gcc} -std=c11 $strict host/c/version.c -L"$dir" -llc3 -o "$work/version"
-"$work/header"
 "$work/readme"
 LD_LIBRARY_PATH=$dir "$work/version"
 "$work/interface"

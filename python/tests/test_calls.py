@@ -63,6 +63,7 @@ class TheHeader(unittest.TestCase):
             for struct in _library.SIZES
         }
         sizes = dict(re.findall(r"sizeof\((lc3_\w+)\) == (\d+)", HEADER))
+        self.assertEqual(sizes.pop("lc3_bool"), str(ctypes.sizeof(ctypes.c_bool)))
         self.assertEqual({n: str(ctypes.sizeof(s)) for n, s in structs.items()}, sizes)
         offsets = re.findall(r"offsetof\((lc3_\w+), (\w+)\) == (\d+)", HEADER)
         for struct, name, offset in offsets:
