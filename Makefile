@@ -3,7 +3,7 @@
 # make test       everything: formatting, the proofs with the wrong programs that must be refused, the host tests
 # make lint       mypy and flake8 on our Python; setup.cfg says how
 # make lib        build/liblc3.a and build/liblc3.so; the header is include/lc3.h
-# make install    library, header, lc3.pc, module, command and manual page, under DESTDIR and PREFIX
+# make install    library, header, lc3.pc, module, command, manual page and examples, under DESTDIR and PREFIX
 # make uninstall  takes away what `make install` put there
 # make bench      time against C: runs, lines of text, and object files
 # make rate       time of the Python module and of the command beside that of lc3_run alone
@@ -31,8 +31,9 @@ MODULES = $(or $(shell $(PYTHON) -c 'import site, sys; lib = sys.argv[1].rstrip(
     places = [*site.getsitepackages(), site.getusersitepackages()]; \
     print(next((p for p in places if p.startswith(lib)), lib + "python3/dist-packages"))' \
     "$(PREFIX)"),$(error $(PYTHON) does not run: name another by PYTHON=))
+DOC = $(PREFIX)/share/doc/lc3
 # What may be left empty of a staged tree, and goes as well then; folders of a system stay.
-FOLDERS = $(LIBDIR)/pkgconfig $(PREFIX)/include $(PREFIX)/bin $(PREFIX)/share/man/man1 $(MODULES)
+FOLDERS = "$(LIBDIR)/pkgconfig" "$(MODULES)" $(foreach part,include bin share/man/man1 share/doc,"$(PREFIX)/$(part)")
 # Tells the system's loader of the library, unless the tree is only staged.
 LOADER = @[ -n "$(DESTDIR)" ] || /sbin/ldconfig 2>/dev/null || \
     echo "Run ldconfig as root, so that programs find $(SONAME)."
@@ -106,25 +107,28 @@ build/liblc3.so: build/$(SONAME)
 
 # `make -o lib install` takes the library as it stands.
 install: lib
-	install -d "$(IN_LIB)/pkgconfig" "$(IN)/include" "$(IN)/bin" "$(IN)/share/man/man1"
+	install -d "$(IN_LIB)/pkgconfig" "$(IN)/include" "$(IN)/bin" "$(IN)/share/man/man1" "$(DESTDIR)$(DOC)/examples"
 	install -m 644 build/liblc3.a build/$(SONAME) "$(IN_LIB)"
 	ln -sf $(SONAME) "$(IN_LIB)/liblc3.so"
 	install -m 644 include/lc3.h "$(IN)/include"
-	sed 's|@PREFIX@|$(PREFIX)|; s|@LIBDIR@|$(LIBDIR:$(PREFIX)/%=$${prefix}/%)|; s|@VERSION@|$(VERSION)|' \
+	sed 's|@PREFIX@|$(PREFIX)|; s|@LIBDIR@|$(subst $(PREFIX)/,$${prefix}/,$(LIBDIR))|; s|@VERSION@|$(VERSION)|' \
 	    tools/lc3.pc.in | install -m 644 /dev/stdin "$(IN_LIB)/pkgconfig/lc3.pc"
 	rm -rf "$(PACKAGE)"
 	find python/lc3 -type f ! -path '*/__pycache__/*' -printf '%P\n' | while read -r file; do \
 	    install -D -m 644 "python/lc3/$$file" "$(PACKAGE)/$$file" || exit; done
 	umask 022 && $(PYTHON) -m compileall -q -s "$(DESTDIR)" -p / "$(PACKAGE)"
-	sed "s|@PYTHON@|$$($(PYTHON) -c 'import sys; print(sys.executable)')|; s|@MODULES@|$(MODULES:$(PREFIX)/%=%)|" \
+	$(PYTHON) -c 'import os, sys; print(os.path.relpath(*sys.argv[1:]))' "$(LIBDIR)/$(SONAME)" "$(MODULES)/lc3" | \
+	    install -m 644 /dev/stdin "$(PACKAGE)/liblc3.path"
+	sed "s|@PYTHON@|$$($(PYTHON) -c 'import sys; print(sys.executable)')|; s|@MODULES@|$(subst $(PREFIX)/,,$(MODULES))|" \
 	    tools/lc3.in | install -m 755 /dev/stdin "$(IN)/bin/lc3"
 	install -m 644 docs/lc3.1 "$(IN)/share/man/man1"
+	install -m 644 examples/*.lst examples/*.obj examples/*.keys "$(DESTDIR)$(DOC)/examples"
 	$(LOADER)
 
 uninstall:
 	rm -f "$(IN_LIB)/liblc3.a" "$(IN_LIB)/$(SONAME)" "$(IN_LIB)/liblc3.so" "$(IN_LIB)/pkgconfig/lc3.pc" \
 	    "$(IN)/include/lc3.h" "$(IN)/bin/lc3" "$(IN)/share/man/man1/lc3.1"
-	rm -rf "$(PACKAGE)"
+	rm -rf "$(PACKAGE)" "$(DESTDIR)$(DOC)"
 	@[ -z "$(DESTDIR)" ] || for folder in $(FOLDERS); do \
 	    (cd "$(DESTDIR)" && rmdir -p --ignore-fail-on-non-empty ".$$folder") 2>/dev/null || true; done
 	$(LOADER)

@@ -5,6 +5,7 @@ from __future__ import annotations
 import argparse
 import os
 import re
+import shlex
 import shutil
 import subprocess
 import tempfile
@@ -88,6 +89,12 @@ def modules() -> set[str]:
     }
 
 
+def examples() -> set[str]:
+    """The programs of the examples, their listings and their keys."""
+    kinds = (".lst", ".obj", ".keys")
+    return {path.name for path in (ROOT / "examples").iterdir() if path.suffix in kinds}
+
+
 @unittest.skipUnless((ROOT / "build" / "liblc3.a").exists(), "no library: `make lib` comes first")
 class Installed(unittest.TestCase):
     """What stands where after ``make install``, and that it works from there."""
@@ -105,7 +112,8 @@ class Installed(unittest.TestCase):
 
     def test_each_file_is_where_it_should_be(self) -> None:
         place = str(self.package.parent.relative_to(self.prefix))
-        expected = {f"{place}/{name}" for name in modules()}
+        expected = {f"{place}/{name}" for name in modules() | {"lc3/liblc3.path"}}
+        expected |= {f"share/doc/lc3/examples/{name}" for name in examples()}
         expected |= {"bin/lc3", "include/lc3.h", "share/man/man1/lc3.1", "lib/pkgconfig/lc3.pc"}
         library = ("liblc3.a", "liblc3.so", f"liblc3.so.{lc3.VERSION}")
         expected |= {f"lib/{name}" for name in library}
@@ -182,6 +190,16 @@ class Installed(unittest.TestCase):
             self.assertEqual((done.returncode, done.stdout), (0, b"Hello, world!\nHalted\n"))
             self.assertFalse(ran.exists())
 
+    def test_the_command_tells_its_versions_without_its_library(self) -> None:
+        said = obey(self.prefix / "bin/lc3", "--version", LC3_LIBRARY="no/liblc3.so")
+        expected = f"lc3 {lc3.__version__}, interface {lc3.VERSION}\n"
+        self.assertEqual((said.returncode, said.stdout), (0, expected))
+
+    def test_the_examples_run(self) -> None:
+        folder = self.prefix / "share/doc/lc3/examples"
+        said = obey(self.prefix / "bin/lc3", "run", folder / "hello.obj")
+        self.assertEqual((said.returncode, said.stdout), (0, "Hello, world!\nHalted\n"))
+
     def test_the_command_by_a_link(self) -> None:
         link = new_folder(self.addCleanup) / "lc3"
         link.symlink_to(self.prefix / "bin/lc3")
@@ -195,6 +213,46 @@ class Installed(unittest.TestCase):
         marking = (self.prefix / "bin/lc3", "mark", "--jobs", "2", "--cases", cases)
         self.assertEqual(obey(*marking, HELLO, HELLO).returncode, 0)
         self.assertEqual(obey(*marking, HELLO, HELLO.with_name("sieve.obj")).returncode, 1)
+
+
+@unittest.skipUnless((ROOT / "build" / "liblc3.a").exists(), "no library: `make lib` comes first")
+class Elsewhere(unittest.TestCase):
+    """Folders of other names, and with spaces in them."""
+
+    def check(self, prefix: str, libraries: str) -> Path:
+        """That the command and a program in C work from a prefix with its folder for libraries,
+        wherever the tree is moved to. It answers where that is."""
+        folder = new_folder(self.addCleanup)
+        make("install", folder / "staged", f"PREFIX={prefix}", f"LIBDIR={prefix}/{libraries}")
+        (folder / "staged").rename(folder / "moved")
+        placed = folder / f"moved{prefix}"
+        said = obey(placed / "bin/lc3", "run", HELLO)
+        self.assertEqual((said.returncode, said.stdout), (0, "Hello, world!\nHalted\n"))
+        program = "import lc3; print(lc3._library.LIBRARY.path)"
+        python = (placed / "bin/lc3").read_text().split()[0][2:]
+        package = next(placed.glob("lib/python3*/*-packages/lc3"))
+        found = obey(python, "-c", program, PYTHONPATH=str(package.parent)).stdout
+        self.assertEqual(found, f"{placed / libraries / f'liblc3.so.{lc3.VERSION}'}\n")
+        return placed
+
+    def test_a_folder_for_libraries_of_any_name(self) -> None:
+        for libraries in ("lib64", "lib/x86_64-linux-gnu", "other/libraries"):
+            self.check("/opt/lc3", libraries)
+
+    def test_spaces_in_paths(self) -> None:
+        placed = self.check("/opt/my machines", "lib of mine")
+        if not (shutil.which("gcc") and shutil.which("pkg-config")):
+            self.skipTest("gcc or pkg-config not found")
+        where = {
+            "PKG_CONFIG_LIBDIR": str(placed / "lib of mine/pkgconfig"),
+            "PKG_CONFIG_SYSROOT_DIR": str(placed.parent.parent),
+        }
+        (placed / "program.c").write_text(PROGRAM)
+        flags = shlex.split(obey("pkg-config", "--cflags", "--libs", "lc3", **where).stdout)
+        made = obey("gcc", "-Wall", placed / "program.c", "-o", placed / "program", *flags)
+        self.assertEqual((made.returncode, made.stderr), (0, ""))
+        said = obey(placed / "program", LD_LIBRARY_PATH=str(placed / "lib of mine"))
+        self.assertEqual(said.stdout, f"{lc3.VERSION} ADD R2, R3, #7\n")
 
 
 @unittest.skipUnless((ROOT / "build" / "liblc3.a").exists(), "no library: `make lib` comes first")
@@ -230,6 +288,7 @@ class Uninstalled(unittest.TestCase):
         self.assertIn("opt/lc3/bin/lc3", found)
 
     def test_a_folder_for_libraries(self) -> None:
+        self.installed("PREFIX=/opt/my machines", "LIBDIR=/opt/my machines/lib64")
         found = self.installed("PREFIX=/usr", "LIBDIR=/usr/lib/x86_64-linux-gnu")
         names = ("liblc3.a", "liblc3.so", "pkgconfig/lc3.pc")
         self.assertLessEqual({f"usr/lib/x86_64-linux-gnu/{name}" for name in names}, found)
@@ -255,7 +314,7 @@ class Manual(unittest.TestCase):
 
     def test_version_and_lines(self) -> None:
         text = MANUAL.read_text(encoding="ascii")
-        self.assertIn(f'"lc3, interface {lc3.VERSION}"', text)
+        self.assertIn(f'"lc3 {lc3.__version__}, interface {lc3.VERSION}"', text)
         self.assertLessEqual(max(map(len, text.splitlines())), 120)
 
 
