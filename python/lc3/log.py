@@ -3,7 +3,8 @@
 from __future__ import annotations
 
 from dataclasses import dataclass
-from typing import TYPE_CHECKING
+from functools import lru_cache
+from typing import TYPE_CHECKING, Callable, cast
 
 from .calls import line
 from .constants import LOG_WORDS
@@ -28,7 +29,7 @@ class LoggedStep:
     @property
     def line(self) -> str:
         """The line of the word fetched; empty where none was."""
-        return "" if self.word is None else line(self.word)
+        return "" if self.word is None else _line(self.word)
 
     def __str__(self) -> str:
         """PC, the word, its line and the reason, in columns.
@@ -38,6 +39,10 @@ class LoggedStep:
         """
         word = "-" if self.word is None else f"x{self.word:04X}"
         return f"x{self.pc:04X}  {word:<5}  {self.line:<16}  {self.reason.text}"
+
+
+# A program obeys few words many times.
+_line = lru_cache(maxsize=4096)(cast("Callable[[int], str]", line))
 
 
 def logged_steps(log: ReadableBuffer) -> list[LoggedStep]:

@@ -4,6 +4,7 @@ from __future__ import annotations
 
 from array import array
 from dataclasses import dataclass
+from struct import Struct
 from typing import Iterable, Sequence
 
 from ._library import RecordStruct
@@ -30,6 +31,7 @@ NAMES: dict[str, int | str] = {
 
 # The bytes of a record's fields of 16 bits, which stand before its clock.
 SHORT_BYTES = RecordStruct.timer_count.offset + 2
+_SHORTS = Struct(f"{SHORT_BYTES // 2}H")
 
 # The place of each register among them.
 _PLACES = {
@@ -153,7 +155,7 @@ def changes(
     """What is not as it was: registers in the order of ``NAMES``, then words by address. ``old``
     are words that may have been replaced, as they were."""
     found = []
-    was, now = (array("H", bytes(record)[:SHORT_BYTES]) for record in (before, after))
+    was, now = _SHORTS.unpack_from(before), _SHORTS.unpack_from(after)
     for name, at in _PLACES.items():
         if was[at] != now[at] and not (name == "PC" and now[at] == (was[at] + 1) & 0xFFFF):
             found.append(Change(name, was[at], now[at]))
