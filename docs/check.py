@@ -1,10 +1,11 @@
 #!/usr/bin/env python3
-"""Checks what the documents say of the files beside them, and exits 1 with a line for each difference.
+"""Checks what the documents say of the files beside them, and exits 1 with a line for each
+difference.
 
-- Each wrong program, crates/CRATE/must-fail/NAME.edit, stands once in the tables of docs/PROOFS.md whose first heading
-  is Edit, as `CRATE/NAME`; and these tables name no other.
-- Each rule that a document, a crate, the header, the Rust wrapper or the Python module cites (M4.1) is in
-  docs/MACHINE.md, once.
+- Each wrong program, crates/CRATE/must-fail/NAME.edit, stands once in the tables of docs/PROOFS.md
+  whose first heading is Edit, as `CRATE/NAME`; and these tables name no other.
+- Each rule that a document, a crate, the header, the Rust wrapper or the Python module cites (M4.1)
+  is in docs/MACHINE.md, once.
 - Each relative link of a document leads to a file.
 
 With an argument, the root of the repository to check; otherwise the one that this file is in.
@@ -21,7 +22,13 @@ RULE = re.compile(r"\bM\d+\.\d+\b")
 DEFINED_RULE = re.compile(r"\*\*(M\d+\.\d+)\*\*")
 LINK = re.compile(r"\]\(([^)\s]+)\)")
 FENCE = re.compile(r"^```.*?^```$", re.MULTILINE | re.DOTALL)
-CITING = ("crates/*/src/**/*.rt", "crates/*/*/**/*.antt", "include/*.h", "host/src/*.rs", "python/*/*.py")
+CITING = (
+    "crates/*/src/**/*.rt",
+    "crates/*/*/**/*.antt",
+    "include/*.h",
+    "host/src/*.rs",
+    "python/*/*.py",
+)
 
 
 def rows(markdown: str) -> Iterator[list[str]]:
@@ -41,22 +48,27 @@ def rows(markdown: str) -> Iterator[list[str]]:
 def edits(root: Path) -> list[str]:
     """Differences between the must-fail edits and those that PROOFS.md lists."""
     text = (root / "docs/PROOFS.md").read_text(encoding="utf-8")
-    listed = Counter(name for heading, first, *_ in rows(text) if heading == "Edit" for name in EDIT.findall(first))
+    first_cells = [first for heading, first, *_ in rows(text) if heading == "Edit"]
+    listed = Counter(name for cell in first_cells for name in EDIT.findall(cell))
     files = {f"{path.parts[-3]}/{path.stem}" for path in root.glob("crates/*/must-fail/*.edit")}
+    missing, unknown = sorted(files - listed.keys()), sorted(listed.keys() - files)
+    repeated = [(name, count) for name, count in sorted(listed.items()) if count > 1]
     return (
-        [f"docs/PROOFS.md: no table of edits has {name}" for name in sorted(files - listed.keys())]
-        + [f"docs/PROOFS.md: no must-fail edit is named {name}" for name in sorted(listed.keys() - files)]
-        + [f"docs/PROOFS.md: {name} stands {count} times" for name, count in sorted(listed.items()) if count > 1]
+        [f"docs/PROOFS.md: no table of edits has {name}" for name in missing]
+        + [f"docs/PROOFS.md: no must-fail edit is named {name}" for name in unknown]
+        + [f"docs/PROOFS.md: {name} stands {count} times" for name, count in repeated]
     )
 
 
 def rules(root: Path, documents: list[Path]) -> list[str]:
     """Rules that are cited and not in MACHINE.md, or are there twice."""
     defined = Counter(DEFINED_RULE.findall((root / "docs/MACHINE.md").read_text(encoding="utf-8")))
-    found = [f"docs/MACHINE.md: {rule} stands {count} times" for rule, count in defined.items() if count > 1]
+    repeated = [(rule, count) for rule, count in defined.items() if count > 1]
+    found = [f"docs/MACHINE.md: {rule} stands {count} times" for rule, count in repeated]
     for path in [*documents, *(path for pattern in CITING for path in sorted(root.glob(pattern)))]:
         cited = set(RULE.findall(path.read_text(encoding="utf-8"))) - defined.keys()
-        found += [f"{path.relative_to(root)}: docs/MACHINE.md has no {rule}" for rule in sorted(cited)]
+        name = path.relative_to(root)
+        found += [f"{name}: docs/MACHINE.md has no {rule}" for rule in sorted(cited)]
     return found
 
 
@@ -71,6 +83,7 @@ def links(root: Path, documents: list[Path]) -> list[str]:
 
 
 def main() -> int:
+    """Checks the documents of a repository."""
     root = Path(sys.argv[1] if len(sys.argv) > 1 else Path(__file__).parent.parent).resolve()
     documents = [*sorted(root.glob("*.md")), *sorted(root.glob("docs/**/*.md"))]
     found = edits(root) + rules(root, documents) + links(root, documents)

@@ -15,7 +15,7 @@ from bisect import bisect_right
 from copy import copy
 from os import PathLike, fspath
 from signal import SIGINT
-from typing import TYPE_CHECKING, Any, Iterable, Iterator, NamedTuple, Sequence, Union
+from typing import TYPE_CHECKING, Any, Iterator, MutableSet, NamedTuple, Sequence, Union
 
 from . import calls
 from .breakpoints import Breakpoints
@@ -329,12 +329,12 @@ than two: an object file is an origin and words, of two bytes each
         return self.lines(self["PC"], 1)[0]
 
     @property
-    def breakpoints(self) -> Breakpoints:
+    def breakpoints(self) -> MutableSet[int]:
         """The addresses before whose instructions a run stops."""
         return self._breakpoints
 
     @breakpoints.setter
-    def breakpoints(self, addresses: Iterable[int]) -> None:
+    def breakpoints(self, addresses: MutableSet[int]) -> None:
         """Replaces the breakpoints."""
         breakpoints = Breakpoints(self._use, addresses)
         with self._use:

@@ -52,7 +52,8 @@ class Ran(NamedTuple):
 
 def ran(*arguments: object, keys: bytes | None = None) -> Ran:
     """Runs the command in this process; ``keys`` come by a pipe, and without them none."""
-    out, err = (io.TextIOWrapper(io.BytesIO(), "utf-8") for _ in range(2))
+    written = io.BytesIO(), io.BytesIO()
+    out, err = (io.TextIOWrapper(stream, "utf-8") for stream in written)
     with ExitStack() as stack:
         stdin: Any = stack.enter_context(open(os.devnull))
         if keys is not None:
@@ -63,8 +64,9 @@ def ran(*arguments: object, keys: bytes | None = None) -> Ran:
         for name, stream in (("stdin", stdin), ("stdout", out), ("stderr", err)):
             stack.enter_context(mock.patch(f"sys.{name}", stream))
         code = main([str(argument) for argument in arguments])
-    out.flush(), err.flush()
-    return Ran(code, out.buffer.getvalue(), err.buffer.getvalue().decode())
+    out.flush()
+    err.flush()
+    return Ran(code, written[0].getvalue(), written[1].getvalue().decode())
 
 
 def process(*arguments: object, keys: bytes = b"", **settings: Any) -> Ran:

@@ -14,6 +14,7 @@ import subprocess
 import sys
 import tempfile
 import time
+from functools import partial
 from pathlib import Path
 from typing import Callable
 
@@ -87,7 +88,7 @@ def marking(folder: Path, count: int) -> None:
         for jobs in sorted({1, processors()}):
             options = ("mark", "--cases", cases, "--steps", 20_000_000, "--jobs", jobs)
             arguments = (*options, *[candidate] * count)
-            works[f"{verdict}, --jobs {jobs}"] = lambda given=arguments: process(*given)
+            works[f"{verdict}, --jobs {jobs}"] = partial(process, *arguments)
     times = least(works, TURNS)
     base = times.pop("alone")
     print(f"lc3_run alone, {count} machines of 10 million steps: {base:.3f} s")

@@ -4,6 +4,7 @@ from __future__ import annotations
 
 import random
 from array import array
+from typing import List, Union
 
 import lc3
 
@@ -11,6 +12,9 @@ from .reference import Simulator
 
 COUNTING = bytes.fromhex("3000 1021 0FFE")  # ADD R0, R0, #1; BRnzp #-2
 ECHO = bytes.fromhex("3000 F020 F021 0FFD")  # GETC; OUT; BRnzp #-3
+
+# The words of a program, as numbers or as lines of text.
+Words = List[Union[int, str]]
 
 # Words that reach devices and stacks, beside words that are plain.
 LIKELY = [0xFE00, 0xFE02, 0xFE04, 0xFE06, 0xFE08, 0xFE0A, 0xFFFC, 0xFFFE]

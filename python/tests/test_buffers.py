@@ -71,7 +71,8 @@ class RightBuffers(unittest.TestCase):
             self.assertEqual(bytes(output)[:15], b"ADD R2, R3, #7\n")
 
     def test_empty_buffers(self) -> None:
-        for empty in (b"", bytearray(), array("B"), memoryview(b""), memoryview(bytearray(4))[4:]):
+        buffers: list[Any] = [b"", bytearray(), array("B"), memoryview(b"")]
+        for empty in [*buffers, memoryview(bytearray(4))[4:]]:
             self.assertEqual(lc3.run(user(), fresh(), NO_TIMES, empty, bytearray(), 1).keys, 0)
 
     def test_what_is_only_read_may_be_shared(self) -> None:
@@ -110,10 +111,10 @@ class WrongBuffers(unittest.TestCase):
         self.wrong(TypeError, "keys must be a buffer.*not a str", keys="abc")
 
     def test_elements_of_another_type(self) -> None:
-        size = 2 * lc3.MEMORY_WORDS
+        size, big_endian = 2 * lc3.MEMORY_WORDS, getattr(ctypes.c_uint16, "__ctype_be__")
         for memory in (bytearray(size), array("h", bytes(size)), array("I", bytes(2 * size)),
                        array("f", bytes(2 * size)), memoryview(bytearray(size)).cast("h"),
-                       (ctypes.c_uint16.__ctype_be__ * lc3.MEMORY_WORDS)()):
+                       (big_endian * lc3.MEMORY_WORDS)()):
             self.wrong(TypeError, "memory must hold unsigned 16-bit words", memory)
         self.wrong(TypeError, "times must hold unsigned 64-bit", times=array("q", [1]), keys=b"a")
         self.wrong(TypeError, "times must hold unsigned 64-bit", times=array("I", [1]), keys=b"a")

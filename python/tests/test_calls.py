@@ -6,6 +6,7 @@ import ctypes
 import re
 import unittest
 from array import array
+from dataclasses import replace
 from typing import Any, Callable
 
 import lc3
@@ -34,7 +35,7 @@ def header_constants() -> dict[str, int]:
     }
     for body in re.findall(r"enum \{(.*?)\}", plain, re.DOTALL):
         following = 0
-        for item in filter(None, (part.strip() for part in body.split(","))):
+        for item in re.findall(r"\w[^,]*\w", body):
             name, _, value = item.partition(" = ")
             found[name[4:]] = following = number(value) if value else following
             following += 1
@@ -241,15 +242,17 @@ class AcceptedCalls(unittest.TestCase):
 
     def test_numbers_that_do_not_fit_are_never_cut(self) -> None:
         memory = fresh()
-        for call in (lc3.read, lc3.line, lc3.line_length):
+        calls: list[Callable[[Any], object]] = [lc3.read, lc3.line, lc3.line_length]
+        for call in calls:
             for word in (-1, 65536):
                 with self.assertRaisesRegex(ValueError, "word is"):
                     call(word)
             with self.assertRaisesRegex(TypeError, "whole number"):
-                call(1.5)  # type: ignore[arg-type]
+                call(1.5)
         for name in SHORT_FIELDS:
             with self.assertRaisesRegex(ValueError, f"{name} is 65536"):
-                lc3.run(lc3.Record(**{name: 65536}), memory, NO_TIMES, b"", bytearray(), 0)
+                wrong = replace(lc3.Record(), **{name: 65536})
+                lc3.run(wrong, memory, NO_TIMES, b"", bytearray(), 0)
         for record in (lc3.Record(regs=[0] * 7), lc3.Record(regs=[1 << 16] + [0] * 7)):
             with self.assertRaises(ValueError):
                 lc3.step(record, memory, NO_TIMES, b"", bytearray())

@@ -65,12 +65,12 @@ class Logging(Folder):
         self.assertIn("MCR x8000 -> x0000", out)
 
     def test_reasons(self) -> None:
-        for words, reason in (
-            (["RTI"], "privilege exception"),
-            ([0xD000], "illegal opcode exception"),
-            (["LDR R0, R0, #0"], "access exception"),
+        for word, reason in (
+            (0x8000, "privilege exception"),
+            (0xD000, "illegal opcode exception"),
+            (0x6000, "access exception"),
         ):
-            out = ran("log", self.file("wrong.obj", object_file(0x3000, *words))).out.decode()
+            out = ran("log", self.file("wrong.obj", object_file(0x3000, word))).out.decode()
             self.assertIn(reason, out.splitlines()[1])
 
     def test_last(self) -> None:
@@ -107,8 +107,8 @@ class Logging(Folder):
         self.assertEqual((code, again), (1, out))
         code, out, _ = ran("log", "--replay", saved, "--steps", 1)
         self.assertEqual((code, len(out.splitlines())), (1, 2))
-        out = ran("log", "--edition", 2, "--no-monitor", "--steps", 1, hello).out.decode()
-        self.assertIn("R0 x0000 -> x3003, PSR x8002 -> x8001", out)
+        out = ran("log", "--edition", 2, "--no-monitor", "--steps", 1, hello).out
+        self.assertIn(b"R0 x0000 -> x3003, PSR x8002 -> x8001", out)
         self.assertEqual(ran("log", "--edition", 2, hello).code, 2)
 
     def test_random_programs_against_the_trace(self) -> None:

@@ -10,7 +10,7 @@ import time
 import lc3
 
 from .command_support import ENDLESS, ENVIRONMENT, HELLO, PYTHON, UNTIL_Q, Folder, process, ran
-from .support import COUNTING, ECHO, object_file
+from .support import COUNTING, ECHO, Words, object_file
 
 
 class Running(Folder):
@@ -58,9 +58,9 @@ class Running(Folder):
 
     def test_the_end_of_the_keys(self) -> None:
         program = self.file("until.obj", UNTIL_Q)
-        for given in ({"keys": b"ab"}, {}):
-            code, out, err = ran("run", program, **given)
-            self.assertEqual((code, out), (1, given.get("keys", b"")))
+        for given in (b"ab", None):
+            code, out, err = ran("run", program, keys=given)
+            self.assertEqual((code, out), (1, given or b""))
             self.assertIn("the program waits for a key, and no more keys come; ", err)
             self.assertIn("; PC x3000: TRAP x20", err)
 
@@ -80,7 +80,7 @@ class Running(Folder):
 
     def test_a_program_that_polls_gets_its_keys(self) -> None:
         # In Supervisor mode: R1 counts, until KBSR is negative; then KBDR is shown and it halts.
-        words = ["ADD R1, R1, #1", "LDI R0, #5", "BRzp #-3", "LDI R0, #4", "STI R0, #4"]
+        words: Words = ["ADD R1, R1, #1", "LDI R0, #5", "BRzp #-3", "LDI R0, #4", "STI R0, #4"]
         words += ["TRAP x25", 0, 0xFE00, 0xFE02, 0xFE06]
         program = self.file("poll.obj", object_file(0x3000, *words))
         code, out, _ = ran("run", "--supervisor", program, keys=b"k")
@@ -129,7 +129,7 @@ class Running(Folder):
 
     def test_all_bytes_of_the_display(self) -> None:
         # Shows R0 from 0 to 255, waiting for DSR each time.
-        words = ["LDI R2, #7", "BRzp #-2", "STI R0, #6", "ADD R0, R0, #1", "LD R3, #5"]
+        words: Words = ["LDI R2, #7", "BRzp #-2", "STI R0, #6", "ADD R0, R0, #1", "LD R3, #5"]
         words += ["ADD R3, R0, R3", "BRn #-7", "TRAP x25", 0xFE04, 0xFE06, -256 & 0xFFFF]
         program = self.file("bytes.obj", object_file(0x3000, *words))
         code, out, _ = ran("run", "--supervisor", program)
@@ -194,6 +194,7 @@ class Processes(Folder):
             stderr=subprocess.PIPE,
             env=ENVIRONMENT,
         ) as running:
+            assert running.stdin and running.stdout and running.stderr
             for key in b"abq":
                 # Each key is answered at once, before the next one is there.
                 os.write(running.stdin.fileno(), bytes([key]))
@@ -257,6 +258,7 @@ class Processes(Folder):
                     time.sleep(0.01)
                 time.sleep(0.05)
                 running.send_signal(number)
+                assert running.stderr
                 self.assertIn(said, running.stderr.read())
                 self.assertEqual(running.wait(20), code)
             replayed = lc3.Sitting.replay(saved)

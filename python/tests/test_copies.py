@@ -6,6 +6,7 @@ import copy
 import pickle
 import random
 import unittest
+from functools import partial
 from typing import Callable
 from unittest import mock
 
@@ -15,16 +16,19 @@ from lc3 import Sitting
 from .support import COUNTING, ECHO, object_file, random_keys, random_memory, random_record
 from .support import sitting_of, whole_state
 
-COPIES: dict[str, Callable[[Sitting], Sitting]] = {
-    "copy": copy.copy,
-    "deepcopy": copy.deepcopy,
-    **{
-        f"pickle {protocol}": lambda sitting, protocol=protocol: pickle.loads(
-            pickle.dumps(sitting, protocol)
-        )
-        for protocol in range(pickle.HIGHEST_PROTOCOL + 1)
-    },
-}
+
+def pickled(sitting: Sitting, protocol: int) -> Sitting:
+    """A copy of a sitting by a protocol of pickle."""
+    made = pickle.loads(pickle.dumps(sitting, protocol))
+    assert isinstance(made, Sitting)
+    return made
+
+
+COPIES: dict[str, Callable[[Sitting], Sitting]] = {"copy": copy.copy, "deepcopy": copy.deepcopy}
+for _protocol in range(pickle.HIGHEST_PROTOCOL + 1):
+    COPIES[f"pickle {_protocol}"] = partial(pickled, protocol=_protocol)
+
+MAKERS: tuple[Callable[[object], object], ...] = (copy.copy, copy.deepcopy, pickle.dumps)
 
 
 def everything(sitting: Sitting) -> tuple[object, ...]:
@@ -140,17 +144,17 @@ class Copies(unittest.TestCase):
 
     def test_pickles_of_another_version_are_refused(self) -> None:
         with mock.patch("lc3.sitting.__version__", "0.0.9"):
-            pickled = pickle.dumps(Sitting(COUNTING))
+            other = pickle.dumps(Sitting(COUNTING))
         expected = f"pickled by version 0.0.9 of lc3, and this is {lc3.__version__}"
         with self.assertRaisesRegex(ValueError, expected):
-            pickle.loads(pickled)
+            pickle.loads(other)
 
     def test_memory_and_breakpoints_belong_to_their_sitting(self) -> None:
         sitting = Sitting(COUNTING)
         for part in (sitting.memory, sitting.breakpoints):
-            for make in (copy.copy, copy.deepcopy, pickle.dumps):
+            for make in MAKERS:
                 with self.assertRaisesRegex(TypeError, "part of (its|a) sitting"):
-                    make(part)  # type: ignore[operator]
+                    make(part)
 
 
 if __name__ == "__main__":

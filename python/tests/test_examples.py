@@ -9,7 +9,7 @@ from array import array
 import lc3
 
 from . import ROOT
-from .support import ECHO, fresh, object_file, user
+from .support import ECHO, Words, fresh, object_file, user
 
 # What the vectors hold, so that PC tells which one was taken.
 VECTORS = {0x0025: 0x1025, 0x0100: 0x1100, 0x0101: 0x1101, 0x0102: 0x1102, 0x0180: 0x1180}
@@ -88,8 +88,8 @@ class KnownPrograms(unittest.TestCase):
     """Programs whose display is known."""
 
     def test_the_readme_s_program(self) -> None:
-        words = ["LD R0, #3", "STI R0, #3", "AND R0, R0, #0", "STI R0, #2", 0x41, 0xFE06, 0xFFFE]
-        file = object_file(0x3000, *words)
+        words = ["LD R0, #3", "STI R0, #3", "AND R0, R0, #0", "STI R0, #2"]
+        file = object_file(0x3000, *words, 0x41, 0xFE06, 0xFFFE)
         sitting = lc3.Sitting(file, monitor=False, mode=lc3.Mode.SUPERVISOR)
         self.assertEqual(sitting.run(1000), lc3.Report(4, 0, 1, lc3.Stop.HALTED))
         self.assertEqual(sitting.display, "A")
@@ -130,9 +130,9 @@ class KnownPrograms(unittest.TestCase):
     def test_a_timer_interrupts(self) -> None:
         # In Supervisor mode: TIR becomes 10, TSR's enable is set, and then a loop; at x4000 the
         # routine of the timer counts in R3, clears ready by a load, and returns.
-        main = ["LD R0, #5", "STI R0, #5", "LD R0, #5", "STI R0, #5", "BRnzp #-1", 0]
+        main: Words = ["LD R0, #5", "STI R0, #5", "LD R0, #5", "STI R0, #5", "BRnzp #-1", 0]
         main += [10, 0xFE0A, 0x4000, 0xFE08]
-        routine = ["ADD R3, R3, #1", "LDI R1, #1", "RTI", 0xFE08]
+        routine: Words = ["ADD R3, R3, #1", "LDI R1, #1", "RTI", 0xFE08]
         sitting = lc3.Sitting(
             object_file(0x4000, *routine),
             object_file(0x3000, *main),
@@ -145,8 +145,8 @@ class KnownPrograms(unittest.TestCase):
 
     def test_keys_by_interrupt(self) -> None:
         # The keyboard's interrupt is enabled; its routine loads KBDR and adds the key to R3.
-        routine = ["LDI R1, #2", "ADD R3, R3, R1", "RTI", 0xFE02]
-        main = ["LD R0, #2", "STI R0, #2", "BRnzp #-1", 0x4000, 0xFE00]
+        routine: Words = ["LDI R1, #2", "ADD R3, R3, R1", "RTI", 0xFE02]
+        main: Words = ["LD R0, #2", "STI R0, #2", "BRnzp #-1", 0x4000, 0xFE00]
         sitting = lc3.Sitting(
             object_file(0x4000, *routine),
             object_file(0x3000, *main),
@@ -160,7 +160,7 @@ class KnownPrograms(unittest.TestCase):
 
     def test_the_second_edition_links_by_r7(self) -> None:
         # TRAP x40 leads to x4000, which returns by RET; LEA sets the codes.
-        main = [0xF040, "LEA R0, #0", "BRp #-1"]
+        main: Words = [0xF040, "LEA R0, #0", "BRp #-1"]
         files = [object_file(0x4000, "ADD R1, R1, #5", "RET"), object_file(0x3000, *main)]
         sitting = lc3.Sitting(*files, monitor=False, edition=2)
         sitting.memory[0x0040] = 0x4000

@@ -173,10 +173,15 @@ class InUse(unittest.TestCase):
 
     def test_a_use_that_ends_by_an_error_is_over(self) -> None:
         sitting = Sitting(COUNTING)
-        for wrong in (lambda: sitting.run(-1), lambda: sitting.press(b"a", -1),
-                      lambda: sitting.load(b"\x30"), lambda: sitting.__setitem__("PSR", 8)):
-            with self.assertRaises((ValueError, lc3.Refused)):
-                wrong()
+        wrong: dict[str, Callable[[], object]] = {
+            "steps": lambda: sitting.run(-1),
+            "a time": lambda: sitting.press(b"a", -1),
+            "a file": lambda: sitting.load(b"\x30"),
+            "a value": lambda: sitting.__setitem__("PSR", 8),
+        }
+        for name, use in wrong.items():
+            with self.subTest(name), self.assertRaises((ValueError, lc3.Refused)):
+                use()
         self.assertEqual(sitting.run(5).steps, 5)
 
 
@@ -240,8 +245,8 @@ class Handlers(unittest.TestCase):
     @staticmethod
     def runs(edition: lc3.Edition, text: str) -> Sitting:
         """A sitting with keys to come. By the second edition's rules a loop shows them."""
-        words = ["LDI R0, #5", "BRzp #-2", "LDI R0, #4", "STI R0, #4", "BRnzp #-5", 0]
-        file = object_file(0x3000, *words, 0xFE00, 0xFE02, 0xFE06)
+        words = ["LDI R0, #5", "BRzp #-2", "LDI R0, #4", "STI R0, #4", "BRnzp #-5"]
+        file = object_file(0x3000, *words, 0, 0xFE00, 0xFE02, 0xFE06)
         sitting = Sitting(file, mode=lc3.Mode.SUPERVISOR, edition=edition, monitor=False)
         sitting.breakpoints = {0x5000}
         sitting.type(text)
@@ -306,7 +311,8 @@ class Handlers(unittest.TestCase):
         self.assertIs(signal.getsignal(signal.SIGUSR1), signal.SIG_IGN)
 
     def test_a_handler_that_uses_the_sitting(self) -> None:
-        sitting, told = Sitting(STORING), []
+        sitting = Sitting(STORING)
+        told: list[object] = []
 
         def use(_number: int, _frame: object) -> None:
             """Makes a step more, where it may."""

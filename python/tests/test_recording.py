@@ -18,8 +18,7 @@ from lc3.recording import RegisterAlteration, sealed
 
 from .command_support import HELLO
 from .support import COUNTING, ECHO, object_file, random_keys, random_memory, random_record
-from .support import sitting_of
-from .test_sitting import whole_state
+from .support import sitting_of, whole_state
 
 
 def lived(seed: int) -> Sitting:

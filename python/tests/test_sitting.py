@@ -11,11 +11,13 @@ import unittest
 from array import array
 from pathlib import Path
 from time import perf_counter
+from typing import Any
 
 import lc3
 from lc3 import Refused, Sitting, Stop
+from lc3.sitting import File
 
-from .support import COUNTING, ECHO, fresh, object_file, random_keys, random_memory
+from .support import COUNTING, ECHO, Words, fresh, object_file, random_keys, random_memory
 from .support import random_record, simulator, sitting_of, user, whole_state
 
 THIRD, SECOND = lc3.Edition.THIRD, lc3.Edition.SECOND
@@ -28,7 +30,8 @@ class Loading(unittest.TestCase):
         with tempfile.TemporaryDirectory() as folder:
             path = Path(folder) / "count.obj"
             path.write_bytes(COUNTING)
-            for file in (path, str(path), COUNTING, bytearray(COUNTING), memoryview(COUNTING)):
+            files: list[File] = [path, str(path), COUNTING]
+            for file in [*files, bytearray(COUNTING), memoryview(COUNTING)]:
                 sitting = Sitting(file)
                 self.assertEqual((sitting["PC"], sitting.memory[0x3001]), (0x3000, 0x0FFE))
             self.assertEqual(Sitting(path).programs, [lc3.Program(str(path), 0x3000, 2)])
@@ -303,7 +306,7 @@ class Keyboard(unittest.TestCase):
 
     def test_a_key_arrives_when_the_last_was_read(self) -> None:
         # It waits 5,000 steps between two keys: LDI R0, KBSR; BRzp; LDI R0, KBDR; count down.
-        words = ["LDI R0, #8", "BRzp #-2", "LDI R0, #7", "ADD R2, R2, R0", "LD R1, #6"]
+        words: Words = ["LDI R0, #8", "BRzp #-2", "LDI R0, #7", "ADD R2, R2, R0", "LD R1, #6"]
         words += ["ADD R1, R1, #-1", "BRp #-2", "ADD R3, R3, #1", "BRnzp #-9"]
         words += [0xFE00, 0xFE02, 2500]
         sitting = Sitting(object_file(0x3000, *words), mode=lc3.Mode.SUPERVISOR)
@@ -320,7 +323,8 @@ class Keyboard(unittest.TestCase):
 
     def test_when_the_keyboard_is_looked_at(self) -> None:
         # R1 counts down from a number, then KBDR is loaded once: at step 2 * number + 1.
-        words = ["LD R1, #5", "ADD R1, R1, #-1", "BRp #-2", "LDI R0, #3", "BRnzp #-1", 0, 0, 0xFE02]
+        words: Words = ["LD R1, #5", "ADD R1, R1, #-1", "BRp #-2", "LDI R0, #3", "BRnzp #-1"]
+        words += [0, 0, 0xFE02]
         for number in (1, 15, 16, 100, 1000, 30_000):
             words[6] = number
             sitting = Sitting(object_file(0x3000, *words), mode=lc3.Mode.SUPERVISOR)
@@ -407,7 +411,8 @@ class Keyboard(unittest.TestCase):
             sitting.run(100)
             self.assertEqual((sitting.waits(), sitting.idle()), (False, lc3.EndKind.LOOP))
         # A loop that leaves its registers as they were and counts in memory.
-        words = ["LD R0, #5", "ADD R0, R0, #1", "ST R0, #3", "AND R0, R0, #0", "BRnzp #-5", 0, 0]
+        words: Words = ["LD R0, #5", "ADD R0, R0, #1", "ST R0, #3", "AND R0, R0, #0", "BRnzp #-5"]
+        words += [0, 0]
         sitting = Sitting(object_file(0x3000, *words))
         self.assertFalse(sitting.waits())
 
@@ -416,11 +421,12 @@ class Display(unittest.TestCase):
     """It grows, or it is limited."""
 
     # For ever: wait for DSR, then show R0's low byte and count on.
-    WORDS = ["LDI R1, #4", "BRzp #-2", "STI R0, #3", "ADD R0, R0, #1", "BRnzp #-5", 0xFE04, 0xFE06]
+    WORDS: Words = ["LDI R1, #4", "BRzp #-2", "STI R0, #3", "ADD R0, R0, #1", "BRnzp #-5"]
 
-    def sitting(self, **options: int) -> Sitting:
-        file = object_file(0x3000, *self.WORDS)
-        return Sitting(file, mode=lc3.Mode.SUPERVISOR, monitor=False, **options)
+    def sitting(self, display_limit: int | None = None) -> Sitting:
+        file = object_file(0x3000, *self.WORDS, 0xFE04, 0xFE06)
+        mode = lc3.Mode.SUPERVISOR
+        return Sitting(file, mode=mode, monitor=False, display_limit=display_limit)
 
     def test_it_grows(self) -> None:
         sitting = self.sitting()
@@ -503,16 +509,17 @@ class Altering(unittest.TestCase):
     def test_what_no_register_takes(self) -> None:
         sitting = Sitting(COUNTING)
         before = sitting.record
-        for name, value in {"PSR": 8, "KBSR": 1, "KBDR": 256, "MCR": 1, "TSR": 1}.items():
+        for register, value in {"PSR": 8, "KBSR": 1, "KBDR": 256, "MCR": 1, "TSR": 1}.items():
             with self.assertRaises(Refused) as caught:
-                sitting[name] = value
+                sitting[register] = value
             self.assertEqual(caught.exception.number, 12)
         for value in (-32769, 65536):
             with self.assertRaisesRegex(ValueError, "R0 is .* from -32768 to 65535"):
                 sitting["R0"] = value
             with self.assertRaisesRegex(ValueError, "a word is .* from -32768 to 65535"):
                 sitting["x3000"] = value
-        for name in ("R8", "", "clock", "DSR", "x300", "x10000", "3000", "x300G", None, 0x3000):
+        wrong: list[Any] = ["R8", "", "clock", "DSR", "x300", "x10000", "3000", "x300G"]
+        for name in [*wrong, None, 0x3000]:
             with self.assertRaises(KeyError):
                 sitting[name]
             with self.assertRaises(KeyError):

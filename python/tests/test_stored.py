@@ -9,6 +9,7 @@ from array import array
 from typing import Any, NamedTuple
 
 import lc3
+from lc3.records import SHORT_FIELDS
 
 from . import ROOT
 from .support import sitting_of
@@ -47,7 +48,8 @@ def record(text: str) -> lc3.Record:
     """A record of the file: words, and the clock."""
     *words, clock = parts(text)
     numbers = [int(word, 16) for word in words]
-    return lc3.Record(numbers[:8], *numbers[8:], clock=int(clock))
+    shorts = dict(zip(SHORT_FIELDS, numbers[8:]))
+    return lc3.Record(regs=numbers[:8], clock=int(clock), **shorts)
 
 
 def planted(memory: array[int], text: str) -> array[int]:
@@ -168,7 +170,9 @@ class StoredSittings(unittest.TestCase):
     def test_in_whole_in_pieces_and_replayed(self) -> None:
         for number, run in enumerate(ACCEPTED):
             whole, pieces = self.sitting(run), self.sitting(run)
-            self.assertEqual(whole.run(run.n), lc3.Report(*run.answer[2:5], lc3.Stop(run.answer[5])))
+            steps, keys, shown, stop = run.answer[2:6]
+            expected = lc3.Report(steps, keys, shown, lc3.Stop(stop))
+            self.assertEqual(whole.run(run.n), expected)
             self.check(whole, run, number)
             rng = random.Random(number)
             while pieces.clock < run.after.clock:
