@@ -2,7 +2,9 @@
 
 Each takes what the header says, in its order; ``keys`` are its ``bytes``. Buffers are lent: see
 ``lc3.buffers``. A refused call raises ``Refused`` and has altered nothing. Nothing is kept between
-calls, and several threads may call at once.
+calls, and several threads may call at once. Where a handler of a signal raises in the middle of a
+run, its answer is lost, and with it the record that belongs to the memory as it is then; a step is
+finished first, and so is every call of a ``Sitting``.
 
 >>> from array import array
 >>> memory = array("H", bytes(2 * MEMORY_WORDS))
@@ -21,6 +23,7 @@ from typing import TYPE_CHECKING, Any, Callable, overload
 from ._library import LIBRARY
 from .buffers import BYTE, TIME, WORD, Lending
 from .constants import MAX_LINE, MEMORY_WORDS, VECTOR_WORDS
+from .exclusive import Exclusive
 from .records import LONG_LIMIT, WORD_LIMIT, Instruction, LoggedRun, Reading, Record, Refused
 from .records import Report, Routines, Run, Started, Stop, whole
 
@@ -122,11 +125,12 @@ def _step_by(
 ) -> Report:
     """Makes a step by the call of one of the editions."""
     struct = record.to_c()
-    with Lending() as lending:
+    # A handler of a signal that raises shall not part the record from its memory.
+    with Exclusive(), Lending() as lending:
         buffers = _lend_run(lending, memory, times, keys, output)
         report = call(ctypes.addressof(struct), *buffers)
-    _accepted(report.refusal, report.index)
-    record.take(struct)
+        _accepted(report.refusal, report.index)
+        record.take(struct)
     return Report(report.steps, report.keys, report.shown, Stop(report.stop))
 
 

@@ -4,7 +4,7 @@ from __future__ import annotations
 
 from dataclasses import dataclass
 from functools import lru_cache
-from typing import TYPE_CHECKING, Callable, cast
+from typing import TYPE_CHECKING
 
 from .calls import line
 from .constants import LOG_WORDS
@@ -41,8 +41,10 @@ class LoggedStep:
         return f"x{self.pc:04X}  {word:<5}  {self.line:<16}  {self.reason.text}"
 
 
-# A program obeys few words many times.
-_line = lru_cache(maxsize=4096)(cast("Callable[[int], str]", line))
+@lru_cache(maxsize=4096)
+def _line(word: int) -> str:
+    """The line of a word, kept for the next time: a program obeys few words many times."""
+    return line(word)
 
 
 def logged_steps(log: ReadableBuffer) -> list[LoggedStep]:

@@ -11,15 +11,18 @@ import sys
 import tempfile
 import threading
 import unittest
+from array import array
 from pathlib import Path
 from time import sleep
 from typing import Any, Callable
+from unittest import mock
 
 import lc3
 from lc3 import InUseError, Sitting, Stop
+from lc3._library import LIBRARY
 
 from . import ROOT
-from .support import COUNTING, ECHO, object_file, whole_state
+from .support import COUNTING, ECHO, fresh, object_file, user, whole_state
 
 # R0 counts, and x3004 has the same number after each round of three steps.
 STORING = object_file(0x3000, "ADD R0, R0, #1", "ST R0, #2", "BRnzp #-3", 0, 0)
@@ -347,6 +350,21 @@ class Handlers(unittest.TestCase):
         self.assertEqual(reports, [other.run(30_000_000)])
         self.assertGreater(raised, 3)
         self.assertEqual(whole_state(sitting), whole_state(other))
+
+    def test_a_step_of_the_host_s_own_record(self) -> None:
+        memory, record = fresh(), user()
+        memory[0x3000] = lc3.word("ST R6, #5")
+
+        def act(*lent: Any) -> Any:
+            """The call, and a signal before its answer is booked."""
+            answer = usual(*lent)
+            signal.raise_signal(signal.SIGUSR1)
+            return answer
+
+        usual = LIBRARY.lc3_step
+        with mock.patch.object(LIBRARY, "lc3_step", act), self.assertRaises(Late):
+            lc3.step(record, memory, array("Q"), b"", bytearray())
+        self.assertEqual((memory[0x3006], record.pc, record.clock), (0xFDFF, 0x3001, 1))
 
     def test_a_pipe_that_nobody_writes_can_be_left(self) -> None:
         with tempfile.TemporaryDirectory() as folder:
