@@ -8,7 +8,6 @@ from __future__ import annotations
 
 import argparse
 import signal
-import sys
 from contextlib import closing
 from typing import Iterator, Sequence
 
@@ -17,34 +16,31 @@ from .candidates import Found, found_in
 from .cases import cases_of
 from .files import check_edition, object_files, sitting_of
 from .marking import Marking, Result
-from .messages import Code, CommandError, say, tell
+from .messages import Code, CommandError, say
 from .options import processors
-from .output import Output
+from .output import Bar, Output
 from .report import FORMS, Form, Total
 from .terminal import Signals, die
 from .workers import marked
-
-# The columns of the progress bar.
-BAR = 30
 
 
 def command(options: argparse.Namespace) -> Code:
     """Marks as the options have it, and answers the exit code."""
     try:
         found = found_in(options.candidates, options.follow_links)
+        if options.form == "one" and len(found) != 1:
+            text = f"--one marks one file, and {len(found)} are named or found in the folders"
+            raise CommandError(text + "; leave out --one, or run it once for each", Code.WRONG_USE)
         marking = marking_of(options)
     except KeyboardInterrupt:
         return _stopped(signal.SIGINT, "stopped by Ctrl-C; nothing is marked")
-    if options.form == "one" and len(found) != 1:
-        text = f"--one marks one file, and {len(found)} are named or found in the folders"
-        raise CommandError(text + "; leave out --one, or run it once for each", Code.WRONG_USE)
     audit = audit_of(options, marking.cases, marking.examiner, marking.data)
     form = FORMS[options.form](audit, marking.cases, found)
     with Signals() as signals:
         total = _written(marking, found, form, signals)
-    if signals.caught:
-        done = f"{total.marked} of {total.candidates} candidates are marked"
-        return _stopped(signals.caught, f"stopped by {signals.name}; {done}")
+        if signals.caught:
+            done = f"{total.marked} of {total.candidates} candidates are marked"
+            return _stopped(signals.caught, f"stopped by {signals.name}; {done}")
     return Code.HALTED if total.whole or options.form == "one" else Code.NOT_HALTED
 
 
@@ -71,16 +67,18 @@ def _written(marking: Marking, found: Sequence[Found], form: Form, signals: Sign
     names = [file.name for file in found if not file.passed_over]
     total = Total(len(names))
     output.write(form.head())
-    with closing(marked(marking, names, options.jobs or processors(), signals)) as results:
-        for file in _in_order(found, _shown(results, len(names))):
+    by_processes = marked(marking, names, options.jobs or processors(), signals)
+    with Bar(len(names)) as bar, closing(by_processes) as results:
+        for file in _in_order(found, results):
             if isinstance(file, Found):
                 total.passed_over += 1
                 output.write(form.passed_over(file))
-            else:
-                total.add(file)
-                if options.form == "one":
-                    output.lock()
-                output.write(form.result(file))
+                continue
+            total.add(file)
+            if options.form == "one":
+                output.lock()
+            output.write(form.result(file))
+            bar.grow(total.marked)
     total.stopped_by = signals.name if signals.caught else None
     output.write(form.end(total))
     return total
@@ -96,20 +94,3 @@ def _in_order(found: Sequence[Found], results: Iterator[Result]) -> Iterator[Fou
         elif waiting is not None and waiting.candidate == file.name:
             yield waiting
             waiting = next(results, None)
-
-
-def _shown(results: Iterator[Result], count: int) -> Iterator[Result]:
-    """The results, with a bar on a terminal that grows as they come; where they are written to a
-    terminal themselves, they are progress enough."""
-    if not sys.stderr.isatty() or sys.stdout.isatty():
-        yield from results
-        return
-    try:
-        for number, result in enumerate(results, 1):
-            full = BAR * number // count
-            bar = "#" * full + " " * (BAR - full)
-            tell(f"\r[{bar}] {number}/{count}")
-            yield result
-    finally:
-        # The line is wiped: what is said next stands alone.
-        tell("\r\x1b[K")

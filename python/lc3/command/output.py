@@ -1,4 +1,5 @@
-"""Standard output for results: each piece is written when it comes, and nothing is kept back."""
+"""Standard output for results: each piece is written when it comes, and nothing is kept back. A bar
+on the terminal tells how many have come."""
 
 from __future__ import annotations
 
@@ -9,7 +10,7 @@ import select
 import sys
 import time
 
-from .messages import CommandError, let_go, of_os_error
+from .messages import CommandError, let_go, of_os_error, tell
 from .terminal import Signals
 
 # A pipe that has room at all has room for so many bytes.
@@ -18,6 +19,9 @@ PIECE = select.PIPE_BUF
 # The seconds after which a wait for a reader, or for another writer, looks for signals.
 PATIENCE = 0.1
 
+# The columns of the bar.
+WIDTH = 30
+
 GONE = "standard output can't be written to any more: whoever read it is gone"
 
 
@@ -25,12 +29,12 @@ class Output:
     """Writes text to standard output at once, so that a process that is killed leaves all of it.
 
     A reader that reads no more, or a terminal that is stopped by Ctrl-S, could keep the process for
-    ever. After a signal what is not taken within a moment is dropped.
+    ever. After a signal what is not taken within a moment is dropped, with all that follows.
     """
 
     def __init__(self, signals: Signals) -> None:
         """The stream of this process."""
-        self._signals = signals
+        self._signals, self._dropped = signals, False
         self._encoding = sys.stdout.encoding or "utf-8"
         try:
             self._fd: int | None = sys.stdout.fileno()
@@ -57,10 +61,9 @@ class Output:
 
     def _writable(self, fd: int) -> bool:
         """Waits until a piece can be written; not where a signal has come and it can't."""
-        while not select.select([], [fd], [], PATIENCE)[1]:
-            if self._signals.caught:
-                return False
-        return True
+        while not self._dropped and not select.select([], [fd], [], PATIENCE)[1]:
+            self._dropped = bool(self._signals.caught)
+        return not self._dropped
 
     def lock(self) -> None:
         """Waits until no other process writes a line. Those that xargs starts share their output,
@@ -74,3 +77,28 @@ class Output:
             except OSError:
                 # What can't be locked, as a file on some network, is written to all the same.
                 return
+
+
+class Bar:
+    """A bar on the terminal of standard error. Where the results go to a terminal themselves, they
+    are progress enough."""
+
+    def __init__(self, count: int) -> None:
+        """A bar that is full at a number."""
+        self._count = count
+        self._seen = sys.stderr.isatty() and not sys.stdout.isatty()
+
+    def __enter__(self) -> Bar:
+        """It is seen when something has come."""
+        return self
+
+    def grow(self, number: int) -> None:
+        """So many have come."""
+        if self._seen:
+            full = WIDTH * number // self._count
+            tell(f"\r[{'#' * full}{' ' * (WIDTH - full)}] {number}/{self._count}")
+
+    def __exit__(self, *_: object) -> None:
+        """Wipes the line: what is said next stands alone."""
+        if self._seen:
+            tell("\r\x1b[K")
