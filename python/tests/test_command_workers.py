@@ -11,7 +11,7 @@ import unittest
 from pathlib import Path
 from typing import IO, Any, Sequence
 
-from .command_support import ENVIRONMENT, PYTHON
+from .command_support import ENVIRONMENT, PYTHON, OnTerminal
 from .mark_support import Lines, Marking, doubling, lines_of, names, of_kind, verdicts
 from .support import COUNTING
 
@@ -141,6 +141,22 @@ class AsTheyCome(Running):
             rest = pipe(running.stdout).read().rpartition(b"\n")[0]
             self.assertEqual(json.loads(first)["verdict"], "wrong display")
             self.assertGreater(len(lines_of(rest)), 10)
+
+    def test_a_closed_window(self) -> None:
+        for jobs in (1, 2):
+            arguments = ("mark", "--cases", self.cases, "--steps", ENDLESS, "--jobs", jobs)
+            with OnTerminal(*arguments, self.right, self.count, self.count) as shown:
+                shown.see(b"right\r\n")
+                shown.close()
+                self.assertEqual(shown.process.wait(20), -signal.SIGHUP)
+
+    def test_a_stopped_terminal(self) -> None:
+        arguments = ("mark", "--cases", self.cases, "--steps", ENDLESS, "--jobs", 2)
+        with OnTerminal(*arguments, self.right, self.count, self.count) as shown:
+            shown.see(b"right\r\n")
+            shown.press(b"\x13\x03")
+            shown.see(b"2 not marked: stopped by Ctrl-C")
+            self.assertEqual(shown.process.wait(20), -signal.SIGINT)
 
     def test_the_order_is_that_of_the_candidates(self) -> None:
         paths, _ = self.planted(40)

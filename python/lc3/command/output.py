@@ -52,12 +52,17 @@ class Output:
             while data and self._writable(self._fd):
                 data = data[os.write(self._fd, data[:PIECE]) :]
         except OSError as error:
-            let_go(sys.stdout)
-            # The other end of the pipe, or the terminal's window, is closed.
-            if error.errno in (errno.EPIPE, errno.EIO):
-                raise CommandError(GONE) from None
+            self._failed(error)
+
+    def _failed(self, error: OSError) -> None:
+        """What a write that failed means: nothing more where a signal has ended the reader too."""
+        let_go(sys.stdout)
+        # The other end of the pipe, or the terminal's window, is closed.
+        if error.errno not in (errno.EPIPE, errno.EIO):
             error.filename = "standard output"
             raise CommandError(of_os_error(error)) from None
+        if not self._signals.caught:
+            raise CommandError(GONE) from None
 
     def _writable(self, fd: int) -> bool:
         """Waits until a piece can be written; not where a signal has come and it can't."""
