@@ -110,7 +110,7 @@ class Members(Marking):
         right = next(line for line in lines if line["candidate"].endswith("right.obj"))
         self.assertEqual(right["sha256"], hashlib.sha256(doubling()).hexdigest())
         self.assertEqual(right["interface"], lc3.VERSION)
-        self.assertEqual(right["lc3"], getattr(lc3, "__version__", "unknown"))
+        self.assertEqual(right["lc3"], lc3.__version__)
         (beside,) = right["options"]["with"]
         digest = hashlib.sha256(object_file(0x2000, 1)).hexdigest()
         self.assertEqual(beside, {"file": str(self.folder / "with.obj"), "sha256": digest})

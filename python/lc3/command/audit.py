@@ -10,8 +10,7 @@ from dataclasses import dataclass
 from datetime import datetime, timezone
 from typing import Any, Sequence
 
-import lc3
-
+from ..constants import VERSION, __version__
 from .cases import Case
 
 # The options that bear on results; how many processes there are does not.
@@ -42,7 +41,7 @@ def audit_of(
         "data": [_hashed(*file) for file in data_files],
     }
     told.update((name, getattr(options, name)) for name in OPTIONS)
-    return Audit(getattr(lc3, "__version__", "unknown"), lc3.VERSION, told)
+    return Audit(__version__, VERSION, told)
 
 
 def sha256(data: bytes) -> str:
