@@ -85,6 +85,8 @@ class Walk(Marking):
     def test_folders_without_a_candidate(self) -> None:
         code, out, err = self.mark(self.top)
         self.assertEqual((code, out, "nothing to mark: no file in it" in err), (3, b"", True))
+        self.assertEqual(self.found(self.top, self.file("x", doubling()))[0], (".", ""))
+        self.assertEqual(len(self.found(self.top, self.file("x", doubling()))), 2)
         self.file("students/bob/notes.txt", "I did not do it")
         right = self.file("ada/right.obj", doubling())
         self.assertEqual(self.mark(self.top, self.top)[:2], (3, b""))
@@ -102,6 +104,7 @@ class Walk(Marking):
             ("away.obj", self.file("model.obj", doubling())),
             ("none.obj", Path("nowhere")),
             ("notes", right),
+            ("lost", Path("nowhere")),
             ("more", self.file("more/m.obj", doubling()).parent),
             ("circle.obj", Path("circle.obj")),
         ):
@@ -116,6 +119,8 @@ class Walk(Marking):
         told = dict(zip((Path(name).name for name in names(followed)), verdicts(followed)))
         refused = {name for name, verdict in told.items() if verdict == "refused"}
         self.assertEqual(refused, {"none.obj", "circle.obj"})
+        lost = dict(self.found(links=True))["lost"]
+        self.assertEqual(lost, "it is a symbolic link that leads to nothing")
         self.assertEqual(set(told) - refused, {"away.obj", "l.obj", "m.obj", "right.obj"})
         # A link that is named is followed by the same rule.
         self.assertEqual(verdicts(self.marked(self.top / "l.obj")), ["refused"])
@@ -152,6 +157,9 @@ class Walk(Marking):
     def test_no_permission(self) -> None:
         self.file("students/closed/x.obj", doubling()).parent.chmod(0)
         self.file("students/secret.obj", doubling()).chmod(0)
+        # Its names can be read, and nothing else of it: some of them may be folders.
+        listed = self.file("students/listed/notes", doubling()).parent
+        listed.chmod(0o744)
         right = self.file("students/right.obj", doubling())
         self.folder.chmod(0o755)
         os.seteuid(65534)
@@ -161,10 +169,10 @@ class Walk(Marking):
         finally:
             os.seteuid(0)
             (self.top / "closed").chmod(0o755)
-        expected = [str(self.top / "closed"), str(right), str(self.top / "secret.obj")]
-        self.assertEqual(names(marked), expected)
-        self.assertEqual(verdicts(marked), ["refused", "right", "refused"])
-        for line in (marked[0], marked[2]):
+        expected = [self.top / "closed", listed / "notes", right, self.top / "secret.obj"]
+        self.assertEqual(names(marked), list(map(str, expected)))
+        self.assertEqual(verdicts(marked), ["refused", "refused", "right", "refused"])
+        for line in (*marked[:2], marked[3]):
             self.assertIn("permission denied", line["problem"])
         self.assertEqual((alone.code, "permission denied" in alone.err), (3, True))
 

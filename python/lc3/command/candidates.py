@@ -9,6 +9,7 @@ files like any other.
 
 from __future__ import annotations
 
+import errno
 import os
 import stat
 from dataclasses import dataclass
@@ -23,6 +24,7 @@ SUFFIX = ".obj"
 
 OTHER_SUFFIX = f"its name does not end in {SUFFIX}"
 EMPTY_FOLDER = "the folder is empty"
+LOST_LINK = "it is a symbolic link that leads to nothing"
 SEEN_FOLDER = "the same folder as one that is walked already"
 NO_CANDIDATE = f"no file in it, or in the folders in it, has a name that ends in {SUFFIX}"
 
@@ -50,7 +52,7 @@ def found_in(names: Sequence[str], links: bool) -> list[Found]:
         files = list(_walked(name, links))
         if all(file.passed_over for file in files):
             without.append(name)
-            files.insert(0, Found(name))
+            files = [Found(name), *(file for file in files if file.name != name)]
         found += files
     if len(without) == len(names):
         raise CommandError(f"{without[0]}: nothing to mark: {NO_CANDIDATE}")
@@ -75,28 +77,37 @@ def _walked(top: str, links: bool) -> Iterator[Found]:
     left, seen = [top], set()
     while left:
         path = left.pop()
-        folder = _folder(path, links)
-        if folder is None:
-            yield Found(path) if path == top else _file(path, links)
+        try:
+            status = os.stat(path, follow_symlinks=links)
+        except OSError as error:
+            yield Found(path) if path == top else _unseen(path, error)
+            continue
+        folder = (status.st_dev, status.st_ino)
+        if not stat.S_ISDIR(status.st_mode):
+            yield Found(path) if path == top else _file(path, status.st_mode)
         elif folder in seen:
             yield Found(path, SEEN_FOLDER)
         else:
             seen.add(folder)
             names = _names(path)
-            if names:
-                left += [os.path.join(path, name) for name in reversed(names)]
-            else:
+            if not names:
                 # A folder that can't be read may have candidates: to read it tells why.
                 yield Found(path) if names is None else Found(path, EMPTY_FOLDER)
+            left += [os.path.join(path, name) for name in reversed(names or [])]
 
 
-def _folder(path: str, links: bool) -> tuple[int, int] | None:
-    """What tells a folder from all others, or nothing where the path leads to none."""
-    try:
-        status = os.stat(path, follow_symlinks=links)
-    except OSError:
-        return None
-    return (status.st_dev, status.st_ino) if stat.S_ISDIR(status.st_mode) else None
+def _file(path: str, mode: int) -> Found:
+    """What becomes of a file in a folder."""
+    if path.lower().endswith(SUFFIX):
+        return Found(path)
+    return Found(path, LINK if stat.S_ISLNK(mode) else OTHER_SUFFIX)
+
+
+def _unseen(path: str, error: OSError) -> Found:
+    """What becomes of a file in a folder that can't be looked at. It may be a folder of candidates,
+    so that it is one, and to read it tells why; but a link to nothing is passed over."""
+    nothing = error.errno in (errno.ENOENT, errno.ELOOP)
+    return Found(path, LOST_LINK) if nothing and not path.lower().endswith(SUFFIX) else Found(path)
 
 
 def _names(folder: str) -> list[str] | None:
@@ -107,16 +118,9 @@ def _names(folder: str) -> list[str] | None:
         return None
 
 
-def _file(path: str, links: bool) -> Found:
-    """What becomes of a file in a folder."""
-    if path.lower().endswith(SUFFIX):
-        return Found(path)
-    return Found(path, LINK if not links and os.path.islink(path) else OTHER_SUFFIX)
-
-
 def candidate_file(path: str, links: bool) -> bytes:
     """The bytes of a candidate's file; of a longer file no more than is needed to refuse it."""
-    if _folder(path, links) is not None:
+    if os.path.isdir(path) and (links or not os.path.islink(path)):
         raise CommandError(_why_none(path))
     with opened(path, links) as stream:
         return stream.read(LONGEST_FILE)
