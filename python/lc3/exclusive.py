@@ -11,16 +11,19 @@ from .interrupts import Held
 Method = TypeVar("Method", bound=Callable[..., Any])
 
 
+IN_USE = (
+    "the sitting is in use: another thread, or this one in the middle of a call, has not finished "
+    "with it; a sitting is for one call at a time"
+)
+
+
 class InUseError(RuntimeError):
     """A sitting that is used while another call of it is made: by another thread, or by a handler
     of a signal in the middle of a run. Nothing was altered."""
 
-    def __init__(self) -> None:
+    def __init__(self, text: str = IN_USE) -> None:
         """The same words for every case: whose call it is that goes on is not known."""
-        super().__init__(
-            "the sitting is in use: another thread, or this one in the middle of a call, has not "
-            "finished with it; a sitting is for one call at a time"
-        )
+        super().__init__(text)
 
 
 class Exclusive:

@@ -60,8 +60,12 @@ class Held:
         seen = tuple(map(getsignal, NUMBERS))
         if seen != self._seen:
             self._find(seen)
-        for number in self._usual:
-            set_handler(number, self._catcher)
+        try:
+            for number in self._usual:
+                set_handler(number, self._catcher)
+        except BaseException:
+            self.release()
+            raise
         self._holds = True
 
     def _find(self, seen: tuple[Any, ...]) -> None:
@@ -77,13 +81,20 @@ class Held:
         """Ends holding, and calls the handlers of the signals that were caught."""
         self._holds = False
         try:
-            for number, usual in self._usual.items():
-                # Where a handler has set another in its place, that one stays.
-                if getsignal(number) is self._catcher:
-                    set_handler(number, usual)
+            self._put_back()
+        except BaseException:
+            # One that was back already has raised.
+            self._put_back()
+            raise
         finally:
             if self.caught:
                 self.hand_on()
+
+    def _put_back(self) -> None:
+        """Puts the handlers back. Where one has set another in its place, that one stays."""
+        for number, usual in self._usual.items():
+            if getsignal(number) is self._catcher:
+                set_handler(number, usual)
 
     def hand_on(self) -> None:
         """Calls the handlers of the signals that were caught, each once. Where signals are still

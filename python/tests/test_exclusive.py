@@ -168,6 +168,9 @@ class InUse(unittest.TestCase):
         self.sitting.run(1000)
         self.check()
 
+    def test_the_error_goes_to_other_processes(self) -> None:
+        self.assertEqual(str(pickle.loads(pickle.dumps(InUseError()))), str(InUseError()))
+
     def test_two_threads_never_corrupt(self) -> None:
         environment = {**os.environ, "PYTHONPATH": str(ROOT / "python")}
         command = [sys.executable, "-c", BOTH_RUN]
