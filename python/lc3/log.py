@@ -57,16 +57,20 @@ def logged_steps(log: ReadableBuffer) -> list[LoggedStep]:
     """
     words = memoryview(log).tolist()
     whole_steps = len(words) // LOG_WORDS * LOG_WORDS
-    return [_step(*words[at : at + LOG_WORDS]) for at in range(0, whole_steps, LOG_WORDS)]
+    places = range(0, whole_steps, LOG_WORDS)
+    return [LoggedStep(*told(*words[at : at + LOG_WORDS])) for at in places]
 
 
-def _step(pc: int, word: int, number: int) -> LoggedStep:
-    """The step of three words of a log.
+REASONS = tuple(Reason)
+
+
+def told(pc: int, word: int, number: int) -> tuple[int, int | None, Reason]:
+    """What the three words of a step tell: PC, the word fetched, and the reason.
 
     A log has 0 for no word. At an access exception 0 is never a word fetched: x0000 as an
     instruction accesses nothing.
     """
-    reason = Reason(number)
-    interrupt = reason in (Reason.KEYBOARD, Reason.TIMER)
+    reason = REASONS[number]
+    interrupt = reason is Reason.KEYBOARD or reason is Reason.TIMER
     none = interrupt or (reason is Reason.ACCESS and word == 0)
-    return LoggedStep(pc, None if none else word, reason)
+    return pc, None if none else word, reason

@@ -11,9 +11,9 @@ from typing import Any, Callable, NamedTuple, Sequence
 
 from ._library import LIBRARY, RecordStruct
 from .buffers import NOWHERE
-from .constants import KBDR_BYTE, KBSR_READY, LOG_WORDS, MEMORY_WORDS
-from .log import LoggedStep, logged_steps
-from .records import Edition, Record, Refused, Stop
+from .constants import KBDR_BYTE, KBSR_READY, LOG_WORDS, MEMORY_WORDS, PSR_USER
+from .log import LoggedStep, logged_steps, told
+from .records import Edition, Mode, Record, Refused, Stop
 from .steps import SHORT_BYTES, TracedStep, changes, logged_by_second, may_replace
 
 MEMORY_BYTES = 2 * MEMORY_WORDS
@@ -189,16 +189,23 @@ class Machine:
         stop, log = self.advance_logged(1)
         if not log:
             return stop
-        step = logged_steps(log)[0]
         return TracedStep(
-            step.pc,
-            step.word,
-            step.reason,
+            *told(*log),
             before.clock,
             changes(before, self.record, old, self.words),
-            self.keys[arrived : self.arrived].tobytes(),
-            self.output[shown : self.shown].tobytes(),
+            self.keys[arrived : self.arrived].tobytes() if self.arrived > arrived else b"",
+            self.output[shown : self.shown].tobytes() if self.shown > shown else b"",
+            Mode.USER if before.psr & PSR_USER else Mode.SUPERVISOR,
         )
+
+    def steps_traced(self, n: int, steps: list[TracedStep]) -> Stop:
+        """Makes up to n steps, adds what each did to a list, and says why it stopped."""
+        for _ in range(n):
+            step = self.step_traced()
+            if isinstance(step, Stop):
+                return step
+            steps.append(step)
+        return Stop.DONE
 
     def snapshot(self) -> Snapshot:
         """The machine as it stands."""

@@ -23,7 +23,8 @@ from typing import Iterator, NamedTuple
 from .constants import LOG_WORDS, PSR_USER
 from .log import LoggedStep, logged_steps
 from .past import Past
-from .records import Edition, Reason, Record
+from .records import Edition, Mode, Reason, Record
+from .steps import TracedStep
 
 # The steps that a log is looked through: few at first, for most entries are short. The second
 # edition has no logged run, and its steps are made one at a time.
@@ -92,15 +93,27 @@ def left_by(past: Past) -> Left | None:
 def last_own_steps(past: Past, count: int) -> list[LoggedStep]:
     """The last steps of the program, at most so many. Fewer are told where a routine of the
     monitor has served for longer than the log is looked through."""
-    left, steps = left_by(past), []
+    left = left_by(past)
+    steps = list(_last_own(past, count, left).values())
+    return [left.step] if left is not None and not steps else steps
+
+
+def last_own_clocks(past: Past, count: int) -> list[int]:
+    """The numbers of these steps."""
+    return list(_last_own(past, count, left_by(past)))
+
+
+def _last_own(past: Past, count: int, left: Left | None) -> dict[int, LoggedStep]:
+    """The last steps of the program by their numbers, as far as the log is looked through."""
+    steps: dict[int, LoggedStep] = {}
     for first in _beginnings(past):
         near = past.nearer(first)
         log = near.log(first)
         places = list(islice(_own_places(near, log, first, left), count))
-        steps = [_step(log, place) for place in reversed(places)]
+        steps = {first + place: _step(log, place) for place in reversed(places)}
         if len(steps) == count:
             break
-    return [left.step] if left is not None and not steps else steps
+    return steps
 
 
 def _own_places(past: Past, log: array[int], first: int, left: Left | None) -> Iterator[int]:
@@ -274,3 +287,25 @@ def _is_busy(log: array[int], block: range) -> bool:
     part = slice(LOG_WORDS * block.start, LOG_WORDS * block.stop)
     words, reasons = log[part][1::LOG_WORDS], log[part][2::LOG_WORDS]
     return any(reasons.tobytes()) or _RTI.match(words.tobytes()) is not None
+
+
+class OwnSteps:
+    """Tells the program's steps from the monitor's while they are made, from the first one on."""
+
+    def __init__(self, edition: Edition) -> None:
+        """The program has not begun."""
+        self._edition = edition
+        self._in_user_mode, self._entered = False, 0
+
+    def own(self, step: TracedStep) -> bool:
+        """Whether the next step is the program's."""
+        if self._edition is Edition.SECOND:
+            return not privileged(step.pc)
+        if step.mode is Mode.USER:
+            self._in_user_mode = True
+        if self._in_user_mode:
+            return step.mode is Mode.USER
+        what = effect(step.word or 0, step.reason, self._edition)
+        outside = not self._entered
+        self._entered += (what == ENTERS) - (what == RETURNS and not outside)
+        return outside

@@ -71,15 +71,18 @@ class Reason(IntEnum):
         >>> Reason.ACCESS.text
         'access exception'
         """
-        return {
-            Reason.INSTRUCTION: "instruction",
-            Reason.TRAP: "trap",
-            Reason.PRIVILEGE: "privilege exception",
-            Reason.ILLEGAL: "illegal opcode exception",
-            Reason.ACCESS: "access exception",
-            Reason.KEYBOARD: "keyboard interrupt",
-            Reason.TIMER: "timer interrupt",
-        }[self]
+        return _REASON_TEXTS[self]
+
+
+_REASON_TEXTS = {
+    Reason.INSTRUCTION: "instruction",
+    Reason.TRAP: "trap",
+    Reason.PRIVILEGE: "privilege exception",
+    Reason.ILLEGAL: "illegal opcode exception",
+    Reason.ACCESS: "access exception",
+    Reason.KEYBOARD: "keyboard interrupt",
+    Reason.TIMER: "timer interrupt",
+}
 
 
 class Kind(IntEnum):

@@ -26,7 +26,7 @@ from .exclusive import Exclusive, exclusive
 from .log import LoggedStep, logged_steps
 from .machine import MEMORY_BYTES, Machine
 from .memory import Line, Memory
-from .own import last_own_steps
+from .own import last_own_clocks, last_own_steps
 from .past import Mark, Past
 from .places import check_apart, check_examiner, check_pc
 from .recording import REPLAY_STEPS, Alteration, End, Program, Recording, RecordingError
@@ -48,6 +48,9 @@ MARK_EVERY = 1 << 20
 
 # The first steps of a run with breakpoints that are made at once; they double from call to call.
 FIRST_SEARCH = 256
+
+# The steps that are traced before it is looked whether Ctrl-C was pressed.
+TRACED_AT_ONCE = 256
 
 # The steps of the longest loop that is taken for waiting.
 LONGEST_WAIT = 64
@@ -505,6 +508,38 @@ PSR x8001 -> x0001, Saved_USP x0000 -> xFDFF, x2FFE x0000 -> x3002, x2FFF x0000 
                 return
             yield step
 
+    def trace_at_once(self, steps: int) -> list[TracedStep]:
+        """What ``trace`` tells of so many steps, in one call: a list, made several times faster.
+
+        >>> sitting = Sitting(bytes.fromhex("3000 1021 0FFE"))
+        >>> [step.line for step in sitting.trace_at_once(3)]
+        ['ADD R0, R0, #1', 'BRnzp #-2', 'ADD R0, R0, #1']
+        """
+        told: list[TracedStep] = []
+        with self._use:
+            end = self._end(steps)
+            self._begin()
+            self.stop, self._run_past = Stop.INTERRUPTED, None
+            self.stop = self._trace_to(end, told)
+            self._run_past = self._past()
+        return told
+
+    def _trace_to(self, end: int, told: list[TracedStep]) -> Stop:
+        """Makes the steps to a clock, unless something stops it, and adds them to a list."""
+        while True:
+            self._settle()
+            if self.clock >= end:
+                return Stop.DONE
+            if self._use.caught and self._interrupted():
+                return Stop.INTERRUPTED
+            if self._at_breakpoint():
+                return Stop.BREAKPOINT
+            self._look_at_keyboard()
+            n = 1 if self._breakpoints else min(self._reach(end), TRACED_AT_ONCE)
+            stop = self._machine.steps_traced(n, told)
+            if stop is not Stop.DONE:
+                return stop
+
     def _trace_one(self, end: int) -> TracedStep | Stop:
         """Makes the next step, or says why it is not made."""
         self._settle()
@@ -640,6 +675,15 @@ PSR x8001 -> x0001, Saved_USP x0000 -> xFDFF, x2FFE x0000 -> x3002, x2FFF x0000 
                 return []
             past = self._past()
         return last_own_steps(past, count)
+
+    def last_program_clocks(self, count: int) -> list[int]:
+        """The numbers of these steps, as far as they are in the log."""
+        whole(count, LONG_LIMIT, "count")
+        with self._use:
+            if not self._marks or not count:
+                return []
+            past = self._past()
+        return last_own_clocks(past, count)
 
     def _past(self) -> Past:
         """What led to where the machine stands."""

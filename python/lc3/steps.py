@@ -4,6 +4,7 @@ from __future__ import annotations
 
 from array import array
 from dataclasses import dataclass
+from functools import lru_cache
 from struct import Struct
 from typing import Iterable, Sequence
 
@@ -13,7 +14,7 @@ from .constants import ADDRESS_DDR, ADDRESS_DSR, ADDRESS_KBDR, ADDRESS_KBSR, ADD
 from .constants import ADDRESS_PSR, ADDRESS_TIR, ADDRESS_TSR, KBSR_READY, MEMORY_WORDS
 from .constants import PSR_PRIORITY, PSR_USER, TSR_READY
 from .log import LoggedStep
-from .records import Kind, Reason
+from .records import Kind, Mode, Reason
 
 # The registers of the record under the names of the book. What only counts steps is left out.
 NAMES: dict[str, int | str] = {
@@ -31,13 +32,14 @@ NAMES: dict[str, int | str] = {
 
 # The bytes of a record's fields of 16 bits, which stand before its clock.
 SHORT_BYTES = RecordStruct.timer_count.offset + 2
-_SHORTS = Struct(f"{SHORT_BYTES // 2}H")
 
 # The place of each register among them.
 _PLACES = {
     name: place if isinstance(place, int) else getattr(RecordStruct, place).offset // 2
     for name, place in NAMES.items()
 }
+
+_SHORTS, _PC = Struct(f"={SHORT_BYTES // 2}H"), _PLACES["PC"]
 
 # The opcodes of ST, STR and STI.
 STORES = (3, 7, 11)
@@ -109,13 +111,14 @@ class TracedStep(LoggedStep):
 
     ``clock`` is the step's number. ``changes`` are the registers and words that are not what they
     were, PC only where it is not simply the next address. ``keys`` are the bytes that arrived and
-    ``shown`` the byte that was shown, if any.
+    ``shown`` the byte that was shown, if any. ``mode`` is the mode in which the step was made.
     """
 
     clock: int
     changes: tuple[Change, ...]
     keys: bytes
     shown: bytes
+    mode: Mode = Mode.USER
 
     def __str__(self) -> str:
         """The step as one line of a log.
@@ -129,6 +132,10 @@ class TracedStep(LoggedStep):
         return f"{self.clock:>6}  {super().__str__()}  {', '.join(did)}".rstrip()
 
 
+# A program obeys few words many times.
+_read = lru_cache(maxsize=4096)(read)
+
+
 def may_replace(record: RecordStruct, words: Sequence[int]) -> Iterable[int]:
     """Addresses among which are all those whose words the next step may replace.
 
@@ -139,7 +146,7 @@ def may_replace(record: RecordStruct, words: Sequence[int]) -> Iterable[int]:
     word = words[record.pc]
     if word >> 12 not in STORES:
         return pushed
-    instruction = read(word).instruction
+    instruction = _read(word).instruction
     near = (record.pc + 1 + instruction.value) & 0xFFFF
     if instruction.kind is Kind.ST:
         return pushed | {near}
@@ -154,12 +161,13 @@ def changes(
 ) -> tuple[Change, ...]:
     """What is not as it was: registers in the order of ``NAMES``, then words by address. ``old``
     are words that may have been replaced, as they were."""
-    found = []
     was, now = _SHORTS.unpack_from(before), _SHORTS.unpack_from(after)
-    for name, at in _PLACES.items():
-        if was[at] != now[at] and not (name == "PC" and now[at] == (was[at] + 1) & 0xFFFF):
-            found.append(Change(name, was[at], now[at]))
-    for address in sorted(old):
-        if old[address] != words[address]:
-            found.append(Change(f"x{address:04X}", old[address], words[address]))
+    found = [
+        Change(name, was[at], now[at])
+        for name, at in _PLACES.items()
+        if was[at] != now[at] and not (at == _PC and now[at] == (was[at] + 1) & 0xFFFF)
+    ]
+    replaced = [address for address in old if old[address] != words[address]]
+    for address in sorted(replaced):
+        found.append(Change(f"x{address:04X}", old[address], words[address]))
     return tuple(found)

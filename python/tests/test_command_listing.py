@@ -111,6 +111,34 @@ class Logging(Folder):
         self.assertIn(b"R0 x0000 -> x3003, PSR x8002 -> x8001", out)
         self.assertEqual(ran("log", "--edition", 2, hello).code, 2)
 
+    def test_the_program_without_its_monitor(self) -> None:
+        program, saved = self.file("until.obj", UNTIL_Q), self.folder / "sitting.json"
+        for mode in ((), ("--supervisor",)):
+            options = (*mode, "--keys", "abq", program)
+            every = ran("log", *options).out.decode().splitlines()
+            own = [line for line in every[1:] if line.split()[1] >= "x3000"]
+            self.assertTrue(3 * 5 < len(own) < len(every))
+            code, out, err = ran("log", "--program", "--save-sitting", saved, *options)
+            self.assertEqual((code, out.decode().splitlines()), (0, [every[0], *own]))
+            self.assertIn("; PC x3005: TRAP x25", err)
+            for last in (0, 1, 7, 1000):
+                out = ran("log", "--program", "--last", last, *options).out.decode()
+                self.assertEqual(out.splitlines()[1:], own[-last:] if last else [])
+            again = ran("log", "--program", "--replay", saved).out.decode()
+            self.assertEqual(again.splitlines(), [every[0], *own])
+
+    def test_the_program_of_a_crash(self) -> None:
+        words = ["ADD R0, R0, #1", "TRAP x21", 0xD000]
+        program = self.file("crash.obj", object_file(0x3000, *words))
+        code, out, err = ran("log", "--program", "--registers", program)
+        lines = out.decode().splitlines()
+        self.assertEqual([line.split()[1] for line in lines[1:4]], ["x3000", "x3001", "x3002"])
+        self.assertEqual(lines[4], "the program's own registers, before its last instruction:")
+        self.assertIn("PC x3002  .FILL xD000", lines)
+        self.assertIn("R6 xFDFF", lines[6])
+        self.assertEqual(code, 4)
+        self.assertTrue(err.startswith("lc3: stopped by the illegal opcode exception; "))
+
     def test_random_programs_against_the_trace(self) -> None:
         rng = random.Random(25)
         for _ in range(10):

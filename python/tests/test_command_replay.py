@@ -145,7 +145,7 @@ class OtherEnds(Folder):
     def test_altered_sittings(self) -> None:
         altered: list[tuple[list[Any], object, str]] = [
             (["edition"], 2, "the replay stops after 48 of 152 steps: stopped by the "),
-            (["start", "record", "pc"], 0x3002, "steps: the machine is halted"),
+            (["start", "record", "pc"], 0x3002, "steps: halted by HALT"),
             (["start", "record", "mcr"], 0, "the replay stops after 0 of 152 steps"),
             (["start", "record", "regs", 1], 2, "the replay comes to another record than the"),
             (["end", "shown"], 11, "the replay comes to another shown than the sitting"),

@@ -399,6 +399,22 @@ class Keyboard(unittest.TestCase):
             with self.assertRaises(TypeError):
                 sitting.press(wrong, 5000)  # type: ignore[arg-type]
 
+    def test_steps_traced_at_once_are_those_of_a_trace(self) -> None:
+        keys = bytes(range(40))
+        for breakpoints in (set(), {0x0204}):
+            one, other = Sitting(ECHO), Sitting(ECHO)
+            told: list[lc3.TracedStep] = []
+            for sitting in (one, other):
+                sitting.type(keys)
+                sitting.breakpoints = breakpoints
+            while len(told) < 3000:
+                told += other.trace_at_once(min(777, 3000 - len(told)))
+            traced: list[lc3.TracedStep] = []
+            while len(traced) < 3000:
+                traced += one.trace(3000 - len(traced))
+            self.assertEqual(told, traced)
+            self.assertEqual(one.record, other.record)
+
     def test_waiting(self) -> None:
         self.assertFalse(Sitting(COUNTING).waits())
         sitting = Sitting(object_file(0x3000, 0xF025))

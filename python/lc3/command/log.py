@@ -3,14 +3,19 @@
 from __future__ import annotations
 
 import argparse
+from typing import Iterable
 
 from ..ending import Ending
+from ..own import OwnSteps
 from ..records import Stop
 from ..sitting import Sitting
 from ..steps import TracedStep
 from .messages import Code
 from .seat import RUNNING, TRACING, Seat, finish, registers_of, seat_of, sit
 from .terminal import Display, Signals
+
+# The last steps that are made and written together.
+AT_ONCE = 1024
 
 HEADER = "    step  PC     word   line              reason               what changed"
 
@@ -39,30 +44,33 @@ def command(options: argparse.Namespace) -> Code:
         _write(display, HEADER)
         with seat.keyboard:
             if options.last is None:
-                ending = _every_step(seat, signals, display)
+                ending = _every_step(options, seat, signals, display)
             else:
                 ending = _run(seat, signals)
         if options.last is not None:
-            _last_steps(seat.sitting, options.last, signals, display)
+            _last_steps(options, seat.sitting, signals, display)
         display.show(registers_of(options, seat, ending).encode())
         return finish(options, seat, signals, ending)
 
 
-def _write(display: Display, line: str) -> None:
-    """Writes a line of the log."""
-    display.show(f"{line}\n".encode())
+def _write(display: Display, *lines: str) -> None:
+    """Writes lines of the log."""
+    display.show("".join(f"{line}\n" for line in lines).encode())
 
 
-def _every_step(seat: Seat, signals: Signals, display: Display) -> Ending:
-    """Runs a step at a time, and writes a line for each."""
+def _every_step(
+    options: argparse.Namespace, seat: Seat, signals: Signals, display: Display
+) -> Ending:
+    """Runs a few steps at a time, and writes a line for each, or for each of the program's."""
+    steps = OwnSteps(seat.sitting.edition)
 
-    def advance(steps: int) -> Stop:
+    def advance(count: int) -> Stop:
         """Makes steps, and writes them."""
-        for step in seat.sitting.trace(steps):
-            _write(display, row(step))
-            if signals.caught or display.gone:
-                return Stop.INTERRUPTED
-        return seat.sitting.stop
+        told = seat.sitting.trace_at_once(count)
+        if options.program:
+            told = [step for step in told if steps.own(step)]
+        _write(display, *map(row, told))
+        return Stop.INTERRUPTED if display.gone else seat.sitting.stop
 
     return sit(seat.sitting, seat.keyboard, signals, seat.end, advance, TRACING, seat.patient)
 
@@ -77,14 +85,20 @@ def _run(seat: Seat, signals: Signals) -> Ending:
     return sit(seat.sitting, seat.keyboard, signals, seat.end, advance, RUNNING, seat.patient)
 
 
-def _last_steps(sitting: Sitting, count: int, signals: Signals, display: Display) -> None:
+def _last_steps(
+    options: argparse.Namespace, sitting: Sitting, signals: Signals, display: Display
+) -> None:
     """Writes the last steps. What they changed is known when they are made once more."""
     recording = sitting.recording()
     again, before = Sitting.of(recording), signals.count
-    count = min(count, recording.steps)
-    again.run(recording.steps - count)
-    # Ctrl-C may have ended the run itself; one more ends this too.
-    for step in again.trace(count) if signals.count == before else ():
-        _write(display, row(step))
+    first = max(again.clock, sitting.clock - options.last)
+    clocks: Iterable[int] = range(first, sitting.clock, AT_ONCE)
+    at_once = AT_ONCE
+    if options.program:
+        clocks, at_once = sitting.last_program_clocks(options.last), 1
+    for clock in clocks:
+        # Ctrl-C may have ended the run itself; one more ends this too.
         if signals.count != before or display.gone:
             return
+        again.run(clock - again.clock)
+        _write(display, *map(row, again.trace_at_once(min(at_once, sitting.clock - clock))))
