@@ -122,14 +122,14 @@ class Logging(Folder):
             self.assertEqual((code, out.decode().splitlines()), (0, [every[0], *own]))
             self.assertIn("; PC x3005: TRAP x25", err)
             for last in (0, 1, 7, 1000):
-                out = ran("log", "--program", "--last", last, *options).out.decode()
-                self.assertEqual(out.splitlines()[1:], own[-last:] if last else [])
+                lines = ran("log", "--program", "--last", last, *options).out.decode().splitlines()
+                self.assertEqual(lines[1:], own[-last:] if last else [])
             again = ran("log", "--program", "--replay", saved).out.decode()
             self.assertEqual(again.splitlines(), [every[0], *own])
 
     def test_the_program_of_a_crash(self) -> None:
-        words = ["ADD R0, R0, #1", "TRAP x21", 0xD000]
-        program = self.file("crash.obj", object_file(0x3000, *words))
+        file = object_file(0x3000, "ADD R0, R0, #1", "TRAP x21", 0xD000)
+        program = self.file("crash.obj", file)
         code, out, err = ran("log", "--program", "--registers", program)
         lines = out.decode().splitlines()
         self.assertEqual([line.split()[1] for line in lines[1:4]], ["x3000", "x3001", "x3002"])

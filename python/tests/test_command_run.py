@@ -52,6 +52,17 @@ class Running(Folder):
         # What is given is taken in the place of the pipe.
         self.assertEqual(ran("run", "--keys", "q", program, keys=b"zz").out, b"qHalted\n")
 
+    def test_text_is_typed_by_one_rule(self) -> None:
+        program, saved = self.file("echo.obj", ECHO), self.folder / "sitting.json"
+        for text in ("a\u00e9\u20ac", os.fsdecode(b"\xff")):
+            ran("run", "--keys", text, "--save-sitting", saved, program)
+            sitting = lc3.Sitting(program)
+            sitting.type(text)
+            sitting.run(1000)
+            keys = bytes(key.byte for key in sitting.keys)
+            self.assertEqual(keys, os.fsencode(text))
+            self.assertEqual(keys, bytes(key for _, key in lc3.Recording.load(saved).keys))
+
     def test_keys_of_a_pipe(self) -> None:
         program = self.file("until.obj", UNTIL_Q)
         self.assertEqual(ran("run", program, keys=b"hello\nq")[:2], (0, b"hello\nqHalted\n"))

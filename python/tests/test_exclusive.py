@@ -58,6 +58,7 @@ USES: dict[str, Callable[[Sitting], object]] = {
     "run": lambda s: s.run(1),
     "step": lambda s: s.step(),
     "trace": lambda s: next(s.trace(1)),
+    "trace_at_once": lambda s: s.trace_at_once(1),
     "load": lambda s: s.load(COUNTING),
     "start": lambda s: s.start(),
     "type": lambda s: s.type("a"),
@@ -75,8 +76,11 @@ USES: dict[str, Callable[[Sitting], object]] = {
     "recording": lambda s: s.recording(),
     "save": lambda s: s.save(os.devnull),
     "last_steps": lambda s: s.last_steps(1),
+    "last_program_steps": lambda s: s.last_program_steps(1),
+    "last_program_clocks": lambda s: s.last_program_clocks(1),
     "ending": lambda s: s.ending,
     "waits": lambda s: s.waits(),
+    "idle": lambda s: s.idle(),
     "copy": copy.copy,
     "deepcopy": copy.deepcopy,
     "pickle": pickle.dumps,
@@ -267,7 +271,8 @@ class Handlers(unittest.TestCase):
             for _ in range(min(left, 20)):
                 sitting.step()
         elif way == 2:
-            list(sitting.trace(min(left, 20)))
+            sitting.trace_at_once(min(left, 20))
+            list(sitting.trace(min(left - 20, 20) if left > 20 else 0))
         else:
             sitting.breakpoints = set(sitting.breakpoints)
             copy.copy(sitting)

@@ -400,8 +400,8 @@ class Keyboard(unittest.TestCase):
                 sitting.press(wrong, 5000)  # type: ignore[arg-type]
 
     def test_steps_traced_at_once_are_those_of_a_trace(self) -> None:
-        keys = bytes(range(40))
-        for breakpoints in (set(), {0x0204}):
+        keys, none = bytes(range(40)), set[int]()
+        for breakpoints in (none, {0x0204}):
             one, other = Sitting(ECHO), Sitting(ECHO)
             told: list[lc3.TracedStep] = []
             for sitting in (one, other):
