@@ -7,17 +7,17 @@ import random
 import unittest
 from array import array
 from dataclasses import replace
-from typing import NamedTuple
+from typing import Any, NamedTuple
 
 import lc3
 from lc3 import EndKind, Mode, Reason, Sitting
 
-from .support import object_file
+from .support import Words, object_file
 
 HALT, PUTS, PUTSP, GETC, OUT = "TRAP x25", "TRAP x22", "TRAP x24", "TRAP x20", "TRAP x21"
 
 
-def ended(*words: str | int, steps: int | None = 100_000, **options: object) -> lc3.Ending:
+def ended(*words: str | int, steps: int | None = 100_000, **options: Any) -> lc3.Ending:
     """How a program at x3000 ends."""
     sitting = Sitting(object_file(0x3000, *words), **options)
     return sitting.run(steps).ending
@@ -34,14 +34,15 @@ class Kinds(unittest.TestCase):
         return ending
 
     def test_halted(self) -> None:
-        for words in ([HALT], ["ADD R0, R0, #1", HALT], [OUT, OUT, HALT], [0xFF25]):
-            last = words[-1] if words[-1] == HALT else ".FILL xFF25"
+        programs: list[Words] = [[HALT], ["ADD R0, R0, #1", HALT], [OUT, OUT, HALT], [0xFF25]]
+        for words in programs:
+            last = HALT if words[-1] == HALT else ".FILL xFF25"
             ending = self.told(EndKind.HALTED, 0x3000 + len(words) - 1, last, *words)
             self.assertEqual((ending.reason, ending.vector), (Reason.TRAP, 0x25))
             self.assertEqual((ending.finished, ending.kind.crash), (True, False))
 
     def test_exceptions(self) -> None:
-        for words, reason in (
+        programs: list[tuple[Words, Reason]] = [
             (["RTI"], Reason.PRIVILEGE),
             (["ADD R0, R0, #1", 0x8FFF], Reason.PRIVILEGE),
             ([0xD000], Reason.ILLEGAL),
@@ -50,7 +51,8 @@ class Kinds(unittest.TestCase):
             (["NOT R0, R0", "STR R1, R0, #0"], Reason.ACCESS),
             ([0x0000, "LDI R0, #0", 0xFE04], Reason.ACCESS),
             ([OUT, "STI R0, #0", 0x2FFF], Reason.ACCESS),
-        ):
+        ]
+        for words, reason in programs:
             sitting = Sitting(object_file(0x3000, *words))
             ending = sitting.run().ending
             self.assertEqual((ending.kind, ending.reason), (EndKind.EXCEPTION, reason), words)
@@ -60,7 +62,9 @@ class Kinds(unittest.TestCase):
             self.assertIsNone(ending.vector)
 
     def test_no_word_is_fetched_from_privileged_memory(self) -> None:
-        for words, pc in ((["JMP R0"], 0x0000), (["NOT R0, R0", "JMP R0"], 0xFFFF), ([], 0xFE00)):
+        programs: list[tuple[Words, int]] = [(["JMP R0"], 0x0000), ([], 0xFE00)]
+        programs += [(["NOT R0, R0", "JMP R0"], 0xFFFF)]
+        for words, pc in programs:
             ending = ended(*words)
             self.assertEqual((ending.kind, ending.reason), (EndKind.EXCEPTION, Reason.ACCESS))
             self.assertEqual((ending.pc, ending.word, ending.line), (pc, None, ""))
@@ -88,7 +92,7 @@ class Kinds(unittest.TestCase):
         for trap in (PUTS, PUTSP):
             # From x0000; and from xFDFF, whose word is not 0, into xFE00.
             self.told(EndKind.STRING_REFUSED, 0x3000, trap, trap)
-            words = ["LD R0, #3", "STR R0, R0, #0", trap, HALT, 0xFDFF]
+            words: Words = ["LD R0, #3", "STR R0, R0, #0", trap, HALT, 0xFDFF]
             ending = self.told(EndKind.STRING_REFUSED, 0x3002, trap, *words)
             self.assertEqual((ending.record.regs[0], ending.kind.crash), (0xFDFF, True))
 
@@ -106,7 +110,7 @@ class Kinds(unittest.TestCase):
             self.assertEqual(steps[-1].line, trap)
 
     def test_stores_to_mcr(self) -> None:
-        store = ["AND R0, R0, #0", "STI R0, #0", 0xFFFE]
+        store: Words = ["AND R0, R0, #0", "STI R0, #0", 0xFFFE]
         for monitor in (True, False):
             ending = ended(*store, mode=Mode.SUPERVISOR, monitor=monitor)
             self.assertEqual((ending.kind, ending.pc), (EndKind.MCR, 0x3001))
@@ -145,7 +149,8 @@ class Registers(unittest.TestCase):
 
     def test_after_halt_and_after_a_crash(self) -> None:
         set_up = ["ADD R0, R0, #1", "ADD R3, R0, #4", "LD R6, #3", "NOT R7, R0"]
-        for last in (HALT, 0xD123, "RTI", "TRAP x77"):
+        ends: Words = [HALT, 0xD123, "RTI", "TRAP x77"]
+        for last in ends:
             ending = ended(*set_up, last, 0, 0x4000)
             regs = [1, 0, 0, 5, 0, 0, 0x4000, 0xFFFE]
             self.assertEqual((ending.record.regs, ending.record.pc), (regs, 0x3004))
@@ -162,8 +167,8 @@ class GoingOn(unittest.TestCase):
     """A report tells of its own run, and a halted machine that is let go on ends as before."""
 
     def test_a_halted_machine_is_let_go_on(self) -> None:
-        for words, kind in (([HALT], EndKind.HALTED), ([0xD000], EndKind.EXCEPTION)):
-            sitting = Sitting(object_file(0x3000, *words))
+        for word, kind in ((0xF025, EndKind.HALTED), (0xD000, EndKind.EXCEPTION)):
+            sitting = Sitting(object_file(0x3000, word))
             first = sitting.run().ending
             for _ in range(300):
                 sitting["MCR"] = 0x8000
@@ -197,10 +202,9 @@ class GoingOn(unittest.TestCase):
     def test_a_long_run(self) -> None:
         # R0 counts to 0 again and again, R1 to 100: some 13 million steps, then HALT.
         words = ["ADD R0, R0, #1", "BRnp #-2", "ADD R1, R1, #1", "LD R2, #4", "ADD R2, R1, R2"]
-        words += ["BRn #-6", HALT, 0, -100 & 0xFFFF]
-        for last, kind in ((HALT, EndKind.HALTED), (0xD000, EndKind.EXCEPTION)):
-            words[6] = last
-            sitting = Sitting(object_file(0x3000, *words))
+        for last, kind in ((0xF025, EndKind.HALTED), (0xD000, EndKind.EXCEPTION)):
+            file = object_file(0x3000, *words, "BRn #-6", last, 0, -100 & 0xFFFF)
+            sitting = Sitting(file)
             ending = sitting.run().ending
             self.assertGreater(sitting.clock, 10_000_000)
             self.assertEqual((ending.kind, ending.pc), (kind, 0x3006))
@@ -222,8 +226,8 @@ def class_monitor(**routines: int) -> dict[int, array[int]]:
     made = lc3.Routines(**{**table, "exception": 0x1400, "interrupt": 0x1500, **routines})
     vectors = lc3.vectors(made)
     vectors[0x30] = 0x1200
-    stop = ["LD R0, #1", "STI R0, #1", 0x0000, 0xFFFE]
-    parts: dict[int, list[str | int]] = {
+    stop: Words = ["LD R0, #1", "STI R0, #1", 0x0000, 0xFFFE]
+    parts: dict[int, Words] = {
         0x1000: ["LD R0, #4", OUT, OUT, *stop[:1], "STI R0, #2", ord("!"), 0, 0xFFFE],
         0x1100: ["STI R0, #1", "RTI", 0xFE06],
         0x1200: stop,
@@ -244,7 +248,7 @@ def _word(word: str | int) -> int:
 class OtherMonitors(unittest.TestCase):
     """A class's own monitor, none, and the second edition."""
 
-    def sitting(self, *words: str | int, **options: object) -> Sitting:
+    def sitting(self, *words: str | int, **options: Any) -> Sitting:
         """A program beside the class's monitor."""
         sitting = Sitting(object_file(0x3000, *words), monitor=False, **options)
         for at, part in class_monitor().items():
@@ -302,23 +306,24 @@ class OtherMonitors(unittest.TestCase):
         self.assertEqual(self.told(sitting), (EndKind.STRING_REFUSED, 0x3001, PUTS))
 
     def test_none_at_all(self) -> None:
-        for words, kind in (
-            (["ADD R0, R0, #1", HALT], EndKind.TRAP_WITHOUT_SERVICE),
-            (["ADD R0, R0, #1", 0xD000], EndKind.EXCEPTION),
-            (["ADD R0, R0, #1", "RTI"], EndKind.EXCEPTION),
+        for word, kind in (
+            (0xF025, EndKind.TRAP_WITHOUT_SERVICE),
+            (0xD000, EndKind.EXCEPTION),
+            (0x8000, EndKind.EXCEPTION),
         ):
             # Later on the program runs once more, in Supervisor mode, over its own stack.
             for steps in (2, 20, 5000):
-                ending = ended(*words, monitor=False, steps=steps)
+                ending = ended("ADD R0, R0, #1", word, monitor=False, steps=steps)
                 self.assertEqual((ending.kind, ending.pc), (kind, 0x3001), steps)
 
     def test_programs_in_supervisor_mode(self) -> None:
-        for words, kind, pc in (
+        programs: list[tuple[Words, EndKind, int]] = [
             (["ADD R0, R0, #1", HALT], EndKind.HALTED, 0x3001),
             ([OUT, 0xD000], EndKind.EXCEPTION, 0x3001),
             ([OUT, OUT, "TRAP x26"], EndKind.TRAP_WITHOUT_SERVICE, 0x3002),
             (["AND R0, R0, #0", "STI R0, #0", 0xFFFE], EndKind.MCR, 0x3001),
-        ):
+        ]
+        for words, kind, pc in programs:
             sitting = Sitting(object_file(0x3000, *words), mode=Mode.SUPERVISOR)
             self.assertEqual(self.told(sitting)[:2], (kind, pc))
             own = [step.pc for step in sitting.last_program_steps(10)]
@@ -326,8 +331,8 @@ class OtherMonitors(unittest.TestCase):
 
     def test_the_second_edition(self) -> None:
         # Its HALT calls OUT, which returns by RET, and keeps R7 for nobody.
-        halt = ["LD R0, #4", OUT, "AND R0, R0, #0", "STI R0, #2", 0, ord("!"), 0xFFFE]
-        out = ["STI R0, #1", "JMP R7", 0xFE06]
+        halt: Words = ["LD R0, #4", OUT, "AND R0, R0, #0", "STI R0, #2", 0, ord("!"), 0xFFFE]
+        out: Words = ["STI R0, #1", "JMP R7", 0xFE06]
         for words, kind, pc in (
             (["ADD R0, R0, #1", HALT], EndKind.HALTED, 0x3001),
             ([OUT, "JSR #1", HALT, "JMP R7"], EndKind.HALTED, 0x3002),
