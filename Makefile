@@ -147,4 +147,4 @@ soak: lib
 	LC3_RUNS=2000000 $(CARGO) --test long soak -- --ignored --nocapture
 
 clean:
-	rm -rf target build
+	rm -rf target build .mypy_cache
