@@ -4,13 +4,18 @@ from __future__ import annotations
 
 import csv
 import io
+import random
 import unittest
+from collections import Counter
 from typing import Any
 
 import lc3
+from lc3.command.flags import Flag, exceptions_of
+from lc3.command.terminal import Signals
+from lc3.ending import EXCEPTIONS
 
 from .mark_support import Marking, doubling
-from .support import fresh, object_file
+from .support import fresh, object_file, random_word
 
 # A routine for exceptions that goes on behind the instruction: it adds 1 to the PC on the stack.
 GO_ON = (
@@ -193,6 +198,39 @@ class Survived(Marking):
             [[list(flag.values()) for flag in one["flags"]] for one in result["results"]],
             [[["illegal opcode exception", 0x3003, ".FILL xD000", 1]]] * 2,
         )
+
+
+class Counted(unittest.TestCase):
+    """The log of a run made once more tells what the run did."""
+
+    def test_random_programs_against_single_steps(self) -> None:
+        rng, seen = random.Random(33), Counter[str]()
+        for _ in range(100):
+            words = [random_word(rng) for _ in range(60)]
+            sitting = lc3.Sitting(
+                object_file(0x3000, *words), examiner=[forgiving_monitor()], monitor=False
+            )
+            sitting.type("keys")
+            sitting.run(700)
+            again, steps = lc3.Sitting.of(sitting.recording()), Counter[str]()
+            first: dict[str, tuple[int, str]] = {}
+            for step in again.trace(sitting.clock):
+                if step.reason in EXCEPTIONS:
+                    steps[step.reason.text] += 1
+                    first.setdefault(step.reason.text, (step.pc, step.line))
+            flags = exceptions_of(sitting.recording(), Signals())
+            self.assertEqual({flag.flag: flag.times for flag in flags}, steps)
+            self.assertEqual([(flag.pc, flag.line) for flag in flags], list(first.values()))
+            seen += steps
+        self.assertEqual(set(seen), {reason.text for reason in EXCEPTIONS})
+
+    def test_more_steps_than_a_log_holds(self) -> None:
+        loop = object_file(0x3000, "LD R0, #-256", "BRnzp #-2")
+        sitting = lc3.Sitting(loop, examiner=[forgiving_monitor()], monitor=False)
+        sitting.run(1_000_000)
+        (flag,) = exceptions_of(sitting.recording(), Signals())
+        # Ten steps a round: the exception, the routine of eight, and the branch.
+        self.assertEqual(flag, Flag("access exception", 0x3000, "LD R0, #-256", 100_000))
 
 
 class Second(Marking):
