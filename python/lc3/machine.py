@@ -7,6 +7,8 @@ from __future__ import annotations
 
 import ctypes
 from array import array
+from copy import copy
+from hashlib import sha256
 from typing import Any, Callable, NamedTuple, Sequence
 
 from ._library import LIBRARY, RecordStruct
@@ -41,12 +43,47 @@ class Snapshot(NamedTuple):
     shown: int
 
 
+class Digest:
+    """The SHA-256 of bytes that come one after the other and are not held."""
+
+    def __init__(self) -> None:
+        """No bytes have come."""
+        self._hash: Any = None
+
+    def add(self, data: bytes) -> None:
+        """Adds bytes."""
+        self._hash = self._hash or sha256()
+        self._hash.update(data)
+
+    def of(self, rest: bytes) -> str:
+        """The digest of all bytes and these, in hexadecimal digits."""
+        whole = sha256() if self._hash is None else self._hash.copy()
+        whole.update(rest)
+        return str(whole.hexdigest())
+
+    def __copy__(self) -> Digest:
+        """A digest of its own, of the same bytes."""
+        other = Digest()
+        other._hash = None if self._hash is None else self._hash.copy()
+        return other
+
+    def __deepcopy__(self, _memo: object) -> Digest:
+        """The same."""
+        return copy(self)
+
+    def __getstate__(self) -> dict[str, Any]:
+        """What ``pickle`` makes it of; but what is in the middle of a digest can't be written."""
+        if self._hash is not None:
+            raise TypeError("a sitting that has forgotten its display can't be pickled")
+        return vars(self)
+
+
 class Machine:
     """Record, memory, keys and display of one machine.
 
     ``times`` and ``keys`` are the lists of all keys, of which the first ``arrived`` have arrived;
-    ``output`` holds the ``shown`` bytes of the display and room for more, but where ``limit`` is
-    set never for more than that.
+    ``output`` holds the ``shown`` bytes of the display but for the first ``dropped``, and room for
+    more, but where ``limit`` is set never for more than that.
     """
 
     def __init__(self, edition: Edition) -> None:
@@ -56,7 +93,7 @@ class Machine:
         self.words = array("H", bytes(MEMORY_BYTES))
         self._log = array("H")
         self.times, self.keys, self.arrived = array("Q"), array("B"), 0
-        self.output, self.shown = array("B", bytes(FIRST_ROOM)), 0
+        self.clear_display()
         self.limit: int | None = None
         self._bind()
 
@@ -72,6 +109,7 @@ class Machine:
         state = {**vars(self), "record": bytes(self.record), "_log": array("H")}
         for name in ("words", "times", "keys", "output"):
             state[name] = state[name][:]
+        state["_digest"] = copy(self._digest)
         for name in ("_run", "_view", "_memory"):
             del state[name]
         return state
@@ -89,10 +127,12 @@ class Machine:
         if count:
             times = self.times.buffer_info()[0] + 8 * self.arrived
             keys = self.keys.buffer_info()[0] + self.arrived
-        room = len(self.output) if self.limit is None else min(len(self.output), self.limit)
-        free = room - self.shown
+        held, room = self.shown - self.dropped, len(self.output)
+        if self.limit is not None:
+            room = min(room, self.limit - self.dropped)
+        free = room - held
         if free > 0:
-            output = self.output.buffer_info()[0] + self.shown
+            output = self.output.buffer_info()[0] + held
         else:
             free = 0
         return self._memory, MEMORY_WORDS, times, count, keys, count, output, free
@@ -101,9 +141,29 @@ class Machine:
         """Makes room for more bytes of the display, unless the limit is met."""
         if self.limit is not None and self.limit <= self.shown:
             return False
-        if len(self.output) <= self.shown:
+        if len(self.output) <= self.shown - self.dropped:
             self.output.frombytes(bytes(len(self.output)))
         return True
+
+    def clear_display(self, shown: int = 0) -> None:
+        """An empty display; so many bytes were shown before that are not asked for."""
+        self.output = array("B", bytes(FIRST_ROOM))
+        self.shown = self.dropped = shown
+        self._digest = Digest()
+
+    def displayed(self, first: int = 0) -> bytes:
+        """The bytes of the display from one of them on, as far as they are held."""
+        start = max(first - self.dropped, 0)
+        return self.output[start : self.shown - self.dropped].tobytes()
+
+    def drop_display(self) -> None:
+        """Holds no longer what was shown, but its digest."""
+        self._digest.add(self.displayed())
+        self.dropped = self.shown
+
+    def display_digest(self) -> str:
+        """The SHA-256 of all that was shown, in hexadecimal digits."""
+        return self._digest.of(self.displayed())
 
     def _answer(self, call: Callable[..., Any], *more: int) -> Any:
         """What a call answers to which all is lent, with record and counts booked."""
@@ -194,7 +254,7 @@ class Machine:
             before.clock,
             changes(before, self.record, old, self.words),
             self.keys[arrived : self.arrived].tobytes() if self.arrived > arrived else b"",
-            self.output[shown : self.shown].tobytes() if self.shown > shown else b"",
+            self.displayed(shown) if self.shown > shown else b"",
             Mode.USER if before.psr & PSR_USER else Mode.SUPERVISOR,
         )
 
@@ -249,8 +309,7 @@ class Machine:
         self.times.append(self.record.clock)
         self.keys.append(expected.kbdr)
         shown, stop = self.shown, self.advance(steps)
-        expected.clock = self.record.clock
-        same = bytes(self.record) == bytes(expected) and self.words.tobytes() == words
+        same = self.state() == bytes(expected)[:SHORT_BYTES] and self.words.tobytes() == words
         return stop is Stop.DONE and self.shown == shown and same
 
     def plain_record(self) -> Record:

@@ -167,7 +167,7 @@ def _left_by_frame(past: Past) -> Left | None:
     """The same from what an entry in User mode has pushed first on the supervisor stack, PSR and
     then PC, where the stack is still filled that far. What an entry was is told by the word: a
     TRAP pushes the address behind it, and an exception that of the instruction."""
-    base = _stack_base(past)
+    base = past.stack_base
     if base is None:
         return None
     machine = past.machine_at(past.clock)
@@ -182,15 +182,6 @@ def _left_by_frame(past: Past) -> Left | None:
     record.pc, record.psr, record.regs[6] = at, psr, record.saved_usp
     step = LoggedStep(at, machine.words[at], reason)
     return None if reason is Reason.INSTRUCTION else Left(past.clock, step, record)
-
-
-def _stack_base(past: Past) -> int | None:
-    """The supervisor stack's pointer while the program runs, as a snapshot in User mode has it."""
-    for mark in reversed(past.marks):
-        record = past.machine_at(mark.snapshot.clock).plain_record()
-        if past.edition is Edition.THIRD and record.psr & PSR_USER:
-            return record.saved_ssp
-    return None
 
 
 def effect(word: int, reason: int, edition: Edition) -> int:

@@ -32,8 +32,9 @@ class Past(NamedTuple):
     made: int
     times: array[int]
     keys: array[int]
-    room: int
     clock: int
+    # The supervisor stack's pointer while the program runs in User mode, where it has done so.
+    stack_base: int | None
 
     @property
     def start(self) -> int:
@@ -69,7 +70,7 @@ class Past(NamedTuple):
         snapshot, made = [mark for mark in self.marks if mark.snapshot.clock <= clock][-1]
         machine = Machine(self.edition)
         machine.times, machine.keys = self.times[:], self.keys[:]
-        machine.output = array("B", bytes(self.room))
+        machine.clear_display(snapshot.shown)
         machine.restore(snapshot)
         while made < self.made and self.alterations[made].clock <= clock:
             _run_to(machine, self.alterations[made].clock)

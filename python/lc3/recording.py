@@ -152,8 +152,7 @@ class End:
     def of(cls, machine: Machine) -> End:
         """Where a machine stands."""
         memory = hashlib.sha256(high_first(machine.words)).hexdigest()
-        display = hashlib.sha256(machine.output[: machine.shown]).hexdigest()
-        return cls(machine.plain_record(), memory, display, machine.shown)
+        return cls(machine.plain_record(), memory, machine.display_digest(), machine.shown)
 
 
 def high_first(words: array[int]) -> bytes:

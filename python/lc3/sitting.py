@@ -20,7 +20,7 @@ from typing import TYPE_CHECKING, Any, Iterator, MutableSet, NamedTuple, Sequenc
 from . import calls
 from .breakpoints import Breakpoints
 from .constants import KBSR_READY, MAX_CLOCK, MAX_STEPS, MCR_CLOCK, MEMORY_WORDS, USER_ORIGIN
-from .constants import USER_STACK, __version__
+from .constants import PSR_USER, USER_STACK, __version__
 from .ending import EndKind, Ending, SittingReport, ending_of
 from .exclusive import Exclusive, exclusive
 from .log import LoggedStep, logged_steps
@@ -235,7 +235,8 @@ than two: an object file is an origin and words, of two bytes each
         machine = self._machine
         machine.record = started.record.to_c()
         machine.times, machine.keys, machine.arrived = array("Q"), array("B"), 0
-        machine.shown = self._taken = 0
+        machine.clear_display()
+        self._taken = 0
         self._typed, self._look, self._since = bytearray(), 0, 0
         self._left: Typed | None = None
         self._left_until = 0
@@ -243,6 +244,8 @@ than two: an object file is an origin and words, of two bytes each
         self._made = 0
         self._marks = []
         self._passed: tuple[int, int] | None = None
+        self._forgotten = False
+        self._stack_base: int | None = None
         self._run_past: Past | None = None
         self.stop = Stop.DONE
 
@@ -421,14 +424,44 @@ than two: an object file is an origin and words, of two bytes each
 
     @property
     def display_bytes(self) -> bytes:
-        """All that was shown."""
-        return self._machine.output[: self._machine.shown].tobytes()
+        """All that was shown, but for what ``take_display`` has forgotten."""
+        return self._machine.displayed()
 
     @exclusive
-    def take_display(self) -> bytes:
-        """What was shown since this was asked last: for a host that shows it as it comes."""
+    def take_display(self, forget: bool = False) -> bytes:
+        """What was shown since this was asked last: for a host that shows it as it comes. With
+        ``forget`` it is held no longer, so that a long display takes no memory."""
         taken, self._taken = self._taken, self._machine.shown
-        return self._machine.output[taken : self._taken].tobytes()
+        data = self._machine.displayed(taken)
+        if forget:
+            self._machine.drop_display()
+        return data
+
+    @exclusive
+    def forget(self) -> None:
+        """Forgets the keys that have arrived, but for the last million steps, and the start: for a
+        host that never records the sitting, so that a long one takes no memory.
+
+        >>> sitting = Sitting(bytes.fromhex("3000 1021 0FFE"))
+        >>> for _ in range(4):
+        ...     _ = sitting.run(1 << 20), sitting.forget()
+        >>> sitting.recording()
+        Traceback (most recent call last):
+        ValueError: the sitting has forgotten its start, and can't be recorded
+        """
+        if len(self._marks) < 3:
+            return
+        machine, (snapshot, made) = self._machine, self._marks[1]
+        arrived = snapshot.arrived
+        # New lists: what tells of the past still has the old ones.
+        machine.times, machine.keys = machine.times[arrived:], machine.keys[arrived:]
+        machine.arrived -= arrived
+        self._alterations, self._made = self._alterations[made:], self._made - made
+        self._marks = [
+            Mark(mark._replace(arrived=mark.arrived - arrived), before - made)
+            for mark, before in self._marks[1:]
+        ]
+        self._forgotten = True
 
     @property
     def display_limit(self) -> int | None:
@@ -573,7 +606,7 @@ PSR x8001 -> x0001, Saved_USP x0000 -> xFDFF, x2FFE x0000 -> x3002, x2FFF x0000 
     def _begin(self) -> None:
         """Keeps the machine as it stands before the first step: there the recording begins."""
         if not self._marks:
-            self._marks = [Mark(self._machine.snapshot(), 0)]
+            self._mark()
 
     def _go(self, end: int) -> Stop:
         """Runs to a clock, in as many calls as it takes, unless something stops it."""
@@ -638,9 +671,16 @@ PSR x8001 -> x0001, Saved_USP x0000 -> xFDFF, x2FFE x0000 -> x3002, x2FFF x0000 
             self._typed = bytearray(self._left.text)
             self._look, self._since, self._left = self._left.look, self._left.since, None
         if clock - self._marks[-1].snapshot.clock >= MARK_EVERY:
-            self._marks.append(Mark(self._machine.snapshot(), self._made))
+            self._mark()
             # The start is kept, and two more: the log may reach back beyond the last.
             del self._marks[1:-2]
+
+    def _mark(self) -> None:
+        """Takes a snapshot. In User mode the supervisor stack's pointer is seen as well."""
+        record = self._machine.record
+        self._marks.append(Mark(self._machine.snapshot(), self._made))
+        if self.edition is Edition.THIRD and record.psr & PSR_USER:
+            self._stack_base = record.saved_ssp
 
     # The past.
 
@@ -695,8 +735,8 @@ PSR x8001 -> x0001, Saved_USP x0000 -> xFDFF, x2FFE x0000 -> x3002, x2FFF x0000 
             self._made,
             machine.times,
             machine.keys,
-            len(machine.output),
             machine.record.clock,
+            self._stack_base,
         )
 
     @property
@@ -719,7 +759,7 @@ PSR x8001 -> x0001, Saved_USP x0000 -> xFDFF, x2FFE x0000 -> x3002, x2FFF x0000 
         """A machine of its own where this one stands, with the same keys."""
         machine, twin = self._machine, Machine(self.edition)
         twin.times, twin.keys = machine.times[:], machine.keys[:]
-        twin.output = array("B", bytes(len(machine.output)))
+        twin.clear_display(machine.shown)
         twin.restore(machine.snapshot())
         return twin
 
@@ -782,6 +822,8 @@ PSR x8001 -> x0001, Saved_USP x0000 -> xFDFF, x2FFE x0000 -> x3002, x2FFF x0000 
     @exclusive
     def recording(self) -> Recording:
         """The sitting so far as a recording: see ``lc3.recording``."""
+        if self._forgotten:
+            raise ValueError("the sitting has forgotten its start, and can't be recorded")
         self._begin()
         machine, left = self._machine, self._left
         begun = Machine(self.edition)

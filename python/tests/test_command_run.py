@@ -138,6 +138,53 @@ class Running(Folder):
         self.assertIn("PC x3000  ADD R0, R0, #1", err)
         self.assertTrue(err.splitlines()[-1].startswith("lc3: all steps asked for were made"))
 
+    def test_registers_of_the_program(self) -> None:
+        set_up = ["ADD R1, R1, #7", "LD R6, #2"]
+        for last, code in (("TRAP x25", 0), (0xD000, 4), ("TRAP x26", 4)):
+            program = self.file("own.obj", object_file(0x3000, *set_up, last, 0, 0x4000))
+            ended = ran("run", "--registers", program)
+            lines = ended.err.splitlines()
+            self.assertEqual(ended.code, code)
+            self.assertEqual(lines[0], "the program's own registers, before its last instruction:")
+            self.assertIn("R1 x0007      7", lines[1])
+            self.assertIn("R6 x4000  16384", lines[2])
+            self.assertEqual(lines[3].split()[:2], ["PC", "x3002"])
+            self.assertIn("PSR x8001  User mode, priority 0, P", lines[4])
+            self.assertIn("MCR x0000", lines[5])
+
+    def test_crashes(self) -> None:
+        for words, said in (
+            (["RTI"], "stopped by the privilege exception; 3 steps; PC x3000: RTI"),
+            ([0xD000], "stopped by the illegal opcode exception; 3 steps; PC x3000: .FILL xD000"),
+            (["LDR R0, R0, #0"], "the access exception; 3 steps; PC x3000: LDR R0, R0, #0"),
+            (["JMP R0"], "the access exception; 4 steps; PC x0000: User mode fetches nothing"),
+            (["ADD R0, R0, #1"], "access exception; 52739 steps; PC xFE00: User mode fetches"),
+            (["TRAP x26"], "stopped by TRAP x26, which has no service; 3 steps; PC x3000"),
+            (["TRAP x22"], "stopped by PUTS, whose string came to privileged memory; "),
+            (["TRAP x24"], "stopped by PUTSP, whose string came to privileged memory; "),
+        ):
+            program = self.file("crash.obj", object_file(0x3000, *words))
+            for command in ("run", "log"):
+                code, _, err = ran(command, program)
+                self.assertEqual((code, said in err), (4, True), err)
+        store = object_file(0x3000, "AND R0, R0, #0", "STI R0, #0", 0xFFFE)
+        code, _, err = ran("run", "--supervisor", self.file("store.obj", store))
+        said = "lc3: halted by a store to MCR; 2 steps; PC x3001: STI R0, #0\n"
+        self.assertEqual((code, err), (0, said))
+
+    def test_a_program_without_a_monitor_ends(self) -> None:
+        for words, code, said in (
+            (["ADD R0, R0, #1", "TRAP x25"], 4, "TRAP x25, which has no service; "),
+            (["ADD R0, R0, #1", 0xD000], 4, "the illegal opcode exception; "),
+            (["ADD R0, R0, #1", "BRnzp #-1"], 1, "a loop that not even a key can end; "),
+        ):
+            program = self.file("alone.obj", object_file(0x3000, *words))
+            for edition in (2, 3):
+                ended = ran("run", "--no-monitor", "--edition", edition, program)
+                self.assertEqual(ended.code, code, ended.err)
+                self.assertIn(said, ended.err)
+                self.assertIn("; PC x3001: ", ended.err)
+
     def test_all_bytes_of_the_display(self) -> None:
         # Shows R0 from 0 to 255, waiting for DSR each time.
         words: Words = ["LDI R2, #7", "BRzp #-2", "STI R0, #6", "ADD R0, R0, #1", "LD R3, #5"]
@@ -231,6 +278,45 @@ class Processes(Folder):
             self.assertEqual(ended.returncode, code, line)
             self.assertIn(said, ended.stderr.decode())
             self.assertNotIn(b"Traceback", ended.stderr)
+
+    def test_an_input_that_nobody_may_read(self) -> None:
+        # So nohup leaves standard input, where it was a terminal.
+        for content, code, said in ((HELLO, 0, "halted by HALT"), (ECHO, 1, "no more keys come")):
+            with open(os.devnull, "wb") as unreadable:
+                command = [*PYTHON, "run", str(self.file("program.obj", content))]
+                ended = subprocess.run(
+                    command, stdin=unreadable, env=ENVIRONMENT, capture_output=True, timeout=60
+                )
+            self.assertEqual(ended.returncode, code)
+            self.assertIn(said, ended.stderr.decode())
+
+    def test_an_input_longer_than_memory(self) -> None:
+        hello, keys = self.file("hello.obj", HELLO), self.file("keys", b"")
+        os.truncate(keys, 1 << 36)
+        line = f"ulimit -v 1000000; exec {PYTHON[0]} -m lc3 run {hello} < {keys}"
+        ended = subprocess.run(["sh", "-c", line], env=ENVIRONMENT, capture_output=True, timeout=60)
+        self.assertEqual((ended.returncode, ended.stdout), (0, b"Hi\nHalted\n"), ended.stderr)
+
+    def test_a_long_file_is_typed_as_if_at_once(self) -> None:
+        program, saved = self.file("until.obj", UNTIL_Q), self.folder / "sitting.json"
+        every = bytes(range(1, 0x71)) * 900 + b"q"
+        with open(self.file("keys", every), "rb") as keys:
+            command = [*PYTHON, "run", "--save-sitting", str(saved), str(program)]
+            ended = subprocess.run(command, stdin=keys, env=ENVIRONMENT, capture_output=True)
+        self.assertEqual((ended.returncode, ended.stdout), (0, every + b"Halted\n"))
+        sitting = lc3.Sitting(program)
+        sitting.type(every)
+        sitting.run()
+        self.assertEqual(lc3.Sitting.replay(saved).keys, sitting.keys)
+
+    def test_what_is_far_back_is_forgotten(self) -> None:
+        # Reads 100,000 keys and then waits: how it ends is told all the same.
+        echo = self.file("echo.obj", ECHO)
+        every = bytes(range(250)) * 400
+        ended = process("run", echo, keys=every)
+        self.assertEqual((ended.code, ended.out), (1, every))
+        self.assertIn("the program waits for a key, and no more keys come; ", ended.err)
+        self.assertTrue(ended.err.endswith("; PC x3000: TRAP x20\n"), ended.err)
 
     def test_a_reader_that_goes_away(self) -> None:
         # Shows R0 for ever.

@@ -2,7 +2,9 @@
 
 from __future__ import annotations
 
+import copy
 import os
+import pickle
 import random
 import signal
 import tempfile
@@ -443,6 +445,46 @@ class Display(unittest.TestCase):
         file = object_file(0x3000, *self.WORDS, 0xFE04, 0xFE06)
         mode = lc3.Mode.SUPERVISOR
         return Sitting(file, mode=mode, monitor=False, display_limit=display_limit)
+
+    def test_what_is_taken_may_be_forgotten(self) -> None:
+        whole, sitting, taken = self.sitting(), self.sitting(), b""
+        whole.run(300_000)
+        for _ in range(30):
+            sitting.run(10_000)
+            taken += sitting.take_display(forget=True)
+        self.assertGreater(len(taken), 20_000)
+        self.assertEqual((taken, sitting.display), (whole.display_bytes, ""))
+        self.assertLess(len(sitting._machine.output), 10_000)
+        # The recording is that of the whole, and so is that of a copy.
+        self.assertEqual(sitting.recording().end, whole.recording().end)
+        self.assertEqual(sitting.last_steps(50), whole.last_steps(50))
+        for other in (copy.copy(sitting), copy.deepcopy(sitting)):
+            other.run(1000)
+            other.take_display(forget=True)
+            self.assertEqual(sitting.recording().end, whole.recording().end)
+        self.assertRaisesRegex(TypeError, "forgotten its display", pickle.dumps, sitting)
+        sitting.display_limit = len(taken) + 3
+        self.assertEqual(sitting.run().stop, lc3.Stop.OUTPUT_FULL)
+        self.assertEqual(len(sitting.display_bytes), 3)
+        sitting.start()
+        self.assertEqual((sitting.display, sitting.run(1000).shown > 10), ("", True))
+
+    def test_what_lies_far_back_may_be_forgotten(self) -> None:
+        keys = bytes(range(1, 251)) * 400
+        whole, sitting = Sitting(ECHO), Sitting(ECHO)
+        whole.type(keys)
+        sitting.type(keys)
+        for _ in range(40):
+            self.assertEqual(whole.run(100_000), sitting.run(100_000))
+            sitting.forget()
+        self.assertEqual(sitting.record, whole.record)
+        self.assertLess(len(sitting.keys), len(whole.keys))
+        self.assertEqual(sitting.keys, whole.keys[-len(sitting.keys) :])
+        self.assertEqual(sitting.last_steps(1000), whole.last_steps(1000))
+        self.assertEqual(sitting.ending, whole.ending)
+        self.assertRaises(ValueError, sitting.recording)
+        sitting.start()
+        self.assertEqual(sitting.recording().steps, 0)
 
     def test_it_grows(self) -> None:
         sitting = self.sitting()

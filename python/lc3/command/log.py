@@ -67,6 +67,9 @@ def _every_step(
     def advance(count: int) -> Stop:
         """Makes steps, and writes them."""
         told = seat.sitting.trace_at_once(count)
+        seat.sitting.take_display(forget=True)
+        if seat.forgets:
+            seat.sitting.forget()
         if options.program:
             told = [step for step in told if steps.own(step)]
         _write(display, *map(row, told))
@@ -80,7 +83,9 @@ def _run(seat: Seat, signals: Signals) -> Ending:
 
     def advance(steps: int) -> Stop:
         """Makes steps."""
-        return seat.sitting.run(steps).stop
+        stop = seat.sitting.run(steps).stop
+        seat.sitting.take_display(forget=True)
+        return stop
 
     return sit(seat.sitting, seat.keyboard, signals, seat.end, advance, RUNNING, seat.patient)
 

@@ -18,7 +18,9 @@ def command(options: argparse.Namespace) -> Code:
     def advance(steps: int) -> Stop:
         """Makes steps, and shows what they showed."""
         stop = seat.sitting.run(steps).stop
-        display.show(seat.sitting.take_display())
+        display.show(seat.sitting.take_display(forget=True))
+        if seat.forgets:
+            seat.sitting.forget()
         return Stop.INTERRUPTED if display.gone else stop
 
     with signals:

@@ -65,7 +65,7 @@ def sit(
     apart, keys = pace.first, keyboard.first
     look = sitting.clock + apart
     while True:
-        keys = keys or (b"" if sitting.typed else keyboard.poll())
+        keys = keys or (keyboard.poll() if len(sitting.typed) < keyboard.ahead else b"")
         if keys:
             # Only then: even to type nothing is to depart from a replay.
             sitting.type(keys)
@@ -114,13 +114,15 @@ def _ended(sitting: Sitting, signals: Signals, stop: Stop, end: int) -> Ending |
 
 class Seat(NamedTuple):
     """What a command line asks for: a sitting, its keys, the clock at which it is over, and whether
-    that is to be reached whatever happens: a number was given, or a recording has it."""
+    that is to be reached whatever happens: a number was given, or a recording has it. A sitting of
+    which no recording is made ``forgets`` what lies far back."""
 
     sitting: Sitting
     keyboard: Keyboard
     end: int
     patient: bool
     recording: Recording | None = None
+    forgets: bool = False
 
 
 def seat_of(options: argparse.Namespace, signals: Signals) -> Seat:
@@ -136,7 +138,8 @@ def seat_of(options: argparse.Namespace, signals: Signals) -> Seat:
         sitting = sitting_of(options, examiner, candidate)
         keyboard = _keyboard(options.keys, signals)
         asked = options.steps is not None
-        seat = Seat(sitting, keyboard, options.steps if asked else MAX_CLOCK, asked)
+        end, forgets = options.steps if asked else MAX_CLOCK, options.save_sitting is None
+        seat = Seat(sitting, keyboard, end, asked, forgets=forgets)
     if options.save_sitting is not None:
         _check_saving(options)
     return seat

@@ -14,9 +14,11 @@ import stat
 import sys
 import termios
 import threading
+from fcntl import F_GETFL, fcntl
 from types import FrameType
 from typing import Any
 
+from ..constants import MAX_STEPS
 from .messages import let_go
 
 # The keys that are read at once. More are read when the program has taken these.
@@ -99,7 +101,10 @@ def die(number: int) -> None:
 
 
 class Keyboard:
-    """The keys that are given before the first step; no others come."""
+    """The keys that are given before the first step; no others come. Of another keyboard, more keys
+    are asked for where fewer than ``ahead`` are typed and not taken."""
+
+    ahead = 1
 
     def __init__(self, first: bytes = b"") -> None:
         """The keys."""
@@ -119,6 +124,26 @@ class Keyboard:
     def wait(self) -> bytes:
         """Waits for keys; nothing where no more come, or where a signal has come instead."""
         return b""
+
+
+class File(Keyboard):
+    """The bytes of a file, some at a time. So many are typed ahead that the program, which gets a
+    key every 32 steps at most, never waits for those that are still to be read."""
+
+    ahead = MAX_STEPS // 32 + 1
+
+    def __init__(self, fd: int) -> None:
+        """A file, open for reading."""
+        super().__init__()
+        self._fd = fd
+
+    def poll(self) -> bytes:
+        """The next bytes, or nothing at the end."""
+        return _read(self._fd)
+
+    def wait(self) -> bytes:
+        """The same: a file has nothing to wait for."""
+        return _read(self._fd)
 
 
 class Stream(Keyboard):
@@ -144,15 +169,10 @@ class Stream(Keyboard):
     def _read(self) -> bytes:
         """The bytes that are there, or nothing at the end."""
         try:
-            data = os.read(self.fd, AT_ONCE)
+            data = _read(self.fd)
         except BlockingIOError:
             # Another process has read what was there.
             return b""
-        except OSError as error:
-            # A terminal whose window is closed can't be read.
-            if error.errno != errno.EIO:
-                raise OSError(error.errno, error.strerror, "standard input") from None
-            data = b""
         self._ended = not data
         return data
 
@@ -209,19 +229,32 @@ class Terminal(Stream):
         self._set()
 
 
+def _read(fd: int) -> bytes:
+    """Some bytes of standard input, or nothing at its end."""
+    try:
+        return os.read(fd, AT_ONCE)
+    except OSError as error:
+        # A terminal whose window is closed can't be read.
+        if error.errno == errno.EIO:
+            return b""
+        error.filename = "standard input"
+        raise
+
+
 def standard_keyboard(signals: Signals) -> Keyboard:
     """The keys of standard input, be it a terminal, a file or a pipe."""
     try:
         fd = sys.stdin.fileno()
+        unreadable = fcntl(fd, F_GETFL) & os.O_ACCMODE == os.O_WRONLY
     except (OSError, ValueError):
         # It is no file at all.
         return Keyboard()
+    if unreadable:
+        # So nohup leaves a terminal.
+        return Keyboard()
     if os.isatty(fd):
         return Terminal(fd, signals)
-    if stat.S_ISREG(os.fstat(fd).st_mode):
-        with open(fd, "rb", closefd=False) as stream:
-            return Keyboard(stream.read())
-    return Stream(fd, signals)
+    return File(fd) if stat.S_ISREG(os.fstat(fd).st_mode) else Stream(fd, signals)
 
 
 class Display:
