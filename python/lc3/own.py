@@ -133,8 +133,10 @@ def _in_user_mode(past: Past, clock: int) -> bool:
 
 
 def _beginnings(past: Past) -> Iterator[int]:
-    """The clocks from which on the log is looked through, one after the other."""
-    for count in LOOKED_THROUGH[past.edition]:
+    """The clocks from which on the log is looked through, one after the other. Only for a program
+    in User mode, which is sure to be there, it is worth to look far back."""
+    counts = LOOKED_THROUGH[past.edition]
+    for count in counts[:2] if past.stack_base is None else counts:
         yield max(past.clock - count, past.start)
         if past.clock - count <= past.start:
             return

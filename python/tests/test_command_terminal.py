@@ -214,7 +214,12 @@ class Settings(Folder):
         signals = terminal.Signals()
         file = self.file("keys", b"abc")
         with open(file) as stream, mock.patch.object(sys, "stdin", stream):
-            self.assertEqual(terminal.standard_keyboard(signals).first, b"abc")
+            keyboard = terminal.standard_keyboard(signals)
+            self.assertEqual([keyboard.poll(), keyboard.poll(), keyboard.wait()], [b"abc", b"", b""])
+        with open(os.devnull, "wb") as stream, mock.patch.object(sys, "stdin", stream):
+            # So nohup leaves a terminal.
+            keyboard = terminal.standard_keyboard(signals)
+            self.assertEqual((keyboard.poll(), keyboard.wait()), (b"", b""))
         with open(self.end, closefd=False) as stream, mock.patch.object(sys, "stdin", stream):
             self.assertIsInstance(terminal.standard_keyboard(signals), terminal.Terminal)
         with open(os.devnull) as stream, mock.patch.object(sys, "stdin", stream):

@@ -3,7 +3,10 @@ that is made from single logged steps."""
 
 from __future__ import annotations
 
+import os
 import random
+import signal
+import threading
 import unittest
 from array import array
 from dataclasses import replace
@@ -134,6 +137,40 @@ class Kinds(unittest.TestCase):
         for _ in range(2):
             self.assertEqual(sitting.run().ending.kind, EndKind.OUTPUT_LIMIT)
             self.assertEqual(sitting.ending.pc, 0x3001)
+
+    def test_waits_and_loops(self) -> None:
+        for words, kind in (
+            ([GETC, HALT], EndKind.WAITING),
+            (["TRAP x23", HALT], EndKind.WAITING),
+            (["BRnzp #-1"], EndKind.LOOP),
+            (["AND R0, R0, #0", "ADD R0, R0, #1", "BRnzp #-3"], EndKind.LOOP),
+            (["ADD R0, R0, #1", "BRnzp #-2"], None),
+        ):
+            for edition in (2, 3) if "TRAP" not in str(words) else (3,):
+                sitting = Sitting(object_file(0x3000, *words), edition=edition)
+                sitting.run(1000)
+                self.assertEqual(sitting.idle(), kind, words)
+        # In Supervisor mode: the first loop asks KBSR, the second one takes KBDR as it comes.
+        for words in (["LDI R0, #1", "BRzp #-2", 0xFE00], ["LDI R0, #1", "BRnzp #-2", 0xFE02]):
+            sitting = Sitting(object_file(0x3000, *words), mode=Mode.SUPERVISOR)
+            sitting.run(10)
+            self.assertEqual(sitting.idle(), EndKind.WAITING, words)
+        # A key that interrupts ends any loop.
+        sitting = Sitting(object_file(0x3000, "BRnzp #-1"))
+        sitting["KBSR"] = 0x4000
+        self.assertEqual(sitting.idle(), EndKind.WAITING)
+
+    def test_interrupted(self) -> None:
+        for words, line in ((["BRnzp #-1"], "BRnzp #-1"), ([GETC], GETC)):
+            sitting = Sitting(object_file(0x3000, *words))
+            usual = signal.signal(signal.SIGINT, lambda *_: None)
+            try:
+                threading.Timer(0.05, os.kill, (os.getpid(), signal.SIGINT)).start()
+                ending = sitting.run().ending
+            finally:
+                signal.signal(signal.SIGINT, usual)
+            self.assertEqual((ending.kind, ending.pc), (EndKind.INTERRUPTED, 0x3000))
+            self.assertEqual(ending.line, line)
 
     def test_before_the_first_step(self) -> None:
         ending = Sitting(object_file(0x3000, HALT)).ending
