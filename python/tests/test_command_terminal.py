@@ -215,7 +215,8 @@ class Settings(Folder):
         file = self.file("keys", b"abc")
         with open(file) as stream, mock.patch.object(sys, "stdin", stream):
             keyboard = terminal.standard_keyboard(signals)
-            self.assertEqual([keyboard.poll(), keyboard.poll(), keyboard.wait()], [b"abc", b"", b""])
+            told = [keyboard.poll(), keyboard.poll(), keyboard.wait()]
+            self.assertEqual(told, [b"abc", b"", b""])
         with open(os.devnull, "wb") as stream, mock.patch.object(sys, "stdin", stream):
             # So nohup leaves a terminal.
             keyboard = terminal.standard_keyboard(signals)
