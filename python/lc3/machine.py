@@ -106,7 +106,7 @@ class Machine:
 
     def __getstate__(self) -> dict[str, Any]:
         """What a copy is made of, in objects of its own: no call, no view and no address."""
-        state = {**vars(self), "record": bytes(self.record), "_log": array("H")}
+        state: dict[str, Any] = {**vars(self), "record": bytes(self.record), "_log": array("H")}
         for name in ("words", "times", "keys", "output"):
             state[name] = state[name][:]
         state["_digest"] = copy(self._digest)

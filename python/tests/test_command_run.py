@@ -139,9 +139,10 @@ class Running(Folder):
         self.assertTrue(err.splitlines()[-1].startswith("lc3: all steps asked for were made"))
 
     def test_registers_of_the_program(self) -> None:
-        set_up = ["ADD R1, R1, #7", "LD R6, #2"]
-        for last, code in (("TRAP x25", 0), (0xD000, 4), ("TRAP x26", 4)):
-            program = self.file("own.obj", object_file(0x3000, *set_up, last, 0, 0x4000))
+        ends: tuple[tuple[str | int, int], ...] = (("TRAP x25", 0), (0xD000, 4), ("TRAP x26", 4))
+        for last, code in ends:
+            words = ("ADD R1, R1, #7", "LD R6, #2", last, 0, 0x4000)
+            program = self.file("own.obj", object_file(0x3000, *words))
             ended = ran("run", "--registers", program)
             lines = ended.err.splitlines()
             self.assertEqual(ended.code, code)
@@ -153,17 +154,18 @@ class Running(Folder):
             self.assertIn("MCR x0000", lines[5])
 
     def test_crashes(self) -> None:
-        for words, said in (
-            (["RTI"], "stopped by the privilege exception; 3 steps; PC x3000: RTI"),
-            ([0xD000], "stopped by the illegal opcode exception; 3 steps; PC x3000: .FILL xD000"),
-            (["LDR R0, R0, #0"], "the access exception; 3 steps; PC x3000: LDR R0, R0, #0"),
-            (["JMP R0"], "the access exception; 4 steps; PC x0000: User mode fetches nothing"),
-            (["ADD R0, R0, #1"], "access exception; 52739 steps; PC xFE00: User mode fetches"),
-            (["TRAP x26"], "stopped by TRAP x26, which has no service; 3 steps; PC x3000"),
-            (["TRAP x22"], "stopped by PUTS, whose string came to privileged memory; "),
-            (["TRAP x24"], "stopped by PUTSP, whose string came to privileged memory; "),
-        ):
-            program = self.file("crash.obj", object_file(0x3000, *words))
+        crashes: dict[str | int, str] = {
+            "RTI": "stopped by the privilege exception; 3 steps; PC x3000: RTI",
+            0xD000: "stopped by the illegal opcode exception; 3 steps; PC x3000: .FILL xD000",
+            "LDR R0, R0, #0": "the access exception; 3 steps; PC x3000: LDR R0, R0, #0",
+            "JMP R0": "the access exception; 4 steps; PC x0000: User mode fetches nothing",
+            "ADD R0, R0, #1": "access exception; 52739 steps; PC xFE00: User mode fetches",
+            "TRAP x26": "stopped by TRAP x26, which has no service; 3 steps; PC x3000",
+            "TRAP x22": "stopped by PUTS, whose string came to privileged memory; ",
+            "TRAP x24": "stopped by PUTSP, whose string came to privileged memory; ",
+        }
+        for word, said in crashes.items():
+            program = self.file("crash.obj", object_file(0x3000, word))
             for command in ("run", "log"):
                 code, _, err = ran(command, program)
                 self.assertEqual((code, said in err), (4, True), err)
@@ -173,12 +175,13 @@ class Running(Folder):
         self.assertEqual((code, err), (0, said))
 
     def test_a_program_without_a_monitor_ends(self) -> None:
-        for words, code, said in (
-            (["ADD R0, R0, #1", "TRAP x25"], 4, "TRAP x25, which has no service; "),
-            (["ADD R0, R0, #1", 0xD000], 4, "the illegal opcode exception; "),
-            (["ADD R0, R0, #1", "BRnzp #-1"], 1, "a loop that not even a key can end; "),
-        ):
-            program = self.file("alone.obj", object_file(0x3000, *words))
+        ends: tuple[tuple[str | int, int, str], ...] = (
+            ("TRAP x25", 4, "TRAP x25, which has no service; "),
+            (0xD000, 4, "the illegal opcode exception; "),
+            ("BRnzp #-1", 1, "a loop that not even a key can end; "),
+        )
+        for last, code, said in ends:
+            program = self.file("alone.obj", object_file(0x3000, "ADD R0, R0, #1", last))
             for edition in (2, 3):
                 ended = ran("run", "--no-monitor", "--edition", edition, program)
                 self.assertEqual(ended.code, code, ended.err)

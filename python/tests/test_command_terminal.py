@@ -217,7 +217,7 @@ class Settings(Folder):
             keyboard = terminal.standard_keyboard(signals)
             told = [keyboard.poll(), keyboard.poll(), keyboard.wait()]
             self.assertEqual(told, [b"abc", b"", b""])
-        with open(os.devnull, "wb") as stream, mock.patch.object(sys, "stdin", stream):
+        with open(os.devnull, "w") as stream, mock.patch.object(sys, "stdin", stream):
             # So nohup leaves a terminal.
             keyboard = terminal.standard_keyboard(signals)
             self.assertEqual((keyboard.poll(), keyboard.wait()), (b"", b""))

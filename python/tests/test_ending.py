@@ -151,10 +151,11 @@ class Kinds(unittest.TestCase):
                 sitting.run(1000)
                 self.assertEqual(sitting.idle(), kind, words)
         # In Supervisor mode: the first loop asks KBSR, the second one takes KBDR as it comes.
-        for words in (["LDI R0, #1", "BRzp #-2", 0xFE00], ["LDI R0, #1", "BRnzp #-2", 0xFE02]):
-            sitting = Sitting(object_file(0x3000, *words), mode=Mode.SUPERVISOR)
+        for loop, device in (("BRzp #-2", 0xFE00), ("BRnzp #-2", 0xFE02)):
+            file = object_file(0x3000, "LDI R0, #1", loop, device)
+            sitting = Sitting(file, mode=Mode.SUPERVISOR)
             sitting.run(10)
-            self.assertEqual(sitting.idle(), EndKind.WAITING, words)
+            self.assertEqual(sitting.idle(), EndKind.WAITING, loop)
         # A key that interrupts ends any loop.
         sitting = Sitting(object_file(0x3000, "BRnzp #-1"))
         sitting["KBSR"] = 0x4000
