@@ -133,8 +133,8 @@ def _in_user_mode(past: Past, clock: int) -> bool:
 
 
 def _beginnings(past: Past) -> Iterator[int]:
-    """The clocks from which on the log is looked through, one after the other. Only for a program
-    in User mode, which is sure to be there, it is worth to look far back."""
+    """The clocks from which on the log is looked through, one after the other. It is worth to look
+    far back only for a program in User mode, which is sure to be there."""
     counts = LOOKED_THROUGH[past.edition]
     for count in counts[:2] if past.stack_base is None else counts:
         yield max(past.clock - count, past.start)
@@ -153,7 +153,9 @@ def _left_since(past: Past, first: int) -> Left | None:
     log = past.log(first)
     inner: list[LoggedStep] = []
     found: Left | None = None
-    for place in islice(open_places(log, past.edition), MOST_OPEN):
+    places = list(open_places(log, past.edition))
+    # Where there are more, the first of all is looked at as well: with it the trouble began.
+    for place in places[:MOST_OPEN] + places[MOST_OPEN:][-1:]:
         step = _step(log, place)
         record = past.machine_at(first + place).plain_record()
         here = Left(first + place, step, record, tuple(reversed(inner)))

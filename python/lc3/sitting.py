@@ -115,6 +115,12 @@ candidate's belongs: give it another origin, or take fewer words
     **Display.** ``display`` is all that was shown, as text with one character for each byte. It
     grows as needed; with ``display_limit`` a run stops before the byte that is too many.
 
+    **Endings.** ``ending`` tells how the last run ended, and by which instruction of the program;
+    so does the report of a run, of that run. See ``lc3.ending``.
+
+    **Long sittings.** Display and keys are held whole. A host that needs neither forgets them by
+    ``take_display(forget=True)`` and ``forget``.
+
     **Alterations.** ``sitting["R0"]`` and ``sitting.memory[0x3000]`` can be read and set between
     runs. What is set after the first step is kept for the recording.
 

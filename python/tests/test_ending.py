@@ -349,8 +349,8 @@ class OtherMonitors(unittest.TestCase):
             (0xD000, EndKind.EXCEPTION),
             (0x8000, EndKind.EXCEPTION),
         ):
-            # Later on the program runs once more, in Supervisor mode, over its own stack.
-            for steps in (2, 20, 5000):
+            # Later on the program runs again in Supervisor mode, and obeys what was pushed.
+            for steps in (2, 20, 5000, 12_000):
                 ending = ended("ADD R0, R0, #1", word, monitor=False, steps=steps)
                 self.assertEqual((ending.kind, ending.pc), (kind, 0x3001), steps)
 
