@@ -5,6 +5,7 @@ from __future__ import annotations
 import copy
 import os
 import pickle
+import random
 import signal
 import subprocess
 import sys
@@ -13,7 +14,7 @@ import threading
 import unittest
 from array import array
 from pathlib import Path
-from time import sleep
+from time import monotonic, sleep
 from typing import Any, Callable
 from unittest import mock
 
@@ -383,6 +384,72 @@ class Handlers(unittest.TestCase):
             with self.assertRaises(Late):
                 sitting.load(path)
         self.assertEqual(sitting.run(10).steps, 10)
+
+    def test_random_uses_by_threads_and_a_handler(self) -> None:
+        self.addCleanup(sys.setswitchinterval, sys.getswitchinterval())
+        self.addCleanup(signal.setitimer, signal.ITIMER_REAL, 0)
+        sys.setswitchinterval(1e-5)
+        self.armed = False
+        for seed in range(4):
+            sitting, over = Sitting(ECHO), threading.Event()
+            sitting.run(1)
+            others = [Uses(sitting, random.Random(f"{seed} {n}"), over) for n in range(2)]
+            uses, until, raised = Uses(sitting, random.Random(seed), over), monotonic() + 0.3, 0
+            for thread in others:
+                thread.start()
+            signal.setitimer(signal.ITIMER_REAL, 0.0005, 0.0005)
+            while monotonic() < until:
+                try:
+                    self.armed = True
+                    uses.use()
+                    self.armed = False
+                except Late:
+                    raised += 1
+            signal.setitimer(signal.ITIMER_REAL, 0)
+            over.set()
+            for thread in others:
+                thread.join()
+            self.assertTrue(raised and sum(thread.refused for thread in others))
+            # Record, memory, keys, display and recording agree: the replay comes to the same end.
+            sitting.breakpoints.clear()
+            again = Sitting.replay(sitting.recording())
+            self.assertEqual(whole_state(again), whole_state(sitting), seed)
+            self.assertEqual(again.typed, sitting.typed, seed)
+
+
+class Uses(threading.Thread):
+    """A thread that uses a sitting in random ways, until an event is set."""
+
+    def __init__(self, sitting: Sitting, rng: random.Random, over: threading.Event) -> None:
+        super().__init__()
+        self.sitting, self.rng, self.over, self.refused = sitting, rng, over, 0
+
+    def run(self) -> None:
+        while not self.over.is_set():
+            self.use()
+
+    def use(self) -> None:
+        """One use. That the sitting is in use is counted; so may a key's time have passed."""
+        sitting, number = self.sitting, self.rng.randrange(0x8000)
+        ways: list[Callable[[], object]] = [
+            lambda: sitting.run(number % 3000),
+            lambda: sitting.step(),
+            lambda: sitting.trace_at_once(number % 30),
+            lambda: list(sitting.trace(5)),
+            lambda: sitting.type(bytes([number & 0xFF])),
+            lambda: sitting.press(b"xy", sitting.clock + number % 500),
+            lambda: sitting.__setitem__(f"R{number % 6}", -number),
+            lambda: sitting.memory.__setitem__(0x4000 + number % 99, number),
+            lambda: setattr(sitting, "breakpoints", {0x3001} if number % 4 == 0 else set()),
+            lambda: copy.copy(sitting).run(100),
+            lambda: sitting.last_steps(5),
+        ]
+        try:
+            self.rng.choice(ways)()
+        except InUseError:
+            self.refused += 1
+        except lc3.Refused as refused:
+            assert refused.number is lc3.Refusal.TIME
 
 
 if __name__ == "__main__":
