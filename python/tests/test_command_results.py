@@ -12,6 +12,7 @@ import re
 import resource
 import select
 import shutil
+import signal
 import subprocess
 import unittest
 from datetime import datetime, timezone
@@ -289,6 +290,15 @@ class ByMany(Marking):
                 fcntl.lockf(others, fcntl.LOCK_UN)
                 self.assertEqual(json.loads(lines.readline())["verdict"], "right")
                 self.assertEqual(marking_one.wait(20), 0)
+            # One that is stopped while it waits writes nothing into the line of another.
+            fcntl.lockf(others, fcntl.LOCK_EX)
+            with subprocess.Popen(
+                command, stdout=others, stderr=subprocess.PIPE, env=ENVIRONMENT
+            ) as marking_one:
+                self.assertEqual(select.select([lines], [], [], 1)[0], [])
+                marking_one.send_signal(signal.SIGINT)
+                self.assertEqual(marking_one.wait(20), -signal.SIGINT)
+                self.assertEqual(select.select([lines], [], [], 0)[0], [])
 
     def commands_of_the_manual(self) -> list[str]:
         """The lines of the manual page that spread a marking over processes of this host."""

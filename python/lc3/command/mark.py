@@ -74,9 +74,9 @@ def _written(marking: Marking, found: Sequence[Found], form: Form, signals: Sign
                 total.passed_over += 1
                 output.write(form.passed_over(file))
                 continue
+            if options.form == "one" and not output.lock():
+                break
             total.add(file)
-            if options.form == "one":
-                output.lock()
             output.write(form.result(file))
             bar.grow(total.marked)
     total.stopped_by = signals.name if signals.caught else None

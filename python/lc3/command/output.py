@@ -70,18 +70,22 @@ class Output:
             self._dropped = bool(self._signals.caught)
         return not self._dropped
 
-    def lock(self) -> None:
-        """Waits until no other process writes a line. Those that xargs starts share their output,
-        and a pipe takes only short lines in one piece."""
-        while self._fd is not None and not self._signals.caught:
+    def lock(self) -> bool:
+        """Waits until no other process writes a line; not where a signal has come and one does.
+        Those that xargs starts share their output, and a pipe takes only short lines in one
+        piece."""
+        while self._fd is not None:
             try:
                 fcntl.lockf(self._fd, fcntl.LOCK_EX | fcntl.LOCK_NB)
-                return
+                break
             except (BlockingIOError, PermissionError):
+                if self._signals.caught:
+                    return False
                 time.sleep(PATIENCE / 10)
             except OSError:
                 # What can't be locked, as a file on some network, is written to all the same.
-                return
+                break
+        return True
 
 
 class Bar:
