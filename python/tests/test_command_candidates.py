@@ -255,6 +255,16 @@ class Special(Marking):
         self.assertEqual(twice[0], twice[1])
         self.assertEqual(found_in([str(same[0])] * 2, False), [Found(str(same[0]))] * 2)
 
+    def test_names_of_options(self) -> None:
+        name = "--any-halt"
+        self.file(name, doubling(2, "RTI"))
+        self.file("cases/one.expected", "aa")
+        self.file("cases/two.expected", "\n\n")
+        for given, code in ((f"{name} -- {name}", 0), (f"-- {name}", 1), (f"./{name}", 1)):
+            done = process("mark", "--cases", self.cases, "--csv", *given.split(), cwd=self.folder)
+            self.assertEqual(done.code, code)
+            self.assertIn('any-halt","one",', done.out.decode())
+
     def test_names_that_work_on_terminals(self) -> None:
         strange = self.file("a\n\x1b[2J\r=b.obj", doubling(1))
         self.file("odd/\x1b]0;x\x07.txt", "")

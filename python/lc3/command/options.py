@@ -281,7 +281,13 @@ def _add_mark(to: argparse.ArgumentParser) -> None:
 def _add_forms(to: argparse.ArgumentParser) -> None:
     """The forms of the results; without one they are a table."""
     forms = to.add_mutually_exclusive_group()
-    forms.add_argument("--json", dest="form", action="store_const", const="json", help="JSON")
+    forms.add_argument(
+        "--json",
+        dest="form",
+        action="store_const",
+        const="json",
+        help="JSON Lines: an object for each file, and one at the end",
+    )
     forms.add_argument(
         "--csv", dest="form", action="store_const", const="csv", help="a row for each case"
     )
