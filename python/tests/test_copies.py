@@ -142,6 +142,27 @@ class Copies(unittest.TestCase):
             self.assertEqual(make(sitting).take_display(), b"c")
         self.assertEqual(sitting.take_display(), b"c")
 
+    def test_a_sitting_that_forgets(self) -> None:
+        sitting = Sitting(ECHO)
+        for letter in b"abcd":
+            sitting.type(bytes([letter]))
+            sitting.run(1 << 20)
+            sitting.take_display(forget=True)
+            sitting.forget()
+        sitting.type("e")
+        sitting.run(200)
+        copies = [copy.copy(sitting), copy.deepcopy(sitting)]
+        for one in [*copies, sitting]:
+            self.assertEqual((one.take_display(), one.display, one.clock), (b"e", "e", 4194504))
+            one.type("f")
+            one.run(200)
+            self.assertEqual(one.take_display(), b"f")
+        for made in copies:
+            self.assertEqual(whole_state(made), whole_state(sitting))
+            self.assertEqual(made.last_steps(50), sitting.last_steps(50))
+        with self.assertRaisesRegex(TypeError, "has forgotten its display can't be pickled"):
+            pickle.dumps(sitting)
+
     def test_pickles_of_another_version_are_refused(self) -> None:
         with mock.patch("lc3.sitting.__version__", "0.0.9"):
             other = pickle.dumps(Sitting(COUNTING))

@@ -65,6 +65,7 @@ USES: dict[str, Callable[[Sitting], object]] = {
     "type": lambda s: s.type("a"),
     "press": lambda s: s.press(b"a", 1 << 40),
     "take_display": lambda s: s.take_display(),
+    "forget": lambda s: s.forget(),
     "a register": lambda s: s.__setitem__("R0", 1),
     "a word by name": lambda s: s.__setitem__("x3000", 1),
     "a word": lambda s: s.memory.__setitem__(0x3000, 1),
