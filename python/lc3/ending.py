@@ -174,18 +174,20 @@ def _at(kind: EndKind, text: str, machine: Machine, left: Left | None) -> Ending
 def _crash(machine: Machine, left: Left, halted: bool) -> Ending | None:
     """The ending of a program that was stopped for what it did: by the entry that left it, or by
     one inside of that which has no routine of its own. A machine that runs on has crashed where
-    the vector word of the entry is x0000: there is no routine at all."""
+    the entry leads to no routine at all: to x0000, and the word there is x0000 too."""
     for step in (left.step, *left.inner):
         vector = vector_of(step)
-        if step.reason in EXCEPTIONS:
-            served = machine.words[EXCEPTIONS[step.reason]] != 0
-            if halted or not served:
-                text = f"stopped by the {step.reason.text}"
-                return _at(EndKind.EXCEPTION, text, machine, left)
-        elif vector is not None and not has_service(machine.words, vector):
-            if halted or machine.words[vector] == 0:
-                text = f"stopped by TRAP x{vector:02X}, which has no service"
-                return _at(EndKind.TRAP_WITHOUT_SERVICE, text, machine, left)
+        exception = step.reason in EXCEPTIONS
+        if not exception and (vector is None or has_service(machine.words, vector)):
+            continue
+        word = machine.words[EXCEPTIONS[step.reason] if exception else vector or 0]
+        if not halted and (word or machine.words[0]):
+            continue
+        if exception:
+            text = f"stopped by the {step.reason.text}"
+            return _at(EndKind.EXCEPTION, text, machine, left)
+        text = f"stopped by TRAP x{vector:02X}, which has no service"
+        return _at(EndKind.TRAP_WITHOUT_SERVICE, text, machine, left)
     return None
 
 
@@ -200,7 +202,7 @@ def _halted(past: Past, machine: Machine, left: Left | None) -> Ending:
         name = "PUTS" if vector == PUTS_VECTOR else "PUTSP"
         text = f"stopped by {name}, whose string came to privileged memory"
         return _at(EndKind.STRING_REFUSED, text, machine, left)
-    name = left.step.reason.text if vector is None else f"TRAP x{vector:02X}"
+    name = f"the {left.step.reason.text}" if vector is None else f"TRAP x{vector:02X}"
     text = f"halted by a store to MCR in the routine of {name}"
     return _at(EndKind.MCR, text, machine, left)
 

@@ -758,7 +758,7 @@ PSR x8001 -> x0001, Saved_USP x0000 -> xFDFF, x2FFE x0000 -> x3002, x2FFF x0000 
             self._begin()
             past, stop = self._run_past, self.stop
             if past is None or past.clock != self.clock:
-                past = self._past()
+                past, stop = self._past(), Stop.DONE
         return ending_of(past, stop)
 
     def _twin(self) -> Machine:

@@ -334,7 +334,7 @@ class OtherMonitors(unittest.TestCase):
         sitting["TIR"], sitting["TSR"] = 101, 0x4000
         kind, pc, _ = self.told(sitting)
         self.assertEqual((kind, pc & ~1), (EndKind.MCR, 0x3000))
-        self.assertIn("in the routine of timer interrupt", sitting.ending.text)
+        self.assertIn("in the routine of the timer interrupt", sitting.ending.text)
 
     def test_the_vectors_made_anew(self) -> None:
         # OUT is the class's own; PUTS is still the ready-made one.
@@ -353,6 +353,20 @@ class OtherMonitors(unittest.TestCase):
             for steps in (2, 20, 5000, 12_000):
                 ending = ended("ADD R0, R0, #1", word, monitor=False, steps=steps)
                 self.assertEqual((ending.kind, ending.pc), (kind, 0x3001), steps)
+
+    def test_a_routine_at_the_first_word(self) -> None:
+        # A machine that runs on is not taken for crashed where x0000 has an instruction.
+        sitting = Sitting(object_file(0x3000, "TRAP x26", "BRnzp #-2"), monitor=False)
+        sitting.memory[0x0000] = "RTI"
+        self.assertEqual(sitting.run(1001).ending.kind, EndKind.STEPS)
+        self.assertEqual(sitting.ending.pc, 0x3001)
+
+    def test_a_trace_that_is_left_in_the_middle(self) -> None:
+        sitting = Sitting(object_file(0x3000, "ADD R0, R0, #1", OUT, HALT))
+        sitting.breakpoints.add(0x3001)
+        self.assertEqual(sitting.run().ending.kind, EndKind.BREAKPOINT)
+        next(sitting.trace())
+        self.assertEqual((sitting.ending.kind, sitting.ending.line), (EndKind.STEPS, OUT))
 
     def test_programs_in_supervisor_mode(self) -> None:
         programs: list[tuple[Words, EndKind, int]] = [
