@@ -22,10 +22,14 @@ from .past import Past
 from .records import Edition, Reason, Record, Report, Stop
 from .steps import STORES
 
-HALT_VECTOR, PUTS_VECTOR, PUTSP_VECTOR = 0x25, 0x22, 0x24
+HALT_VECTOR = 0x25
+
+# The traps that show a string, by their vectors.
+STRINGS = {0x22: "PUTS", 0x24: "PUTSP"}
 
 # The vector words of the exceptions.
 EXCEPTIONS = {Reason.PRIVILEGE: 0x0100, Reason.ILLEGAL: 0x0101, Reason.ACCESS: 0x0102}
+INTERRUPTS = (Reason.KEYBOARD, Reason.TIMER)
 
 
 class EndKind(Enum):
@@ -198,11 +202,12 @@ def _halted(past: Past, machine: Machine, left: Left | None) -> Ending:
     vector = vector_of(left.step)
     if vector == HALT_VECTOR:
         return _at(EndKind.HALTED, "halted by HALT", machine, left)
-    if vector in (PUTS_VECTOR, PUTSP_VECTOR) and is_ready_made(machine.words, vector):
-        name = "PUTS" if vector == PUTS_VECTOR else "PUTSP"
-        text = f"stopped by {name}, whose string came to privileged memory"
+    reasons = [step.reason for step in (left.step, *left.inner)]
+    interrupt = next((reason for reason in reasons if reason in INTERRUPTS), None)
+    if interrupt is None and vector in STRINGS and is_ready_made(machine.words, vector):
+        text = f"stopped by {STRINGS[vector]}, whose string came to privileged memory"
         return _at(EndKind.STRING_REFUSED, text, machine, left)
-    name = f"the {left.step.reason.text}" if vector is None else f"TRAP x{vector:02X}"
+    name = f"TRAP x{vector:02X}" if interrupt is None else f"the {interrupt.text}"
     text = f"halted by a store to MCR in the routine of {name}"
     return _at(EndKind.MCR, text, machine, left)
 

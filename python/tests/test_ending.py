@@ -336,6 +336,15 @@ class OtherMonitors(unittest.TestCase):
         self.assertEqual((kind, pc & ~1), (EndKind.MCR, 0x3000))
         self.assertIn("in the routine of the timer interrupt", sitting.ending.text)
 
+    def test_a_timer_that_ends_a_routine(self) -> None:
+        # The ready-made PUTS shows its string when the class's timer routine halts the machine.
+        sitting = Sitting(object_file(0x3000, "LEA R0, #1", PUTS, *[ord("a")] * 100))
+        sitting.memory[0x1200:0x1204] = class_monitor()[0x1200]
+        sitting.memory[0x0181] = 0x1200
+        sitting["TIR"], sitting["TSR"] = 101, 0x4000
+        self.assertEqual(self.told(sitting), (EndKind.MCR, 0x3001, PUTS))
+        self.assertIn("in the routine of the timer interrupt", sitting.ending.text)
+
     def test_the_vectors_made_anew(self) -> None:
         # OUT is the class's own; PUTS is still the ready-made one.
         sitting = Sitting(object_file(0x3000, OUT, PUTS))
