@@ -1,68 +1,150 @@
--- One law for each kind of instruction that a routine obeys in Supervisor mode, and for the trap that enters it. The
--- PSR is high * 8 + codes: mode and priority, and N, Z, P.
-use Prim.Native.Nat.{ℕ, suc, _+_, _-_, _*_, _/_, _%_, _<_}
+-- One step of a routine in Supervisor mode, computed: what the instruction at PC makes of a view, whether it may, and
+-- that the run then stands there. So a stretch of a routine is checked by computing.
+use Prim.Native.Nat.{ℕ, zero, suc, _+_, _-_, _*_, _/_, _%_, _≤_, _<_}
 use native.Mathlib.Nat.{add-zero}
 use native.Mathlib.Numerals.{add-one}
 use native.Mathlib.Omega.{arith}
-use mathlib.Core.Path.{_≡_, refl}
-use mathlib.Core.Bool.{Bool, true, false, cond, true≢false}
-use mathlib.Core.List.{List, [], _∷_}
-use borrow.Author.Tests.{lt-leb, eq-eqb, eqb-true}
-use lib.Dec.{eqb}
-use lib.ListN.{length, getD, set}
+use mathlib.Core.Path.{_≡_, refl, sym, _∙_}
+use mathlib.Core.Bool.{Bool, true, false, cond, _&&_, _||_, true≢false}
+use mathlib.Core.List.{List, [], _∷_, _++_}
+use borrow.Author.Tests.{lt-leb, ltb-true, eqb-true, eq-eqb, ne-eqb}
+use lib.Dec.{eqb, ltb}
+use lib.ListN.{length, getD, set, drop, length-append, length-drop}
+use lib.Seq.{drop-cons, set-append-seam, append-snoc}
 use Rattle.word.specs.Reading.{readOf}
+use Rattle.word.specs.declared.Instruction.{Instruction}
+use Rattle.word.specs.declared.Instruction.the-variants.{Br, AddRegister, AddImmediate, Ld, St, Jsr, Jsrr, AndRegister}
+use Rattle.word.specs.declared.Instruction.the-variants.{AndImmediate, Ldr, Str, Rti, Not, Ldi, Sti, Jmp, Reserved, Lea}
+use Rattle.word.specs.declared.Instruction.the-variants.{Trap}
 use Rattle.machine.specs.declared.Devices.{Devices}
 use Rattle.machine.specs.declared.Plan.{Plan}
-use Rattle.machine.specs.declared.Plan.the-variants.{Move, Jump, Load, LoadBy, Store, StoreBy, Call, Return}
-use Rattle.machine.specs.Words.{next, before, withRegister}
-use Rattle.machine.specs.Psr.{inUserMode, definedPsr, codesOf, recoded}
+use Rattle.machine.specs.declared.Plan.the-variants.{Move, Put, Jump, Load, LoadBy, Store, StoreBy, Call, Illegal}
+use Rattle.machine.specs.declared.Plan.the-variants.{Return}
+use Rattle.machine.specs.Words.{next, withRegister, andBits}
+use Rattle.machine.specs.Psr.{inUserMode, codesOf, recoded, isTaken}
 use Rattle.machine.specs.Outcome.{withReads, afterInstruction}
 use Rattle.machine.specs.Protection.{deniedBy, denied}
-use Rattle.machine.specs.Entry.{pushed, entry, afterEntry, raised, stackPointerOnEntry, userStackOnEntry}
-use Rattle.machine.specs.Devices.{KBDR, DSR, DDR, TSR, isDeviceBy, isDevice, displayIsReady, displayStatus}
+use Rattle.machine.specs.Devices.{KBDR, DSR, DDR, TSR, MCR, isDeviceBy, isDevice, displayIsReady, displayStatus}
 use Rattle.machine.specs.Devices.{deviceValue, loadedValueBy, kbsrAfterLoad, timerStatusAfterLoad, afterLoad}
-use Rattle.machine.specs.Devices.{ddrStore, deviceStore, storedBy}
+use Rattle.machine.specs.Devices.{ddrStore, mcrStore, deviceStore, storedBy}
 use Rattle.machine.specs.Access.{loadToBy, storeAtBy, byPointerBy}
-use Rattle.machine.specs.Return.{afterReturn, popped, return}
-use Rattle.machine.specs.Plan.{planOf}
+use Rattle.machine.specs.Plan.{planBy, planOf}
 use Rattle.machine.specs.Step.{performBy, perform, obeyedBy, obeyed, busyAfter}
+use Rattle.machine.proofs.StepLaws.{codesOf-below}
+use Rattle.machine.proofs.Tests.{both-true}
 use Rattle.run.specs.Run.{Start, withShown, showsByte}
-use Rattle.monitor.proofs.Execution.{View, psrAt, machineAt, Gives, advance, Quiet, Leads, leads-by-one}
+use Rattle.monitor.specs.Install.{writtenOver}
+use Rattle.monitor.specs.Routines.{routineWords}
+use Rattle.monitor.proofs.Execution.{Frame, Known, these, from, codesNumber, Cell, cell, View, psrAt, memoryAt}
+use Rattle.monitor.proofs.Execution.{machineAt, Gives, Shows, advance, Quiet, Leads}
+use Rattle.monitor.proofs.Execution.{leads-by-one, then, no-step}
+use Rattle.monitor.proofs.Intact.{Intact, cellsFine, wordAt, wordWith, word-with}
+
+-- ---- the plan
+
+-- BRnzp, which is taken whatever value the codes were set from.
+abbrev pub testsAll : Instruction → Bool
+testsAll (Br mask n) = eqb mask 7
+testsAll (AddRegister d a b) = false
+testsAll (AddImmediate d a n) = false
+testsAll (Ld d n) = false
+testsAll (St s n) = false
+testsAll (Jsr n) = false
+testsAll (Jsrr b) = false
+testsAll (AndRegister d a b) = false
+testsAll (AndImmediate d a n) = false
+testsAll (Ldr d b n) = false
+testsAll (Str s b n) = false
+testsAll Rti = false
+testsAll (Not d a) = false
+testsAll (Ldi d n) = false
+testsAll (Sti s n) = false
+testsAll (Jmp b) = false
+testsAll (Reserved low) = false
+testsAll (Lea d n) = false
+testsAll (Trap vector) = false
+
+-- The codes that the plan is made with: BR looks at nothing else of the PSR.
+abbrev pub codesFor : Known → Instruction → ℕ
+codesFor (these c) i = c % 8
+codesFor (from x) i = cond (testsAll i) 1 (codesOf x)
 
 -- The plan of the instruction at PC.
-pub record Plans (v : View) (plan : Plan) : Type 0 where
-  pub is : planOf (v .regs) (v .pc) (psrAt v) (readOf (getD (v .memory) (v .pc) 0)) ≡ plan
+unfoldable pub planAt : Frame → View → Plan
+planAt f v =
+    let i = readOf (wordAt f v (v .pc)) in
+    planOf (v .regs) (v .pc) (codesFor (v .codes) i) i
 
--- What a plan does from a view, whatever the devices and the clock hold.
-abbrev Performs : Plan → View → List ℕ → View → Type 0
-Performs plan v bytes v′ = (d : Devices) (t : ℕ)
-    → Gives (perform plan (machineAt v d t) (v .memory)) bytes (v .busy) v′ d t
+pub codes-below : (c : Known) → codesNumber c < 8
+codes-below (these c) = omega arith
+codes-below (from x) = codesOf-below x
 
-obeys-plan : (v v′ : View) (plan : Plan) (bytes : List ℕ) → denied (psrAt v) (v .pc) ≡ false → Plans v plan
-    → Performs plan v bytes v′ → (d : Devices) (t : ℕ)
-    → Gives (obeyed (machineAt v d t) (v .memory)) bytes (v .busy) v′ d t
-unfolding obeyedBy withReads
-obeys-plan v v′ plan bytes allowed p h d t = record {
-  machine = rw (allowed, p .is) (h d t .machine);
-  memory = rw (allowed, p .is) (h d t .memory);
-  shown = rw (allowed, p .is) (h d t .shown);
-}
+same-branch : (mask h c : ℕ) → c < 8 → isTaken mask (h * 8 + c) ≡ isTaken mask c
+unfolding isTaken
+same-branch mask h c l =
+    let p : (h * 8 + c) % 8 ≡ c = omega arith in
+    let q : c % 8 ≡ c = omega arith in
+    rw (p, q)
 
--- ---- the views that instructions lead to
+all-taken : (x : ℕ) → isTaken 7 (codesOf x) ≡ true
+unfolding isTaken codesOf andBits
+all-taken x = go (eqb x 0) (ltb x 0x8000)
+  where
+    go : (z p : Bool) → isTaken 7 (cond z 2 (cond p 1 4)) ≡ true
+    go true p = refl
+    go false true = refl
+    go false false = refl
 
--- With other registers, PC, codes and memory, and the display's count one less; all else stays.
-abbrev pub changed : View → List ℕ → ℕ → ℕ → List ℕ → View
-changed v regs pc codes memory = record {
+taken-alike : (h : ℕ) (c : Known) (mask : ℕ) (i : Instruction) → testsAll i ≡ eqb mask 7
+    → isTaken mask (h * 8 + codesNumber c) ≡ isTaken mask (codesFor c i)
+unfolding isTaken andBits
+taken-alike h (these c) mask i e = same-branch mask h (c % 8) (omega arith)
+taken-alike h (from x) mask i e = same-branch mask h (codesOf x) (codesOf-below x) ∙ go (eqb mask 7) refl e
+  where
+    go : (b : Bool) → eqb mask 7 ≡ b → testsAll i ≡ b → isTaken mask (codesOf x) ≡ isTaken mask (cond (testsAll i) 1
+        (codesOf x))
+    go true p q =
+        let z : mask ≡ 7 = eqb-true mask 7 p in
+        rw (q, z) (all-taken x)
+    go false p q = rw q
+
+same-plan : (regs : List ℕ) (pc h : ℕ) (c : Known) (i : Instruction)
+    → planOf regs pc (h * 8 + codesNumber c) i ≡ planOf regs pc (codesFor c i) i
+unfolding planBy
+same-plan regs pc h c (Br mask n) = rw (taken-alike h c mask (Br mask n) refl)
+same-plan regs pc h c (AddRegister d a b) = refl
+same-plan regs pc h c (AddImmediate d a n) = refl
+same-plan regs pc h c (Ld d n) = refl
+same-plan regs pc h c (St s n) = refl
+same-plan regs pc h c (Jsr n) = refl
+same-plan regs pc h c (Jsrr b) = refl
+same-plan regs pc h c (AndRegister d a b) = refl
+same-plan regs pc h c (AndImmediate d a n) = refl
+same-plan regs pc h c (Ldr d b n) = refl
+same-plan regs pc h c (Str s b n) = refl
+same-plan regs pc h c Rti = refl
+same-plan regs pc h c (Not d a) = refl
+same-plan regs pc h c (Ldi d n) = refl
+same-plan regs pc h c (Sti s n) = refl
+same-plan regs pc h c (Jmp b) = refl
+same-plan regs pc h c (Reserved low) = refl
+same-plan regs pc h c (Lea d n) = refl
+same-plan regs pc h c (Trap vector) = refl
+
+-- ---- what a plan makes of a view
+
+-- Other registers, PC, codes and words stored, and the display's count one less; all else stays.
+abbrev pub changed : View → List ℕ → ℕ → Known → List Cell → View
+changed v regs pc codes cells = record {
   regs = regs;
   pc = pc;
-  high = v .high;
   codes = codes;
-  ssp = v .ssp;
-  usp = v .usp;
-  memory = memory;
-  output = v .output;
-  shown = v .shown;
+  cells = cells;
+  bytes = v .bytes;
   busy = v .busy - 1;
+  mcr = v .mcr;
+  read = v .read;
+  status = v .status;
 }
 
 -- At Next, with a byte shown.
@@ -70,234 +152,364 @@ abbrev pub showing : View → ℕ → View
 showing v b = record {
   regs = v .regs;
   pc = next (v .pc);
-  high = v .high;
   codes = v .codes;
-  ssp = v .ssp;
-  usp = v .usp;
-  memory = v .memory;
-  output = set (v .output) (v .shown) b;
-  shown = suc (v .shown);
+  cells = v .cells;
+  bytes = v .bytes ++ b ∷ [];
   busy = 8;
+  mcr = v .mcr;
+  read = v .read;
+  status = v .status;
 }
 
--- After a trap in User mode that finds this PC at its vector.
-abbrev pub trapped : View → ℕ → View
-trapped v pc = record {
-  regs = set (v .regs) 6 (before (before (v .ssp)));
-  pc = pc;
-  high = v .high % 4096;
+-- At Next, with this stored to MCR.
+abbrev pub clocked : View → ℕ → View
+clocked v x = record {
+  regs = v .regs;
+  pc = next (v .pc);
   codes = v .codes;
-  ssp = v .ssp;
-  usp = getD (v .regs) 6 0;
-  memory = pushed (v .memory) (v .ssp) (psrAt v) (next (v .pc));
-  output = v .output;
-  shown = v .shown;
+  cells = v .cells;
+  bytes = v .bytes;
   busy = v .busy - 1;
+  mcr = x / 0x8000 * 0x8000;
+  read = v .read;
+  status = v .status;
 }
 
--- After an RTI to User mode that pops this PC and this PSR.
-abbrev pub returned : View → ℕ → ℕ → ℕ → ℕ → View
-returned v pc high codes ssp = record {
-  regs = set (v .regs) 6 (v .usp);
-  pc = pc;
-  high = high;
-  codes = codes;
-  ssp = ssp;
-  usp = v .usp;
-  memory = v .memory;
-  output = v .output;
-  shown = v .shown;
-  busy = v .busy - 1;
-}
+-- A value to a register, and the codes from it.
+abbrev pub valued : View → ℕ → ℕ → ℕ → View
+valued v r x pc = changed v (withRegister (v .regs) r x) pc (from x) (v .cells)
 
--- ---- a plan that shows nothing, and one that shows a byte
+abbrev pub displayAt : View → ℕ
+displayAt v = cond (eqb (v .busy) 0) 0x8000 0
 
-module _ {s : Start} {bound : ℕ} (quiet : Quiet s bound) {v : View} (allowed : denied (psrAt v) (v .pc) ≡ false)
-    (plan : Plan) (p : Plans v plan) (v′ : View) where
-  silently : v′ .output ≡ v .output → v′ .shown ≡ v .shown → v′ .busy ≡ v .busy - 1 → Performs plan v [] v′
-      → Leads s bound v 1 v′
-  unfolding withShown showsByte busyAfter
-  silently same-output same-shown one-less h =
-      leads-by-one quiet
-      (λ k a q.
-      advance a q v′ [] (obeys-plan v v′ plan [] allowed p h) one-less refl same-output
-      (rw (add-zero (v .shown)) same-shown))
+abbrev pub performed : Frame → View → Plan → View
+performed f v (Move r x pc) = valued v r x pc
+performed f v (Put r x pc) = changed v (withRegister (v .regs) r x) pc (v .codes) (v .cells)
+performed f v (Jump pc) = changed v (v .regs) pc (v .codes) (v .cells)
+performed f v (Load r a) = valued v r (wordAt f v a) (next (v .pc))
+performed f v (LoadBy r a) = valued v r (displayAt v) (next (v .pc))
+performed f v (Store x a) = changed v (v .regs) (next (v .pc)) (v .codes) (cell a x ∷ v .cells)
+performed f v (StoreBy x a) = cond (eqb (wordAt f v a) MCR) (clocked v x) (showing v (x % 256))
+performed f v (Call vector) = v
+performed f v Illegal = v
+performed f v Return = v
 
-  shows-byte : (b : ℕ) → v .shown < length (v .output) → v′ .output ≡ set (v .output) (v .shown) b
-      → v′ .shown ≡ suc (v .shown) → v′ .busy ≡ 8 → Performs plan v (b ∷ []) v′ → Leads s bound v 1 v′
-  unfolding withShown showsByte busyAfter
-  shows-byte b free with-byte one-more begins h =
-      leads-by-one quiet
-      (λ k a q.
-      advance a q v′ (b ∷ []) (obeys-plan v v′ plan (b ∷ []) allowed p h) begins
-      (lt-leb (length (v .output)) (v .shown) free) with-byte (rw (add-one (v .shown)) one-more))
+-- A plain word above the monitor's.
+abbrev pub isPlain : ℕ → Bool
+isPlain a = ltb a 0xFE00
 
--- ---- TRAP in User mode
+-- It loads plain words and DSR, and stores to plain words above the monitor's, to MCR, and to DDR where the display is
+-- ready and the output has this room.
+abbrev pub mayPerform : Frame → View → ℕ → Plan → Bool
+mayPerform f v room (Move r x pc) = true
+mayPerform f v room (Put r x pc) = true
+mayPerform f v room (Jump pc) = true
+mayPerform f v room (Load r a) = isPlain a
+mayPerform f v room (LoadBy r a) = isPlain a && eqb (wordAt f v a) DSR
+mayPerform f v room (Store x a) = isPlain a
+mayPerform f v room (StoreBy x a) =
+    isPlain a
+    && (eqb (wordAt f v a) MCR
+    || eqb (wordAt f v a) DDR && (eqb (v .busy) 0 && ltb (length (v .bytes)) room))
+mayPerform f v room (Call vector) = false
+mayPerform f v room Illegal = false
+mayPerform f v room Return = false
 
-user-trap-psr : (h c : ℕ) → c < 8 → (h * 8 + c) % 0x8000 ≡ h % 4096 * 8 + c
-user-trap-psr h c l = omega arith
+unfoldable pub stepped : Frame → View → View
+unfolding planAt
+stepped f v = performed f v (planAt f v)
 
-pub traps : {s : Start} {bound : ℕ} (quiet : Quiet s bound) {v : View} → inUserMode (psrAt v) ≡ true → v .codes < 8
-    → denied (psrAt v) (v .pc) ≡ false → (vector pc : ℕ) → Plans v (Call vector)
-    → getD (pushed (v .memory) (v .ssp) (psrAt v) (next (v .pc))) vector 0 ≡ pc → Leads s bound v 1 (trapped v pc)
-unfolding performBy raised entry afterEntry stackPointerOnEntry userStackOnEntry
-traps quiet {v} user below allowed vector pc p w =
-    silently quiet allowed (Call vector) p (trapped v pc) refl refl refl
-    (λ d t. record {
-      machine = rw (user, w, user-trap-psr (v .high) (v .codes) below);
-      memory = rw user;
-      shown = refl;
-    })
+unfoldable pub mayStep : Frame → ℕ → View → Bool
+unfolding planAt
+mayStep f room v = eqb (v .mcr) 0x8000 && (cellsFine (v .cells) && mayPerform f v room (planAt f v))
 
--- ---- Supervisor mode
+-- ---- it is what the run does
 
-supervisor : (q c : ℕ) → q < 4096 → c < 8 → inUserMode (q * 8 + c) ≡ false
+pub supervisor : (q c : ℕ) → q < 4096 → c < 8 → inUserMode (q * 8 + c) ≡ false
 unfolding inUserMode
 supervisor q c h l = lt-leb 0x8000 (q * 8 + c) (omega arith)
-
--- Supervisor mode may touch every address.
-all-allowed : (v : View) → v .high < 4096 → v .codes < 8 → (a : ℕ) → denied (psrAt v) a ≡ false
-unfolding deniedBy
-all-allowed v above below a = rw (supervisor (v .high) (v .codes) above below)
 
 recodes : (q c x : ℕ) → c < 8 → (q * 8 + c) / 8 * 8 + x ≡ q * 8 + x
 recodes q c x h = omega arith
 
--- A load of a plain word leaves keyboard and timer alone.
-plain-load-keeps-timer : (b status : ℕ) → isDevice b ≡ false → timerStatusAfterLoad b status ≡ status
-unfolding timerStatusAfterLoad isDeviceBy
-plain-load-keeps-timer b status plain = go (eqb b TSR) refl
-  where
-    go : (same : Bool) → eqb b TSR ≡ same → cond same (status % 0x8000) status ≡ status
-    go false e = refl
-    go true e =
-        let z : b ≡ TSR = eqb-true b TSR e in
-        absurd (true≢false (rw z at plain))
+-- An address below xFE00 is a plain word, and a load of it leaves keyboard and timer alone.
+pub plain-word : (a : ℕ) → a < 0xFE00 → isDevice a ≡ false
+unfolding isDeviceBy
+plain-word a h = rw (lt-leb 0xFE00 a h)
 
-plain-load-keeps : (b kbsr : ℕ) → isDevice b ≡ false → kbsrAfterLoad b kbsr ≡ kbsr
-unfolding kbsrAfterLoad isDeviceBy
-plain-load-keeps b kbsr plain = go (eqb b KBDR) refl
-  where
-    go : (same : Bool) → eqb b KBDR ≡ same → cond same (kbsr % 0x8000) kbsr ≡ kbsr
-    go false e = refl
-    go true e =
-        let z : b ≡ KBDR = eqb-true b KBDR e in
-        absurd (true≢false (rw z at plain))
+pub plain-load-keeps-timer : (b status : ℕ) → b < 0xFE00 → timerStatusAfterLoad b status ≡ status
+unfolding timerStatusAfterLoad
+plain-load-keeps-timer b status plain = rw (ne-eqb b TSR (λ e. omega arith))
 
-module _ {s : Start} {bound : ℕ} (quiet : Quiet s bound) {v : View} (above : v .high < 4096)
-    (below : v .codes < 8) where
-  -- ADD, AND, NOT
-  pub moves : (r x pc : ℕ) → Plans v (Move r x pc)
-      → Leads s bound v 1 (changed v (withRegister (v .regs) r x) pc (codesOf x) (v .memory))
+pub plain-load-keeps : (b kbsr : ℕ) → b < 0xFE00 → kbsrAfterLoad b kbsr ≡ kbsr
+unfolding kbsrAfterLoad
+plain-load-keeps b kbsr plain = rw (ne-eqb b KBDR (λ e. omega arith))
+
+-- A routine runs in Supervisor mode, and the monitor's words are in the memory that it found.
+pub record Sound (f : Frame) : Type 0 where
+  pub above : f .high < 4096
+  pub intact : Intact (f .memory)
+
+-- One more byte is written behind those written.
+pub one-more-byte : (bytes output : List ℕ) (b : ℕ) → length bytes < length output
+    → writtenOver (bytes ++ b ∷ []) output ≡ set (writtenOver bytes output) (length bytes) b
+one-more-byte bytes output b l =
+    let z : length (bytes ++ b ∷ []) ≡ suc (length bytes) = length-append bytes (b ∷ []) ∙ add-one (length bytes) in
+    rw (z, drop-cons output (length bytes) 0 l)
+    (append-snoc bytes b (drop (suc (length bytes)) output)
+    ∙ sym (set-append-seam bytes (getD output (length bytes) 0) (drop (suc (length bytes)) output) b))
+
+full-length : (bytes output : List ℕ) → length bytes ≤ length output → length (writtenOver bytes output) ≡ length output
+full-length bytes output l =
+    length-append bytes (drop (length bytes) output)
+    ∙ (let z = length-drop (length bytes) output in omega (arith, z))
+
+pub silent : (f : Frame) (v v′ : View) → v′ .bytes ≡ v .bytes → v′ .busy ≡ v .busy - 1 → Shows [] f f v v′
+unfolding busyAfter showsByte withShown
+silent f v v′ p q = record {
+  counts = q;
+  free = refl;
+  output = rw p;
+  shown = rw p (sym (add-zero (length (v .bytes))));
+}
+
+loud : (f : Frame) (v : View) (b : ℕ) → length (v .bytes) < length (f .output) → Shows (b ∷ []) f f v (showing v b)
+unfolding busyAfter showsByte withShown
+loud f v b l = record {
+  counts = refl;
+  free = rw (full-length (v .bytes) (f .output) (omega arith)) (lt-leb (length (f .output)) (length (v .bytes)) l);
+  output = one-more-byte (v .bytes) (f .output) b l;
+  shown = length-append (v .bytes) (b ∷ []);
+}
+
+module _ (f : Frame) (sound : Sound f) (v : View) (fine : cellsFine (v .cells) ≡ true) where
+  -- Supervisor mode may touch every address.
+  pub all-allowed : (a : ℕ) → denied (psrAt f v) a ≡ false
+  unfolding deniedBy
+  all-allowed a = rw (supervisor (f .high) (codesNumber (v .codes)) (sound .above) (codes-below (v .codes)))
+
+  pub word-is : (a : ℕ) → getD (memoryAt f v) a 0 ≡ wordAt f v a
+  word-is a = word-with (sound .intact) (v .cells) fine a
+
+  pub plan-is : planOf (v .regs) (v .pc) (psrAt f v) (readOf (getD (memoryAt f v) (v .pc) 0)) ≡ planAt f v
+  unfolding planAt
+  plan-is = rw (word-is (v .pc)) (same-plan (v .regs) (v .pc) (f .high) (v .codes) (readOf (wordAt f v (v .pc))))
+
+  -- What a plan does from a view, whatever the devices and the clock hold.
+  abbrev pub Performs : Plan → List ℕ → View → Type 0
+  Performs plan bytes v′ = (d : Devices) (t : ℕ)
+      → Gives (perform plan (machineAt f v d t) (memoryAt f v)) bytes (v .busy) f v′ d t
+
+  -- The instruction does what its plan does.
+  pub obeys-plan-at : (bytes : List ℕ) (v′ : View) (d d′ : Devices) (t : ℕ)
+      → Gives (perform (planAt f v) (machineAt f v d t) (memoryAt f v)) bytes (v .busy) f v′ d′ t
+      → Gives (obeyed (machineAt f v d t) (memoryAt f v)) bytes (v .busy) f v′ d′ t
+  unfolding obeyedBy withReads
+  obeys-plan-at bytes v′ d d′ t g = record {
+    machine = rw (all-allowed (v .pc), plan-is) (g .machine);
+    memory = rw (all-allowed (v .pc), plan-is) (g .memory);
+    shown = rw (all-allowed (v .pc), plan-is) (g .shown);
+  }
+
+  pub obeys-plan : (bytes : List ℕ) (v′ : View) → Performs (planAt f v) bytes v′ → (d : Devices) (t : ℕ)
+      → Gives (obeyed (machineAt f v d t) (memoryAt f v)) bytes (v .busy) f v′ d t
+  obeys-plan bytes v′ h d t = obeys-plan-at bytes v′ d d t (h d t)
+
+  pub recoded-is : (x : ℕ) → psrAt f v / 8 * 8 + x ≡ f .high * 8 + x
+  recoded-is x = recodes (f .high) (codesNumber (v .codes)) x (codes-below (v .codes))
+
+  moves : (r x pc : ℕ) → Performs (Move r x pc) [] (valued v r x pc)
   unfolding performBy afterInstruction recoded
-  moves r x pc p =
-      let allowed = all-allowed v above below in
-      silently quiet (allowed (v .pc)) (Move r x pc) p
-      (changed v (withRegister (v .regs) r x) pc (codesOf x) (v .memory)) refl refl refl
-      (λ d t. record { machine = rw (recodes (v .high) (v .codes) (codesOf x) below); memory = refl; shown = refl })
+  moves r x pc d t = record { machine = rw (recoded-is (codesOf x)); memory = refl; shown = refl }
 
-  -- BR, JMP
-  pub jumps : (pc : ℕ) → Plans v (Jump pc) → Leads s bound v 1 (changed v (v .regs) pc (v .codes) (v .memory))
+  puts : (r x pc : ℕ) → Performs (Put r x pc) [] (changed v (withRegister (v .regs) r x) pc (v .codes) (v .cells))
   unfolding performBy afterInstruction recoded
-  jumps pc p =
-      let allowed = all-allowed v above below in
-      silently quiet (allowed (v .pc)) (Jump pc) p (changed v (v .regs) pc (v .codes) (v .memory)) refl refl refl
-      (λ d t. record { machine = refl; memory = refl; shown = refl })
+  puts r x pc d t = record { machine = refl; memory = refl; shown = refl }
 
-  -- LD, LDR of a plain word
-  pub loads : (r b x : ℕ) → Plans v (Load r b) → isDevice b ≡ false → getD (v .memory) b 0 ≡ x
-      → Leads s bound v 1 (changed v (withRegister (v .regs) r x) (next (v .pc)) (codesOf x) (v .memory))
+  jumps : (pc : ℕ) → Performs (Jump pc) [] (changed v (v .regs) pc (v .codes) (v .cells))
+  unfolding performBy afterInstruction recoded
+  jumps pc d t = record { machine = refl; memory = refl; shown = refl }
+
+  loads : (r b : ℕ) → b < 0xFE00 → Performs (Load r b) [] (valued v r (wordAt f v b) (next (v .pc)))
   unfolding performBy loadToBy afterInstruction recoded afterLoad loadedValueBy
-  loads r b x p plain w =
-      let allowed = all-allowed v above below in
-      silently quiet (allowed (v .pc)) (Load r b) p
-      (changed v (withRegister (v .regs) r x) (next (v .pc)) (codesOf x) (v .memory)) refl refl refl
-      (λ d t. record {
-        machine = rw (
-          allowed b,
-          plain,
-          w,
-          plain-load-keeps b (d .kbsr) plain,
-          plain-load-keeps-timer b (d .«timer_status»)
-              plain,
-          recodes (v .high) (v .codes) (codesOf x) below,
-        );
-        memory = rw (allowed b);
-        shown = rw (allowed b);
-      })
+  loads r b plain d t = record {
+    machine = rw (
+      all-allowed b,
+      plain-word b plain,
+      word-is b,
+      plain-load-keeps b (d .kbsr) plain,
+      plain-load-keeps-timer b (d .«timer_status») plain,
+      recoded-is (codesOf (wordAt f v b)),
+    );
+    memory = rw (all-allowed b);
+    shown = rw (all-allowed b);
+  }
 
-  -- ST, STR to a plain word
-  pub stores : (x b : ℕ) → Plans v (Store x b) → isDevice b ≡ false
-      → Leads s bound v 1 (changed v (v .regs) (next (v .pc)) (v .codes) (set (v .memory) b x))
+  stores : (x b : ℕ) → b < 0xFE00
+      → Performs (Store x b) [] (changed v (v .regs) (next (v .pc)) (v .codes) (cell b x ∷ v .cells))
   unfolding performBy storeAtBy afterInstruction recoded storedBy
-  stores x b p plain =
-      let allowed = all-allowed v above below in
-      silently quiet (allowed (v .pc)) (Store x b) p
-      (changed v (v .regs) (next (v .pc)) (v .codes) (set (v .memory) b x)) refl refl refl
-      (λ d t. record {
-        machine = rw (allowed b, plain);
-        memory = rw (allowed b, plain);
-        shown = rw (allowed b, plain);
-      })
+  stores x b plain d t = record {
+    machine = rw (all-allowed b, plain-word b plain);
+    memory = rw (all-allowed b, plain-word b plain);
+    shown = rw (all-allowed b, plain-word b plain);
+  }
 
-  -- LDI by a plain word that holds DSR, while the display is ready and while it is busy
-  pub polls : (r b x codes : ℕ) → Plans v (LoadBy r b) → isDevice b ≡ false → getD (v .memory) b 0 ≡ DSR
-      → cond (eqb (v .busy) 0) 0x8000 0 ≡ x → codesOf x ≡ codes
-      → Leads s bound v 1 (changed v (withRegister (v .regs) r x) (next (v .pc)) codes (v .memory))
+  polls : (r b : ℕ) → b < 0xFE00 → wordAt f v b ≡ DSR
+      → Performs (LoadBy r b) [] (valued v r (displayAt v) (next (v .pc)))
   unfolding performBy byPointerBy withReads loadToBy afterInstruction recoded afterLoad loadedValueBy isDeviceBy
       kbsrAfterLoad timerStatusAfterLoad deviceValue displayStatus displayIsReady
-  polls r b x codes p plain w status set =
-      let allowed = all-allowed v above below in
-      silently quiet (allowed (v .pc)) (LoadBy r b) p
-      (changed v (withRegister (v .regs) r x) (next (v .pc)) codes (v .memory)) refl refl refl
-      (λ d t. record {
-        machine = rw (
-          allowed b,
-          plain,
-          w,
-          plain-load-keeps b (d .kbsr) plain,
-          plain-load-keeps-timer b
-              (d .«timer_status») plain,
-          allowed DSR,
-        )
-            (rw (status, set, recodes (v .high) (v .codes) codes below));
-        memory = rw (allowed b, plain, w, allowed DSR);
-        shown = rw (allowed b, plain, w, allowed DSR);
-      })
+  polls r b plain w d t = record {
+    machine = rw (
+      all-allowed b,
+      plain-word b plain,
+      word-is b,
+      w,
+      plain-load-keeps b (d .kbsr) plain,
+      plain-load-keeps-timer b (d .«timer_status») plain,
+      all-allowed DSR,
+      recoded-is (codesOf (displayAt v)),
+    );
+    memory = rw (all-allowed b, plain-word b plain, word-is b, w, all-allowed DSR);
+    shown = rw (all-allowed b, plain-word b plain, word-is b, w, all-allowed DSR);
+  }
 
-  -- STI by a plain word that holds DDR, while the display is ready
-  pub shows : (x b : ℕ) → Plans v (StoreBy x b) → isDevice b ≡ false → getD (v .memory) b 0 ≡ DDR → v .busy ≡ 0
-      → v .shown < length (v .output) → Leads s bound v 1 (showing v (x % 256))
+  shows : (x b : ℕ) → b < 0xFE00 → wordAt f v b ≡ DDR → v .busy ≡ 0
+      → Performs (StoreBy x b) ((x % 256) ∷ []) (showing v (x % 256))
   unfolding performBy byPointerBy withReads storeAtBy afterInstruction recoded afterLoad loadedValueBy isDeviceBy
       kbsrAfterLoad timerStatusAfterLoad storedBy deviceStore ddrStore displayIsReady
-  shows x b p plain w ready free =
-      let allowed = all-allowed v above below in
-      shows-byte quiet (allowed (v .pc)) (StoreBy x b) p (showing v (x % 256)) (x % 256) free refl refl refl
-      (λ d t. record {
-        machine = rw (
-          allowed b,
-          plain,
-          w,
-          plain-load-keeps b (d .kbsr) plain,
-          plain-load-keeps-timer b
-              (d .«timer_status») plain,
-          allowed DDR,
-        );
-        memory = rw (allowed b, plain, w, allowed DDR);
-        shown = rw (allowed b, plain, w, allowed DDR, eq-eqb (v .busy) 0 ready);
-      })
+  shows x b plain w ready d t = record {
+    machine = rw (
+      all-allowed b,
+      plain-word b plain,
+      word-is b,
+      w,
+      plain-load-keeps b (d .kbsr) plain,
+      plain-load-keeps-timer b (d .«timer_status») plain,
+      all-allowed DDR,
+    );
+    memory = rw (all-allowed b, plain-word b plain, word-is b, w, all-allowed DDR);
+    shown = rw (all-allowed b, plain-word b plain, word-is b, w, all-allowed DDR, eq-eqb (v .busy) 0 ready);
+  }
 
-  -- RTI to User mode
-  pub returns : (sp pc high codes : ℕ) → Plans v Return → getD (v .regs) 6 0 ≡ sp → getD (v .memory) sp 0 ≡ pc
-      → definedPsr (getD (v .memory) (next sp) 0) ≡ high * 8 + codes → inUserMode (high * 8 + codes) ≡ true
-      → Leads s bound v 1 (returned v pc high codes (next (next sp)))
-  unfolding performBy return popped afterReturn
-  returns sp pc high codes p six w psr user =
-      let here = supervisor (v .high) (v .codes) above below in
-      silently quiet (all-allowed v above below (v .pc)) Return p (returned v pc high codes (next (next sp))) refl refl
-      refl
-      (λ d t. record {
-        machine = rw (here, six, w, psr, user);
-        memory = rw here;
-        shown = rw here;
-      })
+  clocks : (x b : ℕ) → b < 0xFE00 → wordAt f v b ≡ MCR → Performs (StoreBy x b) [] (clocked v x)
+  unfolding performBy byPointerBy withReads storeAtBy afterInstruction recoded afterLoad loadedValueBy isDeviceBy
+      kbsrAfterLoad timerStatusAfterLoad storedBy deviceStore mcrStore
+  clocks x b plain w d t = record {
+    machine = rw (
+      all-allowed b,
+      plain-word b plain,
+      word-is b,
+      w,
+      plain-load-keeps b (d .kbsr) plain,
+      plain-load-keeps-timer b (d .«timer_status») plain,
+      all-allowed MCR,
+    );
+    memory = rw (all-allowed b, plain-word b plain, word-is b, w, all-allowed MCR);
+    shown = rw (all-allowed b, plain-word b plain, word-is b, w, all-allowed MCR);
+  }
+
+-- ---- one step, and several
+
+module _ {s : Start} {since bound : ℕ} (quiet : Quiet s since bound) (f : Frame) (sound : Sound f) (room : ℕ)
+    (has-room : room ≤ length (f .output)) where
+  pub by-plan : (v : View) → v .mcr ≡ 0x8000 → cellsFine (v .cells) ≡ true → (plan : Plan) → planAt f v ≡ plan
+      → mayPerform f v room plan ≡ true → Leads s since bound f v 1 f (performed f v plan)
+  by-plan v going fine plan is may = go plan is may
+    where
+      silently : (plan : Plan) (v′ : View) → planAt f v ≡ plan → v′ .bytes ≡ v .bytes → v′ .busy ≡ v .busy - 1
+          → v′ .read ≡ v .read → v′ .status ≡ v .status → Performs f sound v fine plan [] v′
+          → Leads s since bound f v 1 f v′
+      silently plan v′ is p q r w h =
+          leads-by-one quiet
+          (λ k a still.
+          advance a still going f v′ [] (obeys-plan f sound v fine [] v′ (rw is h)) (silent f v v′ p q) r w)
+
+      by-pointer : (x b : ℕ) → planAt f v ≡ StoreBy x b → b < 0xFE00 → (m : Bool) → eqb (wordAt f v b) MCR ≡ m
+          → (m || eqb (wordAt f v b) DDR && (eqb (v .busy) 0 && ltb (length (v .bytes)) room)) ≡ true
+          → Leads s since bound f v 1 f (cond m (clocked v x) (showing v (x % 256)))
+      by-pointer x b is plain true e may =
+          silently (StoreBy x b) (clocked v x) is refl refl refl refl
+          (clocks f sound v fine x b plain (eqb-true (wordAt f v b) MCR e))
+      by-pointer x b is plain false e may =
+          let outer = both-true (eqb (wordAt f v b) DDR) (eqb (v .busy) 0 && ltb (length (v .bytes)) room) may in
+          let inner = both-true (eqb (v .busy) 0) (ltb (length (v .bytes)) room) (outer .1) in
+          let free : length (v .bytes) < length (f .output) =
+          omega (arith, has-room, ltb-true (length (v .bytes)) room (inner .1)) in
+          leads-by-one quiet
+          (λ k a still.
+          advance a still going f (showing v (x % 256)) ((x % 256) ∷ [])
+          (obeys-plan f sound v fine ((x % 256) ∷ []) (showing v (x % 256))
+          (rw is
+          (shows f sound v fine x b plain (eqb-true (wordAt f v b) DDR (outer .0)) (eqb-true (v .busy) 0 (inner .0)))))
+          (loud f v (x % 256) free) refl refl)
+
+      go : (plan : Plan) → planAt f v ≡ plan → mayPerform f v room plan ≡ true
+          → Leads s since bound f v 1 f (performed f v plan)
+      go (Move r x pc) is may =
+          silently (Move r x pc) (valued v r x pc) is refl refl refl refl (moves f sound v fine r x pc)
+      go (Put r x pc) is may =
+          silently (Put r x pc) (changed v (withRegister (v .regs) r x) pc (v .codes) (v .cells)) is refl refl refl refl
+          (puts f sound v fine r x pc)
+      go (Jump pc) is may =
+          silently (Jump pc) (changed v (v .regs) pc (v .codes) (v .cells)) is refl refl refl refl
+          (jumps f sound v fine pc)
+      go (Load r a) is may =
+          silently (Load r a) (valued v r (wordAt f v a) (next (v .pc))) is refl refl refl refl
+          (loads f sound v fine r a (ltb-true a 0xFE00 may))
+      go (LoadBy r a) is may =
+          let both = both-true (isPlain a) (eqb (wordAt f v a) DSR) may in
+          silently (LoadBy r a) (valued v r (displayAt v) (next (v .pc))) is refl refl refl refl
+          (polls f sound v fine r a (ltb-true a 0xFE00 (both .0)) (eqb-true (wordAt f v a) DSR (both .1)))
+      go (Store x a) is may =
+          silently (Store x a) (changed v (v .regs) (next (v .pc)) (v .codes) (cell a x ∷ v .cells)) is refl refl refl
+          refl
+          (stores f sound v fine x a (ltb-true a 0xFE00 may))
+      go (StoreBy x a) is may =
+          let both = both-true (isPlain a)
+          (eqb (wordAt f v a) MCR || eqb (wordAt f v a) DDR && (eqb (v .busy) 0 && ltb (length (v .bytes)) room)) may in
+          by-pointer x a is (ltb-true a 0xFE00 (both .0)) (eqb (wordAt f v a) MCR) refl (both .1)
+      go (Call vector) is may = absurd (true≢false (sym may))
+      go Illegal is may = absurd (true≢false (sym may))
+      go Return is may = absurd (true≢false (sym may))
+
+  -- One step.
+  pub steps-once : (v : View) → mayStep f room v ≡ true → Leads s since bound f v 1 f (stepped f v)
+  unfolding stepped mayStep
+  steps-once v may =
+      let outer = both-true (eqb (v .mcr) 0x8000) (cellsFine (v .cells) && mayPerform f v room (planAt f v)) may in
+      let inner = both-true (cellsFine (v .cells)) (mayPerform f v room (planAt f v)) (outer .1) in
+      by-plan v (eqb-true (v .mcr) 0x8000 (outer .0)) (inner .0) (planAt f v) refl (inner .1)
+
+-- n steps, and whether they may be made.
+unfoldable pub steppedBy : ℕ → Frame → View → View
+steppedBy zero f v = v
+steppedBy (suc n) f v = steppedBy n f (stepped f v)
+
+unfoldable pub maySteps : ℕ → Frame → ℕ → View → Bool
+maySteps zero f room v = true
+maySteps (suc n) f room v = mayStep f room v && maySteps n f room (stepped f v)
+
+module _ {s : Start} {since bound : ℕ} (quiet : Quiet s since bound) (f : Frame) (sound : Sound f) (room : ℕ)
+    (has-room : room ≤ length (f .output)) where
+  abbrev Runs : ℕ → Type 0
+  Runs n = (v : View) → maySteps n f room v ≡ true → Leads s since bound f v n f (steppedBy n f v)
+
+  one-more-step : (n : ℕ) → Runs n → Runs (suc n)
+  unfolding steppedBy maySteps
+  one-more-step n rest v may =
+      let both = both-true (mayStep f room v) (maySteps n f room (stepped f v)) may in
+      let z : 1 + n ≡ suc n = omega arith in
+      rw z at (then (steps-once quiet f sound room has-room v (both .0)) (rest (stepped f v) (both .1)))
+
+  none : Runs zero
+  unfolding steppedBy
+  none v may = no-step f v
+
+  pub runs : (n : ℕ) → Runs n
+  runs zero = none
+  runs (suc n) = one-more-step n (runs n)
+
+-- To unfold this is to compute the steps of a routine.
+unfoldable pub computing : Unit {0}
+unfolding steppedBy maySteps stepped mayStep planAt wordWith routineWords readOf planBy codesOf isTaken andBits
+computing = tt

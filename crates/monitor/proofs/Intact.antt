@@ -1,41 +1,108 @@
--- A memory that holds the monitor's words: what stands where, and that stores above them leave it so.
-use Prim.Native.Nat.{ℕ, _≤_, _<_}
+-- A memory that holds the monitor's words, and the words of a view: those stored last, the routines', and all others.
+use Prim.Native.Nat.{ℕ, _+_, _-_, _≤_, _<_}
 use native.Mathlib.Omega.{arith}
-use mathlib.Core.Path.{_≡_, refl, sym, _∙_}
-use mathlib.Core.List.{List}
-use lib.ListN.{length, getD, set, take}
-use lib.Seq.{getD-take, take-set-le}
-use Rattle.word.specs.Reading.{readOf}
-use Rattle.machine.specs.declared.Plan.{Plan}
-use Rattle.machine.specs.Plan.{planBy, planOf}
-use Rattle.monitor.specs.Vectors.{vectorWord, vectorsFrom, vectorTable}
+use mathlib.Core.Path.{_≡_, refl, sym, ap, _∙_}
+use mathlib.Core.Bool.{Bool, true, false, cond, _&&_}
+use mathlib.Core.List.{List, [], _∷_, _++_}
+use borrow.Author.Tests.{leb-true, ltb-true, eqb-true, eqb-false}
+use lib.Dec.{leb, ltb, eqb}
+use lib.ListN.{length, getD, set, take, length-set}
+use lib.Seq.{getD-take, getD-set-same, getD-set-other, getD-append-add}
+use Rattle.machine.proofs.Tests.{both-true}
+use Rattle.monitor.specs.Vectors.{vectorWord, vectorsFrom, vectorTable, ours}
 use Rattle.monitor.specs.Routines.{routineWords, monitorWords}
-use Rattle.monitor.proofs.Execution.{View, psrAt}
-use Rattle.monitor.proofs.Instructions.{Plans}
+use Rattle.monitor.proofs.VectorLaws.{table-holds}
+use Rattle.monitor.proofs.Execution.{Frame, Cell, View, memoryWith}
 
 -- The words x0000 to x02A4.
 pub monitor-length : length monitorWords ≡ 0x02A5
 unfolding monitorWords vectorTable vectorsFrom routineWords
 monitor-length = refl
 
-pub data Intact (mem : List ℕ) : Type 0 where
-  intact : take (length monitorWords) mem ≡ monitorWords → Intact mem
+-- A memory of all addresses that holds the monitor's words.
+pub record Intact (mem : List ℕ) : Type 0 where
+  pub words : take (length monitorWords) mem ≡ monitorWords
+  pub size : length mem ≡ 65536
 
-pub word-at : {mem : List ℕ} → Intact mem → (a w : ℕ) → a < 0x02A5 → getD monitorWords a 0 ≡ w → getD mem a 0 ≡ w
-word-at {mem} (intact h) a w l e =
+monitor-word : {mem : List ℕ} → Intact mem → (a : ℕ) → a < 0x02A5 → getD mem a 0 ≡ getD monitorWords a 0
+monitor-word {mem} i a l =
     let b : a < length monitorWords = omega (arith, monitor-length) in
-    sym (getD-take (length monitorWords) mem a 0 b) ∙ rw h e
+    sym (getD-take (length monitorWords) mem a 0 b) ∙ ap (λ (ws : List ℕ). getD ws a 0) (i .words)
 
-pub still-intact : {mem : List ℕ} → Intact mem → (a x : ℕ) → 0x02A5 ≤ a → Intact (set mem a x)
-still-intact {mem} (intact h) a x l =
-    intact (take-set-le (length monitorWords) mem a x (omega (arith, monitor-length)) ∙ h)
+pub routine-word : {mem : List ℕ} → Intact mem → (a : ℕ) → 0x0200 ≤ a → a < 0x02A5
+    → getD mem a 0 ≡ getD routineWords (a - 0x0200) 0
+routine-word {mem} i a l h = monitor-word i a h ∙ skip (a - 0x0200) a (omega arith)
+  where
+    skip : (n a : ℕ) → 512 + n ≡ a → getD monitorWords a 0 ≡ getD routineWords n 0
+    skip n a e = unfold monitorWords in
+        rw (← e)
+        (ap (λ (k : ℕ). getD (vectorTable ours ++ routineWords) (k + n) 0) (sym (table-holds .size ours))
+        ∙ getD-append-add (vectorTable ours) routineWords n 0)
 
--- To unfold this is to read the monitor's words and to plan their instructions.
-unfoldable pub reading : Unit {0}
-unfolding monitorWords vectorTable vectorsFrom vectorWord routineWords readOf planBy
-reading = tt
+pub vector-word : {mem : List ℕ} → Intact mem → (a : ℕ) → a < 0x0200 → getD mem a 0 ≡ vectorWord ours a
+vector-word {mem} i a l =
+    monitor-word i a (omega arith) ∙ first (omega (arith, table-holds .size ours)) ∙ table-holds .words ours a l
+  where
+    first : a < length (vectorTable ours) → getD monitorWords a 0 ≡ getD (vectorTable ours) a 0
+    first h = unfold monitorWords in lib.ListN.List·getD-append (vectorTable ours) routineWords 0 a h
 
--- The plan of the instruction at PC is that of the monitor's word.
-pub planned : {v : View} {plan : Plan} → Intact (v .memory) → v .pc < 0x02A5
-    → planOf (v .regs) (v .pc) (psrAt v) (readOf (getD monitorWords (v .pc) 0)) ≡ plan → Plans v plan
-planned {v} i l e = record { is = rw (word-at i (v .pc) (getD monitorWords (v .pc) 0) l refl) e }
+-- ---- the words of a view
+
+-- The words stored since are plain words above the monitor's.
+abbrev pub cellsFine : List Cell → Bool
+cellsFine [] = true
+cellsFine (c ∷ cells) = leb 0x02A5 (c .address) && ltb (c .address) 0xFE00 && cellsFine cells
+
+abbrev pub isRoutine : ℕ → Bool
+isRoutine a = leb 0x0200 a && ltb a 0x02A5
+
+-- The word at a.
+unfoldable pub wordWith : List ℕ → List Cell → ℕ → ℕ
+unfolding routineWords
+wordWith mem [] a = cond (isRoutine a) (getD routineWords (a - 0x0200) 0) (getD mem a 0)
+wordWith mem (c ∷ cells) a = cond (eqb a (c .address)) (c .value) (wordWith mem cells a)
+
+abbrev pub wordAt : Frame → View → ℕ → ℕ
+wordAt f v a = wordWith (f .memory) (v .cells) a
+
+pub size-with : (mem : List ℕ) (cells : List Cell) → length (memoryWith mem cells) ≡ length mem
+size-with mem [] = refl
+size-with mem (c ∷ cells) = length-set (memoryWith mem cells) (c .address) (c .value) ∙ size-with mem cells
+
+pub word-with : {mem : List ℕ} → Intact mem → (cells : List Cell) → cellsFine cells ≡ true → (a : ℕ)
+    → getD (memoryWith mem cells) a 0 ≡ wordWith mem cells a
+unfolding wordWith
+word-with {mem} i [] fine a = go (isRoutine a) refl
+  where
+    go : (b : Bool) → isRoutine a ≡ b → getD mem a 0 ≡ cond b (getD routineWords (a - 0x0200) 0) (getD mem a 0)
+    go true e =
+        let both = both-true (leb 0x0200 a) (ltb a 0x02A5) e in
+        routine-word i a (leb-true 0x0200 a (both .0)) (ltb-true a 0x02A5 (both .1))
+    go false e = refl
+word-with {mem} i (c ∷ cells) fine a =
+    let outer = both-true (leb 0x02A5 (c .address) && ltb (c .address) 0xFE00) (cellsFine cells) fine in
+    let inner = both-true (leb 0x02A5 (c .address)) (ltb (c .address) 0xFE00) (outer .0) in
+    go (eqb a (c .address)) refl (ltb-true (c .address) 0xFE00 (inner .1)) (word-with i cells (outer .1) a)
+  where
+    go : (b : Bool) → eqb a (c .address) ≡ b → c .address < 0xFE00
+        → getD (memoryWith mem cells) a 0 ≡ wordWith mem cells a
+        → getD (set (memoryWith mem cells) (c .address) (c .value)) a 0
+        ≡ cond b (c .value) (wordWith mem cells a)
+    go true e l ih =
+        let z : a ≡ c .address = eqb-true a (c .address) e in
+        rw z
+        (getD-set-same (memoryWith mem cells) (c .address) (c .value) 0
+        (omega (arith, l, size-with mem cells, i .size)))
+    go false e l ih =
+        getD-set-other (memoryWith mem cells) (c .address) a (c .value) 0 (eqb-false a (c .address) e) ∙ ih
+
+-- The monitor's own words are none of them.
+pub low-word : (mem : List ℕ) (cells : List Cell) → cellsFine cells ≡ true → (a : ℕ) → a < 0x02A5
+    → getD (memoryWith mem cells) a 0 ≡ getD mem a 0
+low-word mem [] fine a h = refl
+low-word mem (c ∷ cells) fine a h =
+    let outer = both-true (leb 0x02A5 (c .address) && ltb (c .address) 0xFE00) (cellsFine cells) fine in
+    let inner = both-true (leb 0x02A5 (c .address)) (ltb (c .address) 0xFE00) (outer .0) in
+    let l : 0x02A5 ≤ c .address = leb-true 0x02A5 (c .address) (inner .0) in
+    getD-set-other (memoryWith mem cells) (c .address) a (c .value) 0 (λ e. omega arith)
+    ∙ low-word mem cells (outer .1) a h

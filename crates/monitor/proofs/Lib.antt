@@ -1,9 +1,23 @@
--- Laws of the table and of the calls; symbolic execution of the monitor's routines; and the theorems on OUT.
+-- Laws of the table and of the calls; symbolic execution of the monitor's routines; and the theorems on them.
 pub mod VectorLaws
 pub mod InstallLaws
 pub mod KeyLaws
 pub mod Execution
-pub mod Instructions
 pub mod Intact
+pub mod Instructions
+pub mod Exceptions
+pub mod Entries
+pub mod Calls
+pub mod Strings
+pub mod Keyboard
 pub mod Out
+pub mod Stop
+pub mod Standing
+pub mod Back
+pub mod Getc
+pub mod Halt
+pub mod Puts
+pub mod In
+pub mod Putsp
+pub mod Examples
 pub mod PremisesCanBeMet

@@ -1,0 +1,226 @@
+-- BACK: the interrupt's entry, and RTI.
+use Prim.Native.Nat.{ℕ, _+_, _-_, _*_, _/_, _%_, _≤_, _<_}
+use native.Mathlib.Omega.{arith}
+use mathlib.Core.Path.{_≡_, refl, sym, ap, subst, _∙_}
+use mathlib.Core.Bool.{Bool, true, false, cond, _||_, true≢false}
+use mathlib.Core.List.{List, []}
+use borrow.Author.Tests.{le-leb, lt-ltb, eq-eqb, ne-eqb}
+use lib.ListN.{getD, set}
+use lib.Seq.{set-set, set-getD, getD-set-same}
+use Rattle.word.specs.Reading.{readOf}
+use Rattle.machine.specs.declared.Machine.{Machine}
+use Rattle.machine.specs.declared.Devices.{Devices}
+use Rattle.machine.specs.declared.Plan.the-variants.{Return}
+use Rattle.machine.specs.Words.{next, before}
+use Rattle.machine.specs.Psr.{inUserMode}
+use Rattle.machine.specs.Outcome.{interrupt}
+use Rattle.machine.specs.Causes.{takesInterrupt}
+use Rattle.machine.specs.Interrupts.{pendingInterrupt, timerMayInterrupt, keyboardMayInterrupt, timerVector}
+use Rattle.machine.specs.Interrupts.{timerPriority, keyboardVector, keyboardPriority}
+use Rattle.machine.specs.Entry.{interrupted}
+use Rattle.machine.specs.Plan.{planBy}
+use Rattle.machine.specs.Step.{ended, afterStart, interruptedOrObeyedBy, stepBy, stepOf}
+use Rattle.machine.proofs.InterruptRule.{interrupt-is-taken-by-rule-2}
+use Rattle.run.specs.Run.{Start, End, arriving, nextStepBy, nextStep}
+use Rattle.run.specs.Call.{callOf}
+use Rattle.run.specs.Noninterference.{causeAt}
+use Rattle.run.proofs.Acceptance.{accepted-is-acceptable, call-is-run}
+use Rattle.monitor.specs.Vectors.{vectorWord, ours}
+use Rattle.monitor.specs.Routines.{routineWords}
+use Rattle.monitor.specs.Back.{stackOf, Interrupted, CameBack, BackReturns}
+use Rattle.monitor.proofs.VectorLaws.{interrupt-word}
+use Rattle.monitor.proofs.Execution.{Frame, View, machineAt, At}
+use Rattle.monitor.proofs.Execution.{statusIn, started, advance-with, same-keyboard, QuietStep, here}
+use Rattle.monitor.proofs.Intact.{Intact, cellsFine, wordAt, wordWith, low-word, routine-word}
+use Rattle.monitor.proofs.Instructions.{Sound, planAt, word-is}
+use Rattle.monitor.proofs.Entries.{startFrame, startView, at-start, psr-parts, enteredFrame, enteredView}
+use Rattle.monitor.proofs.Entries.{entry-gives, entry-silent, returnedFrame, returnedView, return-once}
+use Rattle.monitor.proofs.Calls.{call-stands, steps-are-made, unread}
+
+-- The interrupt that a step takes is one of two.
+data TakenAs (m : Machine) (mem keys : List ℕ) : Type 0 where
+  taken : (vector priority : ℕ) → 0x0103 ≤ vector → vector < 0x0200
+      → stepOf keys m mem ≡ ended (interrupted vector priority (afterStart keys m) mem) → TakenAs m mem keys
+
+which : (m : Machine) (mem keys : List ℕ) → takesInterrupt (stepOf keys m mem .cause) ≡ true → TakenAs m mem keys
+unfolding stepBy pendingInterrupt interruptedOrObeyedBy
+which m mem keys h =
+    go (timerMayInterrupt (afterStart keys m)) (keyboardMayInterrupt (afterStart keys m)) refl refl
+    (sym (interrupt-is-taken-by-rule-2 keys m mem) ∙ h)
+  where
+    go : (t k : Bool) → timerMayInterrupt (afterStart keys m) ≡ t → keyboardMayInterrupt (afterStart keys m) ≡ k
+        → (timerMayInterrupt (afterStart keys m) || keyboardMayInterrupt (afterStart keys m)) ≡ true
+        → TakenAs m mem keys
+    go true k p q e = taken timerVector timerPriority (omega arith) (omega arith) (rw p)
+    go false true p q e = taken keyboardVector keyboardPriority (omega arith) (omega arith) (rw (p, q))
+    go false false p q e = absurd (true≢false (sym e ∙ rw (p, q)))
+
+interrupt-psr : (psr priority : ℕ)
+    → psr % 256 + priority % 8 * 256 ≡ (psr % 256 + priority % 8 * 256) / 8 * 8 + psr % 8
+interrupt-psr psr priority = omega arith
+
+module _ (s : Start) (n : ℕ) (c : Interrupted s n) where
+  abbrev sp : ℕ
+  sp = stackOf s
+
+  abbrev user : Bool
+  user = inUserMode (s .machine .psr)
+
+  ok : Intact (s .memory)
+  ok = record { words = c .intact; size = accepted-is-acceptable s n (c .accepted) .size }
+
+  one-below : before sp ≡ sp - 1
+  one-below = omega (arith, c .above-monitor, c .below-devices)
+
+  two-below : before (before sp) ≡ sp - 2
+  two-below = omega (arith, c .above-monitor, c .below-devices)
+
+  abbrev entered : View
+  entered = enteredView s sp 0x027F (s .machine .pc)
+
+  fine : cellsFine (entered .cells) ≡ true
+  fine =
+      rw (two-below, one-below)
+      (rw (
+        le-leb 0x02A5 (sp - 2) (omega (arith, c .above-monitor)),
+        lt-ltb (sp - 2) 0xFE00 (omega (arith, c .above-monitor, c .below-devices)),
+        le-leb 0x02A5 (sp - 1) (omega (arith, c .above-monitor)),
+        lt-ltb (sp - 1) 0xFE00 (omega (arith, c .above-monitor, c .below-devices)),
+      ))
+
+  -- ---- the entry
+
+  a₀ : At s 1 0 (startFrame s) (startView s)
+  a₀ = at-start s n (c .accepted) 1
+
+  interrupted-here : takesInterrupt (nextStep s (here a₀) .cause) ≡ true
+  unfolding causeAt
+  interrupted-here =
+      subst (λ (e : End). takesInterrupt (nextStep s e .cause) ≡ true)
+      (call-is-run stepOf s n 0 (c .accepted) (omega arith) ∙ a₀ .stands) (c .interrupt)
+
+  abbrev highOf : ℕ → ℕ
+  highOf priority = (s .machine .psr % 256 + priority % 8 * 256) / 8
+
+  enters : (vector priority : ℕ) → 0x0103 ≤ vector → vector < 0x0200
+      → stepOf (arriving s (here a₀)) (here a₀ .machine) (s .memory)
+      ≡ ended (interrupted vector priority (afterStart (arriving s (here a₀)) (here a₀ .machine)) (s .memory))
+      → At s 1 1 (enteredFrame s user (highOf priority)) entered
+  unfolding interrupted nextStepBy
+  enters vector priority least most e =
+      let g = entry-gives s ok user refl sp refl (interrupt vector) (s .machine .pc) (highOf priority) most fine in
+      let leads : vectorWord ours vector ≡ 0x027F = sym (interrupt-word ours vector least) in
+      let view : View = enteredView s sp (vectorWord ours vector) (s .machine .pc) in
+      let p : (d : Devices) (t : ℕ)
+      → machineAt (startFrame s) (startView s) d t .psr % 256 + priority % 8 * 256
+      ≡ highOf priority * 8 + s .machine .psr % 8 =
+      λ d t. rw (← (psr-parts (s .machine .psr))) (interrupt-psr (s .machine .psr) priority) in
+      rw leads at (advance-with a₀ (interrupted vector priority) (λ l. absurd (omega arith)) (c .mcr)
+      (e ∙ ap (λ (m : Machine). ended (interrupted vector priority m (s .memory))) (started a₀))
+      (enteredFrame s user (highOf priority)) view [] (statusIn s 0 (startView s))
+      (λ d t same kbsr kbdr. rw (← kbsr) (g (machineAt (startFrame s) (startView s) d t .psr % 256 + priority % 8 * 256)
+      (p d t) d t))
+      (entry-silent s user (highOf priority) sp (vectorWord ours vector) (s .machine .pc))
+      (same-keyboard a₀ view refl refl))
+
+  -- ---- RTI
+
+  module _ (priority : ℕ) where
+    abbrev f : Frame
+    f = enteredFrame s user (highOf priority)
+
+    sound : Sound f
+    sound = record { above = omega arith; intact = ok }
+
+    word : wordAt f entered 0x027F ≡ 0x8000
+    unfolding routineWords
+    word =
+        sym (word-is f sound entered fine 0x027F)
+        ∙ low-word (s .memory) (entered .cells) fine 0x027F (omega arith)
+        ∙ routine-word ok 0x027F (omega arith) (omega arith)
+
+    lone : planAt f entered ≡ Return
+    unfolding planAt readOf planBy
+    lone = rw word
+
+    six : getD (entered .regs) 6 0 ≡ before (before sp)
+    six = getD-set-same (s .machine .regs) 6 (before (before sp)) 0 (omega (arith, c .registers))
+
+    above-it : next (before (before sp)) ≡ before sp
+    above-it = omega (arith, c .above-monitor, c .below-devices)
+
+    pc-there : wordAt f entered (before (before sp)) ≡ s .machine .pc
+    unfolding wordWith
+    pc-there = rw (eq-eqb (before (before sp)) (before (before sp)) refl)
+
+    psr-there : wordAt f entered (next (before (before sp))) ≡ s .machine .psr
+    unfolding wordWith
+    psr-there =
+        rw above-it
+        (rw (
+          ne-eqb (before sp) (before (before sp)) (λ e. absurd (omega (arith, c .above-monitor, c .below-devices))),
+          eq-eqb (before sp) (before sp) refl,
+        ))
+
+    quiet : QuietStep s 1
+    unfolding causeAt
+    quiet =
+        subst (λ (e : End). takesInterrupt (nextStep s e .cause) ≡ false)
+        (call-is-run stepOf s n 1 (c .accepted) (omega (arith, c .steps))) (c .no-other)
+
+    at-end : At s 1 1 f entered
+        → At s 1 2 (returnedFrame f user (before (before sp)) (s .machine .psr))
+        (returnedView f entered user (before (before sp)) (s .machine .psr) (s .machine .pc))
+    at-end a =
+        return-once f sound entered (c .mcr) fine lone (before (before sp)) (s .machine .pc) (s .machine .psr) six
+        pc-there psr-there (accepted-is-acceptable s n (c .accepted) .defined .psr) user refl a quiet
+
+  -- ---- both
+
+  up-again : next (next (before (before sp))) ≡ sp
+  up-again = omega (arith, c .above-monitor, c .below-devices)
+
+  restored : (b : Bool) → user ≡ b
+      → set (set (s .machine .regs) 6 (before (before sp))) 6
+      (cond b (cond b (getD (s .machine .regs) 6 0) (s .machine .«saved_usp»)) sp)
+      ≡ s .machine .regs
+  restored true e = set-set (s .machine .regs) 6 (before (before sp)) _ ∙ set-getD (s .machine .regs) 6 0
+  restored false e =
+      let z : sp ≡ getD (s .machine .regs) 6 0 = rw e in
+      set-set (s .machine .regs) 6 (before (before sp)) sp
+      ∙ ap (λ (x : ℕ). set (s .machine .regs) 6 x) z
+      ∙ set-getD (s .machine .regs) 6 0
+
+  same-ssp : (b : Bool) → user ≡ b → cond b sp (s .machine .«saved_ssp») ≡ s .machine .«saved_ssp»
+  same-ssp true e = rw e
+  same-ssp false e = refl
+
+  came-back : TakenAs (here a₀ .machine) (s .memory) (arriving s (here a₀)) → CameBack s n (callOf s 2)
+  came-back (taken vector priority least most e) =
+      let a = at-end priority (enters vector priority least most e) in
+      let q = call-stands a n (c .accepted) (c .steps) in
+      record {
+        made = steps-are-made a n (c .accepted) (c .steps);
+        steps = rw q;
+        ending = rw q;
+        shown = rw q;
+        output = rw q;
+        registers = rw (q, up-again) (restored user refl);
+        psr = rw q (sym (psr-parts (s .machine .psr)));
+        pc = rw q;
+        saved-ssp = rw (q, up-again) (same-ssp user refl);
+        saved-usp = rw q;
+        kbsr = rw q (unread a refl refl);
+        kbdr = rw q (a .kbdr);
+        timer = rw q (a .timer);
+        mcr = rw q (c .mcr);
+        busy = rw q;
+        clock = rw q (a .ticks);
+        memory = rw (q, two-below, one-below);
+      }
+
+pub back-returns : BackReturns
+unfolding nextStepBy
+back-returns s n c =
+    came-back s n c
+    (which (here (a₀ s n c) .machine) (s .memory) (arriving s (here (a₀ s n c))) (interrupted-here s n c))

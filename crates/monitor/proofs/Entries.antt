@@ -1,0 +1,448 @@
+-- The ways into a routine and out of it: where a call stands before its first step, the entry, the wait for the
+-- display, and RTI.
+use Prim.Native.Nat.{ℕ, zero, suc, _+_, _-_, _*_, _/_, _%_, _<_}
+use native.Mathlib.Nat.{add-zero}
+use native.Mathlib.Omega.{arith}
+use mathlib.Core.Path.{_≡_, refl, sym, ap, _∙_}
+use mathlib.Core.Bool.{Bool, true, false, cond, _&&_}
+use mathlib.Core.List.{List, [], _∷_}
+use borrow.Author.Tests.{ne-eqb}
+use lib.Dec.{eqb}
+use lib.IntN.{negsuc}
+use lib.ListN.{length, getD, set}
+use lib.Seq.{set-set}
+use Rattle.word.specs.Reading.{readOf}
+use Rattle.word.specs.declared.Instruction.the-variants.{Br, Trap}
+use Rattle.machine.specs.declared.Machine.{Machine}
+use Rattle.machine.specs.declared.Devices.{Devices}
+use Rattle.machine.specs.declared.Plan.the-variants.{Jump, LoadBy, Return}
+use Rattle.machine.specs.Words.{next, before, withRegister, andBits}
+use Rattle.machine.specs.Psr.{inUserMode, definedPsr, codesOf, isTaken}
+use Rattle.machine.specs.Keys.{readyAfter, lastKey}
+use Rattle.machine.specs.Timer.{tickedBy}
+use Rattle.machine.specs.Protection.{privileged, deniedBy, denied}
+use Rattle.machine.specs.Outcome.{Reason, vectorOf, entered, Outcome, withReads}
+use Rattle.machine.specs.Devices.{DSR}
+use Rattle.machine.specs.Entry.{pushed, entry, afterEntry, raised, stackPointerOnEntry, userStackOnEntry}
+use Rattle.machine.specs.Return.{afterReturn, popped, return}
+use Rattle.machine.specs.Plan.{planBy}
+use Rattle.machine.specs.Step.{performBy, obeyedBy, ended, stepOf, busyAfter}
+use Rattle.run.specs.declared.Admission.the-variants.{Accepted}
+use Rattle.run.specs.declared.Ending.the-variants.{Done}
+use Rattle.run.specs.Run.{Start, End, begin, nextStep, runOf, withShown, showsByte}
+use Rattle.run.specs.Call.{callOf}
+use Rattle.run.specs.Noninterference.{causeAt}
+use Rattle.run.specs.Refusals.{admissionOf}
+use Rattle.run.proofs.RunLaws.{run-of-none}
+use Rattle.run.proofs.Acceptance.{accepted-is-acceptable, call-is-run}
+use Rattle.monitor.specs.Vectors.{vectorWord, ours}
+use Rattle.monitor.specs.Keys.{keysBefore}
+use Rattle.monitor.specs.Out.{waitSteps}
+use Rattle.monitor.proofs.KeyLaws.{none-before}
+use Rattle.monitor.proofs.Execution.{Frame, Known, these, from, codesNumber, cell, View, psrAt, memoryAt}
+use Rattle.monitor.proofs.Execution.{outputAt, machineAt, At, statusIn, Gives, Shows, advance, advance-by}
+use Rattle.monitor.proofs.Execution.{same-keyboard, Quiet, QuietStep, Leads, leads-by-one, then}
+use Rattle.monitor.proofs.Intact.{Intact, cellsFine, wordAt, low-word, vector-word}
+use Rattle.monitor.proofs.Exceptions.{user-raises}
+use Rattle.monitor.proofs.Instructions.{Sound, codesFor, planAt, isPlain}
+use Rattle.monitor.proofs.Instructions.{all-allowed, plan-is, word-is, codes-below, supervisor, by-plan}
+
+-- ---- before the first step
+
+abbrev pub startFrame : Start → Frame
+startFrame s = record {
+  high = s .machine .psr / 8;
+  ssp = s .machine .«saved_ssp»;
+  usp = s .machine .«saved_usp»;
+  memory = s .memory;
+  output = s .output;
+}
+
+abbrev pub startViewWith : Known → Start → View
+startViewWith codes s = record {
+  regs = s .machine .regs;
+  pc = s .machine .pc;
+  codes = codes;
+  cells = [];
+  bytes = [];
+  busy = s .machine .devices .busy;
+  mcr = s .machine .devices .mcr;
+  read = 0;
+  status = s .machine .devices .kbsr;
+}
+
+abbrev pub startView : Start → View
+startView s = startViewWith (these (s .machine .psr)) s
+
+pub psr-parts : (psr : ℕ) → psr ≡ psr / 8 * 8 + psr % 8
+psr-parts psr = omega arith
+
+pub at-start-with : (s : Start) (n : ℕ) → admissionOf s n ≡ Accepted → (since : ℕ) (codes : Known)
+    → codesNumber codes ≡ s .machine .psr % 8 → At s since 0 (startFrame s) (startViewWith codes s)
+unfolding begin
+at-start-with s n accepted since codes same =
+    let ok = accepted-is-acceptable s n accepted in
+    let none : keysBefore (s .machine .clock + 0) (s .times) ≡ 0 =
+    rw (add-zero (s .machine .clock)) (none-before (s .machine .clock) (s .times) (ok .order)) in
+    record {
+      keys = 0;
+      devices = s .machine .devices;
+      clock = s .machine .clock;
+      ticks = sym (add-zero (s .machine .clock));
+      order = ok .order;
+      equal = ok .equal;
+      arrived-by = sym none;
+      read-before = omega arith;
+      kbsr = unfold readyAfter in refl;
+      kbdr = unfold lastKey in refl;
+      rest-of-status = refl;
+      status-below = omega arith;
+      timer = unfold tickedBy in refl;
+      stands = run-of-none stepOf s
+          ∙ (λ i. record {
+            machine = record {
+              regs = s .machine .regs;
+              pc = s .machine .pc;
+              psr = (psr-parts (s .machine .psr) ∙ ap (λ (c : ℕ). s .machine .psr / 8 * 8 + c) (sym same)) i;
+              «saved_ssp» = s .machine .«saved_ssp»;
+              «saved_usp» = s .machine .«saved_usp»;
+              devices = s .machine .devices;
+              clock = s .machine .clock;
+            };
+            memory = s .memory;
+            output = s .output;
+            steps = 0;
+            keys = 0;
+            shown = 0;
+            ending = Done;
+          });
+      quiet = λ j l h. absurd (omega arith);
+    }
+
+pub at-start : (s : Start) (n : ℕ) → admissionOf s n ≡ Accepted → (since : ℕ)
+    → At s since 0 (startFrame s) (startView s)
+at-start s n accepted since = at-start-with s n accepted since (these (s .machine .psr)) refl
+
+-- ---- the entry
+
+-- What an entry leaves: the mode and priority of the PSR that it leaves; in User mode R6 is saved.
+abbrev pub enteredFrame : Start → Bool → ℕ → Frame
+enteredFrame s user high = record {
+  high = high;
+  ssp = s .machine .«saved_ssp»;
+  usp = cond user (getD (s .machine .regs) 6 0) (s .machine .«saved_usp»);
+  memory = s .memory;
+  output = s .output;
+}
+
+-- PSR and this PC are on the stack that began at sp.
+abbrev pub enteredView : Start → ℕ → ℕ → ℕ → View
+enteredView s sp to pc = record {
+  regs = set (s .machine .regs) 6 (before (before sp));
+  pc = to;
+  codes = these (s .machine .psr);
+  cells = cell (before (before sp)) pc ∷ cell (before sp) (s .machine .psr) ∷ [];
+  bytes = [];
+  busy = s .machine .devices .busy - 1;
+  mcr = s .machine .devices .mcr;
+  read = 0;
+  status = s .machine .devices .kbsr;
+}
+
+module _ (s : Start) (i : Intact (s .memory)) (user : Bool) (mode : inUserMode (s .machine .psr) ≡ user) (sp : ℕ)
+    (stack : cond user (s .machine .«saved_ssp») (getD (s .machine .regs) 6 0) ≡ sp) (reason : Reason) (pc high : ℕ)
+    (vector : vectorOf reason < 0x0200) (fine : cellsFine (enteredView s sp 0 pc .cells) ≡ true) where
+  pub entry-gives : (psr : ℕ) → psr ≡ high * 8 + s .machine .psr % 8 → (d : Devices) (t : ℕ)
+      → Gives (entry reason pc psr (machineAt (startFrame s) (startView s) d t) (s .memory)) []
+      (s .machine .devices .busy) (enteredFrame s user high) (enteredView s sp (vectorWord ours (vectorOf reason)) pc) d t
+  unfolding entry pushed afterEntry stackPointerOnEntry userStackOnEntry
+  entry-gives psr p d t =
+      let to : getD (memoryAt (enteredFrame s user high) (enteredView s sp 0 pc)) (vectorOf reason) 0
+      ≡ vectorWord ours (vectorOf reason) =
+      low-word (s .memory) (enteredView s sp 0 pc .cells) fine (vectorOf reason) (omega arith)
+      ∙ vector-word i (vectorOf reason) vector in
+      record {
+        machine = rw (← (psr-parts (s .machine .psr)), mode, stack, to, p);
+        memory = rw (← (psr-parts (s .machine .psr)), mode, stack);
+        shown = refl;
+      }
+
+pub entry-silent : (s : Start) (user : Bool) (high sp to pc : ℕ)
+    → Shows [] (startFrame s) (enteredFrame s user high) (startView s) (enteredView s sp to pc)
+unfolding busyAfter showsByte withShown
+entry-silent s user high sp to pc = record { counts = refl; free = refl; output = refl; shown = refl }
+
+-- The PSR that a trap or an exception leaves.
+pub trap-psr : (psr : ℕ) → psr % 0x8000 ≡ psr / 8 % 4096 * 8 + psr % 8
+trap-psr psr = omega arith
+
+-- ---- TRAP in User mode
+
+allowed-at : (psr pc : ℕ) → privileged pc ≡ false → denied psr pc ≡ false
+unfolding deniedBy
+allowed-at psr pc h = go (inUserMode psr)
+  where
+    go : (b : Bool) → (b && privileged pc) ≡ false
+    go true = h
+    go false = refl
+
+-- Where a routine stands that a User-mode program called by a TRAP, or an exception led to, with the supervisor stack
+-- at x3000.
+abbrev pub calledFrame : Start → Frame
+calledFrame s = enteredFrame s true (s .machine .psr / 8 % 4096)
+
+abbrev pub calledView : Start → ℕ → ℕ → View
+calledView s to pc = enteredView s 0x3000 to pc
+
+pub called-sound : (s : Start) → Intact (s .memory) → Sound (calledFrame s)
+called-sound s i = record { above = omega arith; intact = i }
+
+pub trap-enters : (s : Start) (n bound : ℕ) → admissionOf s n ≡ Accepted → Quiet s 0 bound → 0 < bound
+    → Intact (s .memory) → inUserMode (s .machine .psr) ≡ true → privileged (s .machine .pc) ≡ false
+    → s .machine .«saved_ssp» ≡ 0x3000 → s .machine .devices .mcr ≡ 0x8000 → (vector : ℕ) → vector < 0x0100
+    → readOf (getD (s .memory) (s .machine .pc) 0) ≡ Trap vector
+    → At s 0 1 (calledFrame s) (calledView s (vectorWord ours vector) (next (s .machine .pc)))
+unfolding obeyedBy withReads planBy performBy raised
+trap-enters s n bound accepted quiet some i user address stack going vector below word =
+    let a = at-start s n accepted 0 in
+    let m : (d : Devices) (t : ℕ) → Machine = machineAt (startFrame s) (startView s) in
+    let g = entry-gives s i true user 0x3000 stack (Reason.trap vector) (next (s .machine .pc))
+    (s .machine .psr / 8 % 4096) (omega arith) refl in
+    let p : psrAt (startFrame s) (startView s) % 0x8000 ≡ s .machine .psr / 8 % 4096 * 8 + s .machine .psr % 8 =
+    rw (← (psr-parts (s .machine .psr))) (trap-psr (s .machine .psr)) in
+    let allowed = allowed-at (psrAt (startFrame s) (startView s)) (s .machine .pc) address in
+    advance a (quiet .at a some) going (calledFrame s)
+    (calledView s (vectorWord ours vector) (next (s .machine .pc))) []
+    (λ d t. record {
+      machine = rw (allowed, word) (g (psrAt (startFrame s) (startView s) % 0x8000) p d t .machine);
+      memory = rw (allowed, word) (g (psrAt (startFrame s) (startView s) % 0x8000) p d t .memory);
+      shown = rw (allowed, word) (g (psrAt (startFrame s) (startView s) % 0x8000) p d t .shown);
+    })
+    (entry-silent s true (s .machine .psr / 8 % 4096) 0x3000 (vectorWord ours vector) (next (s .machine .pc))) refl refl
+
+-- ---- an exception, or a trap, in User mode
+
+pub exception-enters : (s : Start) (n bound : ℕ) → admissionOf s n ≡ Accepted → Quiet s 0 bound → 0 < bound
+    → Intact (s .memory) → inUserMode (s .machine .psr) ≡ true → s .machine .«saved_ssp» ≡ 0x3000
+    → s .machine .devices .mcr ≡ 0x8000 → (reason : Reason) → vectorOf reason < 0x0200 → (psr pc : ℕ)
+    → causeAt s 0 ≡ entered reason psr pc
+    → At s 0 1 (calledFrame s) (calledView s (vectorWord ours (vectorOf reason)) pc)
+unfolding raised ended causeAt
+exception-enters s n bound accepted quiet some i user stack going reason below psr pc cause =
+    let a = at-start s n accepted 0 in
+    let g = entry-gives s i true user 0x3000 stack reason pc (s .machine .psr / 8 % 4096) below refl in
+    let p : psrAt (startFrame s) (startView s) % 0x8000 ≡ s .machine .psr / 8 % 4096 * 8 + s .machine .psr % 8 =
+    rw (← (psr-parts (s .machine .psr))) (trap-psr (s .machine .psr)) in
+    let mode : inUserMode (psrAt (startFrame s) (startView s)) ≡ true = rw (← (psr-parts (s .machine .psr))) user in
+    let same : callOf s 0 ≡ runOf s 0 = call-is-run stepOf s n 0 accepted (omega arith) in
+    advance-by a (quiet .at a some) going (calledFrame s) (calledView s (vectorWord ours (vectorOf reason)) pc) []
+    (statusIn s 0 (startView s))
+    (λ d t e kbsr kbdr.
+    let r = user-raises (machineAt (startFrame s) (startView s) d t) (s .memory) mode reason psr pc
+    (ap (λ (o : Outcome). o .cause) (sym e) ∙ ap (λ (x : End). nextStep s x .cause) (sym same) ∙ cause) in
+    let h = g (psrAt (startFrame s) (startView s) % 0x8000) p d t in
+    rw (← kbsr)
+    (record {
+      machine = r .machine ∙ h .machine;
+      memory = r .memory ∙ h .memory;
+      shown = r .shown ∙ h .shown;
+    }))
+    (entry-silent s true (s .machine .psr / 8 % 4096) 0x3000 (vectorWord ours (vectorOf reason)) pc)
+    (same-keyboard a (calledView s (vectorWord ours (vectorOf reason)) pc) refl refl)
+
+-- ---- the wait for the display
+
+-- The same with other registers, PC, codes and busy count.
+abbrev pub within : View → List ℕ → ℕ → Known → ℕ → View
+within v regs pc codes busy = record {
+  regs = regs;
+  pc = pc;
+  codes = codes;
+  cells = v .cells;
+  bytes = v .bytes;
+  busy = busy;
+  mcr = v .mcr;
+  read = v .read;
+  status = v .status;
+}
+
+-- LDI of DSR to register r at pc, and BRzp back to it: the plans there, whatever registers, codes and busy count are.
+pub record Polls (f : Frame) (v : View) (r pc : ℕ) : Type 0 where
+  pub pointer : ℕ
+  pub loads : (regs : List ℕ) (c : Known) (busy : ℕ) → planAt f (within v regs pc c busy) ≡ LoadBy r pointer
+  pub display : (isPlain pointer && eqb (wordAt f v pointer) DSR) ≡ true
+  pub branches : (regs : List ℕ) (c : Known) (busy : ℕ)
+      → planAt f (within v regs (next pc) c busy)
+      ≡ Jump (cond (isTaken 3 (codesFor c (Br 3 (negsuc 1)))) pc (next (next pc)))
+
+module _ {s : Start} {since bound : ℕ} (quiet : Quiet s since bound) (f : Frame) (sound : Sound f) (v : View)
+    (going : v .mcr ≡ 0x8000) (fine : cellsFine (v .cells) ≡ true) (r pc : ℕ) (p : Polls f v r pc) where
+  -- LDI finds this, and BRzp goes there.
+  turn : (regs : List ℕ) (c : Known) (busy x to : ℕ) → cond (eqb busy 0) 0x8000 0 ≡ x
+      → cond (isTaken 3 (codesFor (from x) (Br 3 (negsuc 1)))) pc (next (next pc)) ≡ to
+      → Leads s since bound f (within v regs pc c busy) 2 f
+      (within v (withRegister regs r x) to (from x) (busy - 1 - 1))
+  turn regs c busy x to finds goes =
+      let loaded : Leads s since bound f (within v regs pc c busy) 1 f
+      (within v (withRegister regs r x) (next pc) (from x) (busy - 1)) =
+      rw finds at (by-plan quiet f sound 0 (omega arith) (within v regs pc c busy) going fine (LoadBy r (p .pointer))
+      (p .loads regs c busy) (p .display)) in
+      let branched : Leads s since bound f (within v (withRegister regs r x) (next pc) (from x) (busy - 1)) 1 f
+      (within v (withRegister regs r x) to (from x) (busy - 1 - 1)) =
+      rw goes at (by-plan quiet f sound 0 (omega arith) (within v (withRegister regs r x) (next pc) (from x) (busy - 1))
+      going fine (Jump (cond (isTaken 3 (codesFor (from x) (Br 3 (negsuc 1)))) pc (next (next pc))))
+      (p .branches (withRegister regs r x) (from x) (busy - 1)) refl) in
+      then loaded branched
+
+  abbrev Waits : ℕ → Type 0
+  Waits busy = (regs : List ℕ) (c : Known)
+      → Leads s since bound f (within v regs pc c busy) (waitSteps busy) f
+      (within v (withRegister regs r 0x8000) (next (next pc)) (from 0x8000) 0)
+
+  waits-zero : Waits zero
+  unfolding waitSteps isTaken codesOf andBits
+  waits-zero regs c = turn regs c 0 0x8000 (next (next pc)) refl refl
+
+  waits-more : (busy : ℕ) → Waits (busy - 1) → (n : ℕ) → n ≡ 2 + waitSteps (busy - 1) → (regs : List ℕ) (c : Known)
+      → Leads s since bound f (within v regs pc c (suc busy)) n f
+      (within v (withRegister regs r 0x8000) (next (next pc)) (from 0x8000) 0)
+  unfolding isTaken codesOf andBits
+  waits-more busy w n e regs c =
+      let z : suc busy - 1 - 1 ≡ busy - 1 = omega arith in
+      let found : cond {A = ℕ} (eqb (suc busy) 0) 0x8000 0 ≡ 0 =
+      ap (λ (ready : Bool). cond {A = ℕ} ready 0x8000 0) (ne-eqb (suc busy) 0 (λ e. absurd (omega arith))) in
+      rw (e, ← (set-set regs (r % 8) 0 0x8000))
+      (then (rw z at (turn regs c (suc busy) 0 pc found refl)) (w (withRegister regs r 0) (from 0)))
+
+  waits-one : Waits (suc zero)
+  unfolding waitSteps
+  waits-one = waits-more 0 waits-zero 4 (unfold waitSteps in refl)
+
+  waits-two-more : (busy : ℕ) → Waits busy → Waits (suc (suc busy))
+  unfolding waitSteps
+  waits-two-more busy w =
+      let z : suc busy - 1 ≡ busy = omega arith in
+      waits-more (suc busy) (rw z w) (2 + waitSteps busy) (rw z)
+
+  -- From a poll with this busy count on.
+  pub waits : (busy : ℕ) → Waits busy
+  waits zero = waits-zero
+  waits (suc zero) = waits-one
+  waits (suc (suc busy)) = waits-two-more busy (waits busy)
+
+-- ---- RTI
+
+-- After an RTI that pops this PSR from the stack at sp.
+abbrev pub returnedFrame : Frame → Bool → ℕ → ℕ → Frame
+returnedFrame f user sp psr = record {
+  high = psr / 8;
+  ssp = cond user (next (next sp)) (f .ssp);
+  usp = f .usp;
+  memory = f .memory;
+  output = f .output;
+}
+
+abbrev pub returnedView : Frame → View → Bool → ℕ → ℕ → ℕ → View
+returnedView f v user sp psr pc = record {
+  regs = set (v .regs) 6 (cond user (f .usp) (next (next sp)));
+  pc = pc;
+  codes = these psr;
+  cells = v .cells;
+  bytes = v .bytes;
+  busy = v .busy - 1;
+  mcr = v .mcr;
+  read = v .read;
+  status = v .status;
+}
+
+return-silent : (f : Frame) (v : View) (user : Bool) (sp psr pc : ℕ)
+    → Shows [] f (returnedFrame f user sp psr) v (returnedView f v user sp psr pc)
+unfolding busyAfter showsByte withShown
+return-silent f v user sp psr pc = record {
+  counts = refl;
+  free = refl;
+  output = refl;
+  shown = sym (add-zero (length (v .bytes)));
+}
+
+pub return-once : {s : Start} {since k : ℕ} (f : Frame) → Sound f → (v : View) → v .mcr ≡ 0x8000
+    → cellsFine (v .cells) ≡ true → planAt f v ≡ Return → (sp pc psr : ℕ) → getD (v .regs) 6 0 ≡ sp
+    → wordAt f v sp ≡ pc → wordAt f v (next sp) ≡ psr → definedPsr psr ≡ psr → (user : Bool) → inUserMode psr ≡ user
+    → At s since k f v → QuietStep s k
+    → At s since (suc k) (returnedFrame f user sp psr) (returnedView f v user sp psr pc)
+unfolding obeyedBy withReads performBy return popped afterReturn
+return-once f sound v going fine plan sp pc psr six at-sp at-next defined user mode a still =
+    let here = supervisor (f .high) (codesNumber (v .codes)) (sound .above) (codes-below (v .codes)) in
+    let allowed = all-allowed f sound v fine (v .pc) in
+    let is = plan-is f sound v fine ∙ plan in
+    let w = word-is f sound v fine sp in
+    let w′ = word-is f sound v fine (next sp) in
+    advance a still going (returnedFrame f user sp psr) (returnedView f v user sp psr pc) []
+    (λ d t. record {
+      machine = rw (allowed, is, here, six, w, at-sp, w′, at-next) (rw (defined, mode) (λ i. record {
+        regs = set (v .regs) 6 (cond user (f .usp) (next (next sp)));
+        pc = pc;
+        psr = psr-parts psr i;
+        «saved_ssp» = cond user (next (next sp)) (f .ssp);
+        «saved_usp» = f .usp;
+        devices = machineAt f v d t .devices;
+        clock = t;
+      }));
+      memory = rw (allowed, is, here);
+      shown = rw (allowed, is, here);
+    })
+    (return-silent f v user sp psr pc) refl refl
+
+pub returns : {s : Start} {since bound : ℕ} → Quiet s since bound → (f : Frame) → Sound f → (v : View)
+    → v .mcr ≡ 0x8000 → cellsFine (v .cells) ≡ true → planAt f v ≡ Return → (sp pc psr : ℕ) → getD (v .regs) 6 0 ≡ sp
+    → wordAt f v sp ≡ pc → wordAt f v (next sp) ≡ psr → definedPsr psr ≡ psr → (user : Bool) → inUserMode psr ≡ user
+    → Leads s since bound f v 1 (returnedFrame f user sp psr) (returnedView f v user sp psr pc)
+returns quiet f sound v going fine plan sp pc psr six at-sp at-next defined user mode =
+    leads-by-one quiet
+    (λ k a still. return-once f sound v going fine plan sp pc psr six at-sp at-next defined user mode a still)
+
+-- ---- codes that are known otherwise
+
+-- Two ways to know the same codes.
+pub recoded : {s : Start} {since bound : ℕ} (f : Frame) (v : View) (c c′ : Known) → codesNumber c ≡ codesNumber c′
+    → Leads s since bound f (within v (v .regs) (v .pc) c (v .busy)) 0 f (within v (v .regs) (v .pc) c′ (v .busy))
+recoded f v c c′ e = record {
+  on = λ {k} h a.
+      let z : k + 0 ≡ k = omega arith in
+      rw z (record {
+        keys = a .keys;
+        devices = a .devices;
+        clock = a .clock;
+        ticks = a .ticks;
+        order = a .order;
+        equal = a .equal;
+        arrived-by = a .arrived-by;
+        read-before = a .read-before;
+        kbsr = a .kbsr;
+        kbdr = a .kbdr;
+        rest-of-status = a .rest-of-status;
+        status-below = a .status-below;
+        timer = a .timer;
+        stands = a .stands
+            ∙ ap
+            (λ (n : ℕ). record {
+              machine = record {
+                regs = v .regs;
+                pc = v .pc;
+                psr = f .high * 8 + n;
+                «saved_ssp» = f .ssp;
+                «saved_usp» = f .usp;
+                devices = machineAt f v (a .devices) (a .clock) .devices;
+                clock = a .clock;
+              };
+              memory = memoryAt f v;
+              output = outputAt f v;
+              steps = k;
+              keys = a .keys;
+              shown = length (v .bytes);
+              ending = Done;
+            })
+            e;
+        quiet = a .quiet;
+      });
+}

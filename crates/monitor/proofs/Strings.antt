@@ -1,0 +1,239 @@
+-- What PUTS and PUTSP have in common: the look at the address in R0, and the load of the word there.
+use Prim.Native.Nat.{ℕ, zero, suc, _+_, _-_, _≤_, _<_}
+use native.Mathlib.Omega.{arith}
+use native.Mathlib.Decide.{decLe}
+use mathlib.Core.Path.{_≡_, refl, sym, ap, _∙_}
+use mathlib.Core.Bool.{true, false}
+use mathlib.Core.List.{List, [], _∷_}
+use borrow.Author.Tests.{le-leb, lt-leb, lt-ltb, le-ltb, ltb-false, leb-false, leb-true, ne-eqb}
+use lib.Dec.{leb, ltb}
+use lib.ListN.{getD}
+use lib.Seq.{getD-set-other}
+use Rattle.machine.specs.declared.Plan.the-variants.{Load}
+use Rattle.machine.specs.Words.{next, wrap}
+use Rattle.machine.specs.Psr.{codesOf}
+use Rattle.machine.specs.Protection.{privileged}
+use Rattle.machine.proofs.Tests.{or-is-false}
+use Rattle.run.specs.Run.{Start}
+use Rattle.monitor.specs.Puts.{lookSteps}
+use Rattle.monitor.proofs.Execution.{Frame, Known, from, codesNumber, Cell, View, memoryWith, Quiet, Leads}
+use Rattle.monitor.proofs.Execution.{then}
+use Rattle.monitor.proofs.Intact.{cellsFine, wordAt}
+use Rattle.monitor.proofs.Instructions.{Sound, planAt, valued, by-plan, word-is}
+use Rattle.monitor.proofs.Calls.{cellsWithin, cells-within}
+
+-- An address of User mode's, and one that is none.
+pub user-address : (a : ℕ) → privileged a ≡ false → (0x3000 ≤ a) × (a < 0xFE00)
+unfolding privileged
+user-address a h =
+    let both = or-is-false (ltb a 0x3000) (leb 0xFE00 a) h in
+    (ltb-false a 0x3000 (both .0), leb-false 0xFE00 a (both .1))
+
+-- ---- codes of numbers
+
+pub negative : (x : ℕ) → 0x8000 ≤ x → codesOf x ≡ 4
+unfolding codesOf
+negative x h = rw (ne-eqb x 0 (λ e. omega arith), le-ltb x 0x8000 h)
+
+pub positive : (x : ℕ) → 0 < x → x < 0x8000 → codesOf x ≡ 1
+unfolding codesOf
+positive x l h = rw (ne-eqb x 0 (λ e. omega arith), lt-ltb x 0x8000 h)
+
+-- ---- the look at the address
+
+-- Steps from one view to another whatever R1, R2, the bytes shown and the busy count are. W has R0, R1, R2, PC, codes,
+-- bytes and busy count; the caller's PSR is on the stack; the look begins at p, goes on at `get` or at `bad`.
+pub record Looks (s : Start) (bound : ℕ) (f : Frame) (W : ℕ → ℕ → ℕ → ℕ → Known → List ℕ → ℕ → View)
+    (psr p₁ p₂ p₃ p₄ get bad : ℕ) : Type 0 where
+  -- LDR R1: the PSR
+  pub loads-psr : (a r₁ r₂ : ℕ) (c : Known) (bytes : List ℕ) (busy : ℕ)
+      → Leads s 0 bound f (W a r₁ r₂ p₁ c bytes busy) 1 f (W a psr r₂ p₂ (from psr) bytes (busy - 1))
+  -- BRzp is not taken after a negative value; LD R1, ABOVE; ADD R1, R0, R1
+  pub adds-above : (a r₁ r₂ : ℕ) (bytes : List ℕ) (busy : ℕ)
+      → Leads s 0 bound f (W a r₁ r₂ p₂ (from 0x8000) bytes busy) 3 f
+      (W a (wrap (a + 0x0200)) r₂ p₃ (from (wrap (a + 0x0200))) bytes (busy - 1 - 1 - 1))
+  -- BRn is taken after a negative value
+  pub goes-on : (a r₁ r₂ : ℕ) (bytes : List ℕ) (busy : ℕ)
+      → Leads s 0 bound f (W a r₁ r₂ p₃ (from 0x8000) bytes busy) 1 f (W a r₁ r₂ get (from 0x8000) bytes (busy - 1))
+  -- and not after another: LD R2, BELOW; ADD R1, R1, R2
+  pub adds-below : (a r₁ r₂ x : ℕ) → x < 2 → (bytes : List ℕ) (busy : ℕ)
+      → Leads s 0 bound f (W a r₁ r₂ p₃ (from x) bytes busy) 3 f
+      (W a (wrap (r₁ + 0xCE00)) 0xCE00 p₄ (from (wrap (r₁ + 0xCE00))) bytes (busy - 1 - 1 - 1))
+  -- BRn once more
+  pub gets : (a r₁ r₂ x : ℕ) → x < 2 → (bytes : List ℕ) (busy : ℕ)
+      → Leads s 0 bound f (W a r₁ r₂ p₄ (from x) bytes busy) 1 f (W a r₁ r₂ get (from x) bytes (busy - 1))
+  pub refuses : (a r₁ r₂ : ℕ) (bytes : List ℕ) (busy : ℕ)
+      → Leads s 0 bound f (W a r₁ r₂ p₄ (from 0x8000) bytes busy) 1 f (W a r₁ r₂ bad (from 0x8000) bytes (busy - 1))
+  -- codes that are known otherwise
+  pub knows : (a r₁ r₂ pc : ℕ) (c c′ : Known) (bytes : List ℕ) (busy : ℕ) → codesNumber c ≡ codesNumber c′
+      → Leads s 0 bound f (W a r₁ r₂ pc c bytes busy) 0 f (W a r₁ r₂ pc c′ bytes busy)
+
+-- It comes to pc in n steps.
+pub record Comes (s : Start) (bound : ℕ) (f : Frame) (W : ℕ → ℕ → ℕ → ℕ → Known → List ℕ → ℕ → View) (from-view : View)
+    (n a pc : ℕ) (bytes : List ℕ) (most : ℕ) : Type 0 where
+  pub r₁ : ℕ
+  pub r₂ : ℕ
+  pub codes : Known
+  pub busy : ℕ
+  pub few : busy ≤ most
+  pub leads : Leads s 0 bound f from-view n f (W a r₁ r₂ pc codes bytes busy)
+
+fewer : (b : ℕ) → b ≤ 6 → b - 1 - (1 + 1 + 1) ≤ 2
+fewer b h = omega arith
+
+module _ {s : Start} {bound : ℕ} {f : Frame} {W : ℕ → ℕ → ℕ → ℕ → Known → List ℕ → ℕ → View}
+    {psr p₁ p₂ p₃ p₄ get bad : ℕ} (l : Looks s bound f W psr p₁ p₂ p₃ p₄ get bad) (user : 0x8000 ≤ psr)
+    (a r₁ r₂ : ℕ) (c : Known) (bytes : List ℕ) (busy : ℕ) (few : busy ≤ 6) where
+  abbrev sum : ℕ
+  sum = wrap (a + 0x0200)
+
+  two-left : busy - 1 - 1 - 1 - 1 ≤ 2
+  two-left = omega arith
+
+  to-branch : Leads s 0 bound f (W a r₁ r₂ p₁ c bytes busy) 4 f
+      (W a sum r₂ p₃ (from sum) bytes (busy - 1 - 1 - 1 - 1))
+  unfolding codesOf
+  to-branch =
+      then (l .loads-psr a r₁ r₂ c bytes busy)
+      (then (l .knows a psr r₂ p₂ (from psr) (from 0x8000) bytes (busy - 1) (negative psr user))
+      (l .adds-above a psr r₂ bytes (busy - 1)))
+
+  -- An address from x7E00 to xFDFF.
+  pub look-high : 0x7E00 ≤ a → a < 0xFE00 → Comes s bound f W (W a r₁ r₂ p₁ c bytes busy) 5 a get bytes 1
+  unfolding codesOf
+  look-high least most = record {
+    r₁ = sum;
+    r₂ = r₂;
+    codes = from 0x8000;
+    busy = busy - 1 - 1 - 1 - 1 - 1;
+    few = omega (arith, two-left);
+    leads = then to-branch
+        (then (l .knows a sum r₂ p₃ (from sum) (from 0x8000) bytes (busy - 1 - 1 - 1 - 1)
+        (negative sum (omega arith)))
+        (l .goes-on a sum r₂ bytes (busy - 1 - 1 - 1 - 1)));
+  }
+
+  -- A sum that is not negative: zero or positive.
+  module _ (small : sum < 0x8000) where
+    abbrev left : ℕ
+    left = busy - 1 - 1 - 1 - 1
+
+    abbrev difference : ℕ
+    difference = wrap (sum + 0xCE00)
+
+    second : Leads s 0 bound f (W a r₁ r₂ p₁ c bytes busy) 7 f
+        (W a difference 0xCE00 p₄ (from difference) bytes (left - 1 - 1 - 1))
+    unfolding codesOf
+    second = elim (decLe 1 sum) [
+      | yes h ↦ then to-branch
+          (then (l .knows a sum r₂ p₃ (from sum) (from 1) bytes left (positive sum h small))
+          (l .adds-below a sum r₂ 1 (omega arith) bytes left))
+      | no h ↦ (
+          let z : sum ≡ 0 = omega arith in
+          then to-branch
+          (then (l .knows a sum r₂ p₃ (from sum) (from 0) bytes left (ap codesOf z))
+          (l .adds-below a sum r₂ 0 (omega arith) bytes left))
+          )
+    ]
+
+    spent : left - 1 - 1 - 1 ≡ 0
+    spent = go left two-left
+      where
+        go : (x : ℕ) → x ≤ 2 → x - 1 - 1 - 1 ≡ 0
+        go x h = omega arith
+
+    comes-by : (pc x : ℕ) → codesOf difference ≡ codesOf x
+        → Leads s 0 bound f (W a difference 0xCE00 p₄ (from x) bytes 0) 1 f
+        (W a difference 0xCE00 pc (from x) bytes (0 - 1))
+        → Comes s bound f W (W a r₁ r₂ p₁ c bytes busy) 8 a pc bytes 0
+    comes-by pc x same last = record {
+      r₁ = difference;
+      r₂ = 0xCE00;
+      codes = from x;
+      busy = 0;
+      few = omega arith;
+      leads = then (rw spent at second)
+          (then (l .knows a difference 0xCE00 p₄ (from difference) (from x) bytes 0 same) last);
+    }
+
+  -- An address from x3000 to x7DFF.
+  pub look-low : 0x3000 ≤ a → a < 0x7E00 → Comes s bound f W (W a r₁ r₂ p₁ c bytes busy) 8 a get bytes 0
+  look-low least most = elim (decLe 1 (difference (omega arith))) [
+    | yes h ↦ comes-by (omega arith) get 1
+        (positive (difference (omega arith)) h (omega arith) ∙ unfold codesOf in refl)
+        (l .gets a (difference (omega arith)) 0xCE00 1 (omega arith) bytes 0)
+    | no h ↦ comes-by (omega arith) get 0 (ap codesOf (let z : difference (omega arith) ≡ 0 = omega arith in z))
+        (l .gets a (difference (omega arith)) 0xCE00 0 (omega arith) bytes 0)
+  ]
+
+  -- A privileged address.
+  pub look-refused : a < 65536 → privileged a ≡ true → Comes s bound f W (W a r₁ r₂ p₁ c bytes busy) 8 a bad bytes 0
+  look-refused below h = elim (decLe (suc a) 0x3000) [
+    | yes less ↦ refuse (omega arith) (omega arith)
+    | no less ↦ (
+        let above : 0xFE00 ≤ a = not-below (omega arith) in
+        refuse (omega arith) (omega arith)
+        )
+  ]
+    where
+      not-below : 0x3000 ≤ a → 0xFE00 ≤ a
+      not-below g = unfold privileged in leb-true 0xFE00 a (rw (le-ltb a 0x3000 g) at h)
+
+      refuse : (small : sum < 0x8000) → 0x8000 ≤ wrap (sum + 0xCE00)
+          → Comes s bound f W (W a r₁ r₂ p₁ c bytes busy) 8 a bad bytes 0
+      refuse small big =
+          comes-by small bad 0x8000 (negative (difference small) big ∙ unfold codesOf in refl)
+          (l .refuses a (difference small) 0xCE00 bytes 0)
+
+  -- The look at an address of User mode's.
+  pub look-at : privileged a ≡ false
+      → Comes s bound f W (W a r₁ r₂ p₁ c bytes busy) (lookSteps a) a get bytes 1
+  look-at mine =
+      let u = user-address a mine in
+      elim (decLe 0x7E00 a) [
+        | yes h ↦ rw (le-leb 0x7E00 a h) (look-high h (u .1))
+        | no h ↦ rw (lt-leb 0x7E00 a (omega arith)) (weaker (look-low (u .0) (omega arith)))
+      ]
+    where
+      weaker : Comes s bound f W (W a r₁ r₂ p₁ c bytes busy) 8 a get bytes 0
+          → Comes s bound f W (W a r₁ r₂ p₁ c bytes busy) 8 a get bytes 1
+      weaker l = record {
+        r₁ = l .r₁;
+        r₂ = l .r₂;
+        codes = l .codes;
+        busy = l .busy;
+        few = omega (arith, l .few);
+        leads = l .leads;
+      }
+
+-- What holds of 0 and 1.
+pub below-two : (P : ℕ → Type 0) → P 0 → P 1 → (x : ℕ) → x < 2 → P x
+below-two P p q zero l = p
+below-two P p q (suc zero) l = q
+below-two P p q (suc (suc x)) l = absurd (omega arith)
+
+-- ---- the word there
+
+-- A word above the stack is as it was.
+high-word : (mem : List ℕ) (low : ℕ) (cells : List Cell) → cellsWithin low cells ≡ true → (a : ℕ) → 0x3000 ≤ a
+    → getD (memoryWith mem cells) a 0 ≡ getD mem a 0
+high-word mem low [] fine a h = refl
+high-word mem low (c ∷ cells) fine a h =
+    let w = cells-within low c cells fine in
+    getD-set-other (memoryWith mem cells) (c .address) a (c .value) 0
+    (λ e. let m : c .address < 0x3000 = w .1 in omega arith)
+    ∙ high-word mem low cells (w .2) a h
+
+-- LDR of the word at R0.
+pub gets-word : {s : Start} {bound : ℕ} → Quiet s 0 bound → (f : Frame) → Sound f → (v : View) → v .mcr ≡ 0x8000
+    → cellsFine (v .cells) ≡ true → (low : ℕ) → cellsWithin low (v .cells) ≡ true → (a w : ℕ) → privileged a ≡ false
+    → planAt f v ≡ Load 1 (wrap (a + 0)) → getD (f .memory) a 0 ≡ w
+    → Leads s 0 bound f v 1 f (valued v 1 w (next (v .pc)))
+gets-word {s} {bound} quiet f sound v going fine low within-stack a w mine plan is =
+    let u = user-address a mine in
+    let z : wrap (a + 0) ≡ a = omega (arith, u .1) in
+    let x : wordAt f v (wrap (a + 0)) ≡ w =
+    rw z
+    (sym (word-is f sound v fine a) ∙ high-word (f .memory) low (v .cells) within-stack a (u .0) ∙ is) in
+    let may : ltb (wrap (a + 0)) 0xFE00 ≡ true = rw z (lt-ltb a 0xFE00 (u .1)) in
+    rw x at (by-plan quiet f sound 0 (omega arith) v going fine (Load 1 (wrap (a + 0))) plan may)

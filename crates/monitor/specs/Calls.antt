@@ -1,0 +1,101 @@
+-- A call of one of the monitor's routines from User mode, and what it leaves: the caller resumed, or the machine
+-- halted.
+use Prim.Native.Nat.{ℕ, suc, _+_, _-_, _*_, _/_, _%_, _≤_}
+use mathlib.Core.Path.{_≡_}
+use mathlib.Core.Bool.{true, false}
+use mathlib.Core.List.{List}
+use lib.ListN.{length, getD, set, take, drop}
+use Rattle.word.specs.Reading.{readOf}
+use Rattle.word.specs.declared.Instruction.the-variants.{Trap}
+use Rattle.machine.specs.Words.{next}
+use Rattle.machine.specs.Record.{timerOf}
+use Rattle.machine.specs.Psr.{inUserMode}
+use Rattle.machine.specs.Protection.{privileged}
+use Rattle.machine.specs.Keys.{readyAfter, lastKey}
+use Rattle.machine.specs.Timer.{tickedBy}
+use Rattle.machine.specs.Outcome.{Reason, entered}
+use Rattle.run.specs.declared.Admission.the-variants.{Accepted}
+use Rattle.run.specs.declared.Ending.the-variants.{Done, Halted}
+use Rattle.run.specs.Run.{Start, End}
+use Rattle.run.specs.Refusals.{admissionOf}
+use Rattle.run.specs.Call.{callOf}
+use Rattle.run.specs.Noninterference.{causeAt}
+use Rattle.monitor.specs.Routines.{monitorWords}
+use Rattle.monitor.specs.Install.{writtenOver}
+use Rattle.monitor.specs.Keys.{arrivedBy}
+use Rattle.monitor.specs.Out.{Uninterrupted, NotEnabled}
+
+-- "With the monitor's words intact, Saved_SSP x3000, MCR x8000", an accepted call of n steps that begins in User mode.
+-- Nothing is asked of registers, codes, priority, other words and keys.
+pub record Begins (s : Start) (n : ℕ) : Type 0 where
+  pub accepted : admissionOf s n ≡ Accepted
+  pub registers : length (s .machine .regs) ≡ 8
+  pub user-mode : inUserMode (s .machine .psr) ≡ true
+  pub intact : take (length monitorWords) (s .memory) ≡ monitorWords
+  pub stack : s .machine .«saved_ssp» ≡ 0x3000
+  pub mcr : s .machine .devices .mcr ≡ 0x8000
+
+-- Its next instruction is this TRAP, at an address that User mode may fetch from.
+pub record Calls (vector : ℕ) (s : Start) (n : ℕ) : Type 0 where
+  pub begins : Begins s n
+  pub user-address : privileged (s .machine .pc) ≡ false
+  pub trap : readOf (getD (s .memory) (s .machine .pc) 0) ≡ Trap vector
+
+-- Its next step raises this exception, or makes the entry for this trap, and pushes this PC.
+pub record Raises (reason : Reason) (s : Start) (n : ℕ) : Type 0 where
+  pub begins : Begins s n
+  pub pushed-psr : ℕ
+  pub pushed-pc : ℕ
+  pub cause : causeAt s 0 ≡ entered reason pushed-psr pushed-pc
+
+-- "No interrupt on the way": the first k steps take none, or no device is enabled at the call.
+pub data NoInterrupt (s : Start) (k : ℕ) : Type 0 where
+  takes-none : Uninterrupted s k → NoInterrupt s k
+  none-enabled : NotEnabled (s .machine .devices) → NoInterrupt s k
+
+-- KBSR once so many keys have arrived: where KBDR has not been loaded since the call, and where it was loaded in step
+-- j, which clears ready.
+abbrev pub notRead : Start → ℕ → ℕ
+notRead s keys = readyAfter (take keys (s .bytes)) (s .machine .devices .kbsr)
+
+abbrev pub readIn : ℕ → Start → ℕ → ℕ
+readIn j s keys =
+    readyAfter (take (keys - arrivedBy s (suc j)) (drop (arrivedBy s (suc j)) (s .bytes)))
+    (s .machine .devices .kbsr % 0x8000)
+
+-- What the routine leaves of record, memory and output in k steps: it showed these bytes and nothing else, and stored
+-- to no word but those of the stack from `low` up to x2FFF.
+pub record Leaves (s : Start) (k : ℕ) (bytes : List ℕ) (low : ℕ) (e : End) : Type 0 where
+  pub steps : e .steps ≡ k
+  pub shown : e .shown ≡ length bytes
+  pub output : e .output ≡ writtenOver bytes (s .output)
+  pub saved-ssp : e .machine .«saved_ssp» ≡ 0x3000
+  pub saved-usp : e .machine .«saved_usp» ≡ getD (s .machine .regs) 6 0
+  pub kbdr : e .machine .devices .kbdr ≡ lastKey (take (e .keys) (s .bytes)) (s .machine .devices .kbdr)
+  pub timer : timerOf (e .machine .devices) ≡ tickedBy k (timerOf (s .machine .devices))
+  pub clock : e .machine .clock ≡ s .machine .clock + k
+  pub words-below : take low (e .memory) ≡ take low (s .memory)
+  pub words-above : drop 0x3000 (e .memory) ≡ drop 0x3000 (s .memory)
+
+-- The call of n steps makes k of them, and after those the caller has resumed at Next, with its PSR as before, these
+-- registers, and KBSR by the keys that have arrived.
+pub record Resumes (s : Start) (n k : ℕ) (bytes : List ℕ) (low : ℕ) (registers : List ℕ) (status : ℕ → ℕ) : Type 0 where
+  pub made : k ≤ callOf s n .steps
+  pub leaves : Leaves s k bytes low (callOf s k)
+  pub ending : callOf s k .ending ≡ Done
+  pub pc : callOf s k .machine .pc ≡ next (s .machine .pc)
+  pub psr : callOf s k .machine .psr ≡ s .machine .psr
+  pub registers-are : callOf s k .machine .regs ≡ registers
+  pub mcr : callOf s k .machine .devices .mcr ≡ 0x8000
+  pub kbsr : callOf s k .machine .devices .kbsr ≡ status (callOf s k .keys)
+
+-- The call of n steps makes k of them and is then halted, with R0 to R5 and R7 as before.
+pub record Halts (s : Start) (n k : ℕ) (bytes : List ℕ) (low : ℕ) : Type 0 where
+  pub leaves : Leaves s k bytes low (callOf s n)
+  pub ending : callOf s n .ending ≡ Halted
+  pub mcr : callOf s n .machine .devices .mcr ≡ 0
+  pub kbsr : callOf s n .machine .devices .kbsr ≡ notRead s (callOf s n .keys)
+  pub registers-are : callOf s n .machine .regs ≡ set (s .machine .regs) 6 0x2FFE
+  -- in Supervisor mode, in front of the branch back to the start of STOP
+  pub pc : callOf s n .machine .pc ≡ 0x027E
+  pub psr : callOf s n .machine .psr ≡ s .machine .psr / 8 % 4096 * 8 + 1

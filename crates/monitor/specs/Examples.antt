@@ -1,0 +1,54 @@
+-- The premises of the theorems can be met: for each, a fresh machine in User mode at x3000 with the monitor in memory.
+use Prim.Native.Nat.{ℕ}
+use mathlib.Core.Path.{_≡_}
+use mathlib.Core.List.{List, [], _∷_}
+use lib.ListN.{getD, set, replicate}
+use Rattle.machine.specs.declared.Machine.{Machine}
+use Rattle.machine.specs.Record.{devicesOf, zeroTimer}
+use Rattle.machine.specs.Outcome.{access}
+use Rattle.run.specs.Run.{Start}
+use Rattle.run.specs.Call.{startOf}
+use Rattle.monitor.specs.Install.{installOf}
+use Rattle.monitor.specs.Calls.{Calls, Raises, NoInterrupt}
+use Rattle.monitor.specs.Puts.{StringFrom}
+use Rattle.monitor.specs.Getc.{KeyComes}
+use Rattle.monitor.specs.In.{firstPoll}
+use Rattle.monitor.specs.Back.{Interrupted}
+
+-- R0 is x3002; this KBSR, and the key x61 in KBDR.
+abbrev pub programAt3000 : ℕ → Machine
+programAt3000 kbsr = record {
+  regs = 0x3002 ∷ 0 ∷ 0 ∷ 0 ∷ 0 ∷ 0 ∷ 0xFDFF ∷ 0 ∷ [];
+  pc = 0x3000;
+  psr = 0x8002;
+  «saved_ssp» = 0x3000;
+  «saved_usp» = 0;
+  devices = devicesOf kbsr 0x61 0x8000 0 zeroTimer;
+  clock = 0;
+}
+
+-- The instruction at x3000, and the string "a", xABCD, end at x3002.
+unfoldable pub exampleMemory : ℕ → List ℕ
+exampleMemory word = set (set (set (installOf (replicate 65536 0) .words) 0x3000 word) 0x3002 0x0061) 0x3003 0xABCD
+
+unfoldable pub example : ℕ → ℕ → Start
+example word kbsr = startOf (programAt3000 kbsr) (exampleMemory word) [] [] (replicate 32 0)
+
+pub record ExamplesHold : Type 0 where
+  pub getc : Calls 0x20 (example 0xF020 0x8000) 1000
+  pub getc-key : KeyComes (example 0xF020 0x8000) 1 0
+  pub puts : Calls 0x22 (example 0xF022 0) 1000
+  pub puts-string : StringFrom (exampleMemory 0xF022) 0x3002 (0x0061 ∷ 0xABCD ∷ []) 0x3004
+  pub puts-end : getD (exampleMemory 0xF022) 0x3004 0 ≡ 0
+  pub input : Calls 0x23 (example 0xF023 0x8000) 1000
+  pub input-key : KeyComes (example 0xF023 0x8000) (firstPoll (example 0xF023 0x8000)) 0
+  pub putsp : Calls 0x24 (example 0xF024 0) 1000
+  pub putsp-string : StringFrom (exampleMemory 0xF024) 0x3002 (0x0061 ∷ 0xABCD ∷ []) 0x3004
+  pub halt : Calls 0x25 (example 0xF025 0) 1000
+  pub other : Calls 0xFF (example 0xF0FF 0) 1000
+  -- LD R0 from x2FFF
+  pub access-exception : Raises access (example 0x21FE 0) 1000
+  -- no device is enabled, whatever the word and the keyboard's ready bit are
+  pub no-interrupt : (word k : ℕ) → NoInterrupt (example word 0x8000) k
+  -- a key that is ready and may interrupt
+  pub interrupted : Interrupted (example 0x1020 0xC000) 1000
