@@ -27,6 +27,7 @@ use Rattle.run.specs.Noninterference.{causeAt}
 use Rattle.run.proofs.Acceptance.{accepted-is-acceptable, call-is-run}
 use Rattle.monitor.specs.Vectors.{vectorWord, ours}
 use Rattle.monitor.specs.Routines.{routineWords}
+use Rattle.monitor.specs.Uses.{backUses}
 use Rattle.monitor.specs.Back.{stackOf, Interrupted, CameBack, BackReturns}
 use Rattle.monitor.proofs.VectorLaws.{interrupt-word}
 use Rattle.monitor.proofs.Execution.{Frame, View, machineAt, At}
@@ -39,7 +40,7 @@ use Rattle.monitor.proofs.Calls.{call-stands, steps-are-made, unread}
 
 -- The interrupt that a step takes is one of two.
 data TakenAs (m : Machine) (mem keys : List ℕ) : Type 0 where
-  taken : (vector priority : ℕ) → 0x0103 ≤ vector → vector < 0x0200
+  taken : (vector priority : ℕ) → 0x0103 ≤ vector → vector < 0x0200 → backUses vector ≡ true
       → stepOf keys m mem ≡ ended (interrupted vector priority (afterStart keys m) mem) → TakenAs m mem keys
 
 which : (m : Machine) (mem keys : List ℕ) → takesInterrupt (stepOf keys m mem .cause) ≡ true → TakenAs m mem keys
@@ -51,8 +52,8 @@ which m mem keys h =
     go : (t k : Bool) → timerMayInterrupt (afterStart keys m) ≡ t → keyboardMayInterrupt (afterStart keys m) ≡ k
         → (timerMayInterrupt (afterStart keys m) || keyboardMayInterrupt (afterStart keys m)) ≡ true
         → TakenAs m mem keys
-    go true k p q e = taken timerVector timerPriority (omega arith) (omega arith) (rw p)
-    go false true p q e = taken keyboardVector keyboardPriority (omega arith) (omega arith) (rw (p, q))
+    go true k p q e = taken timerVector timerPriority (omega arith) (omega arith) refl (rw p)
+    go false true p q e = taken keyboardVector keyboardPriority (omega arith) (omega arith) refl (rw (p, q))
     go false false p q e = absurd (true≢false (sym e ∙ rw (p, q)))
 
 interrupt-psr : (psr priority : ℕ)
@@ -66,7 +67,7 @@ module _ (s : Start) (n : ℕ) (c : Interrupted s n) where
   abbrev user : Bool
   user = inUserMode (s .machine .psr)
 
-  ok : Intact (s .memory)
+  ok : Intact backUses (s .memory)
   ok = record { words = c .intact; size = accepted-is-acceptable s n (c .accepted) .size }
 
   one-below : before sp ≡ sp - 1
@@ -90,8 +91,11 @@ module _ (s : Start) (n : ℕ) (c : Interrupted s n) where
 
   -- ---- the entry
 
-  a₀ : At s 1 0 (startFrame s) (startView s)
-  a₀ = at-start s n (c .accepted) 1
+  abbrev f₀ : Frame
+  f₀ = startFrame backUses s
+
+  a₀ : At s 1 0 f₀ (startView s)
+  a₀ = at-start backUses s n (c .accepted) 1
 
   interrupted-here : takesInterrupt (nextStep s (here a₀) .cause) ≡ true
   unfolding causeAt
@@ -102,32 +106,33 @@ module _ (s : Start) (n : ℕ) (c : Interrupted s n) where
   abbrev highOf : ℕ → ℕ
   highOf priority = (s .machine .psr % 256 + priority % 8 * 256) / 8
 
-  enters : (vector priority : ℕ) → 0x0103 ≤ vector → vector < 0x0200
+  enters : (vector priority : ℕ) → 0x0103 ≤ vector → vector < 0x0200 → backUses vector ≡ true
       → stepOf (arriving s (here a₀)) (here a₀ .machine) (s .memory)
       ≡ ended (interrupted vector priority (afterStart (arriving s (here a₀)) (here a₀ .machine)) (s .memory))
-      → At s 1 1 (enteredFrame s user (highOf priority)) entered
+      → At s 1 1 (enteredFrame backUses s user (highOf priority)) entered
   unfolding interrupted nextStepBy
-  enters vector priority least most e =
-      let g = entry-gives s ok user refl sp refl (interrupt vector) (s .machine .pc) (highOf priority) most fine in
+  enters vector priority least most used e =
+      let g = entry-gives backUses s ok user refl sp refl (interrupt vector) (s .machine .pc) (highOf priority) most used
+      fine in
       let leads : vectorWord ours vector ≡ 0x027F = sym (interrupt-word ours vector least) in
       let view : View = enteredView s sp (vectorWord ours vector) (s .machine .pc) in
       let p : (d : Devices) (t : ℕ)
-      → machineAt (startFrame s) (startView s) d t .psr % 256 + priority % 8 * 256
+      → machineAt f₀ (startView s) d t .psr % 256 + priority % 8 * 256
       ≡ highOf priority * 8 + s .machine .psr % 8 =
       λ d t. rw (← (psr-parts (s .machine .psr))) (interrupt-psr (s .machine .psr) priority) in
       rw leads at (advance-with a₀ (interrupted vector priority) (λ l. absurd (omega arith)) (c .mcr)
       (e ∙ ap (λ (m : Machine). ended (interrupted vector priority m (s .memory))) (started a₀))
-      (enteredFrame s user (highOf priority)) view [] (statusIn s 0 (startView s))
-      (λ d t same kbsr kbdr. rw (← kbsr) (g (machineAt (startFrame s) (startView s) d t .psr % 256 + priority % 8 * 256)
+      (enteredFrame backUses s user (highOf priority)) view [] (statusIn s 0 (startView s))
+      (λ d t same kbsr kbdr. rw (← kbsr) (g (machineAt f₀ (startView s) d t .psr % 256 + priority % 8 * 256)
       (p d t) d t))
-      (entry-silent s user (highOf priority) sp (vectorWord ours vector) (s .machine .pc))
+      (entry-silent backUses s user (highOf priority) sp (vectorWord ours vector) (s .machine .pc))
       (same-keyboard a₀ view refl refl))
 
   -- ---- RTI
 
   module _ (priority : ℕ) where
     abbrev f : Frame
-    f = enteredFrame s user (highOf priority)
+    f = enteredFrame backUses s user (highOf priority)
 
     sound : Sound f
     sound = record { above = omega arith; intact = ok }
@@ -137,7 +142,7 @@ module _ (s : Start) (n : ℕ) (c : Interrupted s n) where
     word =
         sym (word-is f sound entered fine 0x027F)
         ∙ low-word (s .memory) (entered .cells) fine 0x027F (omega arith)
-        ∙ routine-word ok 0x027F (omega arith) (omega arith)
+        ∙ routine-word ok 0x027F (omega arith) refl
 
     lone : planAt f entered ≡ Return
     unfolding planAt readOf planBy
@@ -196,8 +201,8 @@ module _ (s : Start) (n : ℕ) (c : Interrupted s n) where
   same-ssp false e = refl
 
   came-back : TakenAs (here a₀ .machine) (s .memory) (arriving s (here a₀)) → CameBack s n (callOf s 2)
-  came-back (taken vector priority least most e) =
-      let a = at-end priority (enters vector priority least most e) in
+  came-back (taken vector priority least most used e) =
+      let a = at-end priority (enters vector priority least most used e) in
       let q = call-stands a n (c .accepted) (c .steps) in
       record {
         made = steps-are-made a n (c .accepted) (c .steps);

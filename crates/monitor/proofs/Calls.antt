@@ -2,12 +2,13 @@
 use Prim.Native.Nat.{ℕ, suc, _+_, _-_, _*_, _/_, _%_, _≤_, _<_}
 use native.Mathlib.Omega.{arith}
 use mathlib.Core.Path.{_≡_, refl, sym, ap, subst, _∙_}
-use mathlib.Core.Bool.{Bool, true, false, _&&_}
+use mathlib.Core.Bool.{Bool, true, false, cond, _&&_}
 use mathlib.Core.List.{List, [], _∷_}
 use borrow.Author.Tests.{leb-true, ltb-true, lt-ltb}
 use lib.Dec.{leb, ltb}
 use lib.ListN.{length, getD, set, take, drop}
 use lib.Seq.{take-set-le, drop-set-lt}
+use Rattle.machine.specs.declared.Machine.{Machine}
 use Rattle.machine.specs.declared.Plan.the-variants.{Return}
 use Rattle.machine.specs.Words.{next}
 use Rattle.machine.specs.Keys.{readyAfter}
@@ -25,20 +26,23 @@ use Rattle.run.specs.Noninterference.{causeAt}
 use Rattle.run.proofs.RunLaws.{done-steps-are-made, one-more-halts, stopped-run-stays, halted-is-not-done}
 use Rattle.run.proofs.Acceptance.{accepted-is-acceptable, call-is-run}
 use Rattle.monitor.specs.Vectors.{vectorWord, ours}
+use Rattle.monitor.specs.Uses.{withVector}
 use Rattle.monitor.specs.Out.{Uninterrupted}
 use Rattle.monitor.specs.Calls.{Begins, Calls, Raises, NoInterrupt, takes-none, none-enabled, notRead, Leaves}
 use Rattle.monitor.specs.Calls.{Resumes, Halts}
 use Rattle.monitor.proofs.Execution.{Frame, these, Cell, cell, View, psrAt, memoryWith, memoryAt, standingAt, At}
 use Rattle.monitor.proofs.Execution.{Quiet, no-interrupt}
 use Rattle.monitor.proofs.Intact.{Intact, cellsFine, wordAt}
+use Rattle.monitor.proofs.UseLaws.{vector-is-used}
 use Rattle.monitor.proofs.Instructions.{planAt}
 use Rattle.monitor.proofs.Entries.{psr-parts, calledFrame, calledView, called-sound, trap-enters}
 use Rattle.monitor.proofs.Entries.{exception-enters, returnedFrame, returnedView, returns}
 
-pub is-intact : (s : Start) (n : ℕ) → Begins s n → Intact (s .memory)
+pub is-intact : {uses : ℕ → Bool} {user : Bool} (s : Start) (n : ℕ) → Begins uses user s n → Intact uses (s .memory)
 is-intact s n b = record { words = b .intact; size = accepted-is-acceptable s n (b .accepted) .size }
 
-pub psr-is-defined : (s : Start) (n : ℕ) → Begins s n → definedPsr (s .machine .psr) ≡ s .machine .psr
+pub psr-is-defined : {uses : ℕ → Bool} {user : Bool} (s : Start) (n : ℕ) → Begins uses user s n
+    → definedPsr (s .machine .psr) ≡ s .machine .psr
 psr-is-defined s n b = accepted-is-acceptable s n (b .accepted) .defined .psr
 
 -- ---- no interrupt
@@ -128,9 +132,11 @@ module _ {s : Start} {since k : ℕ} {f : Frame} {v : View} (a : At s since k f 
       (halted-is-not-done (runOf s (suc k) .ending) (ap (λ (e : End). e .ending) stops))
       ∙ stops
 
-module _ {s : Start} {k : ℕ} {f : Frame} {v : View} (a : At s 0 k f v) (n : ℕ) (b : Begins s n) (low : ℕ)
-    (same-memory : f .memory ≡ s .memory) (same-output : f .output ≡ s .output) (ssp : f .ssp ≡ 0x3000)
-    (usp : f .usp ≡ getD (s .machine .regs) 6 0) (within-stack : cellsWithin low (v .cells) ≡ true) where
+module _ {uses : ℕ → Bool} {user : Bool} {s : Start} {k : ℕ} {f : Frame} {v : View} (a : At s 0 k f v) (n : ℕ)
+    (b : Begins uses user s n) (low : ℕ) (same-memory : f .memory ≡ s .memory) (same-output : f .output ≡ s .output)
+    (ssp : f .ssp ≡ s .machine .«saved_ssp»)
+    (usp : f .usp ≡ cond user (getD (s .machine .regs) 6 0) (s .machine .«saved_usp»))
+    (within-stack : cellsWithin low (v .cells) ≡ true) where
   leaves : (e : End) → e .machine ≡ standingAt f v k (a .keys) (a .devices) (a .clock) .machine
       → e .memory ≡ memoryAt f v → e .output ≡ standingAt f v k (a .keys) (a .devices) (a .clock) .output
       → e .steps ≡ k → e .shown ≡ length (v .bytes) → e .keys ≡ a .keys → Leaves s k (v .bytes) low e
@@ -139,7 +145,7 @@ module _ {s : Start} {k : ℕ} {f : Frame} {v : View} (a : At s 0 k f v) (n : �
     shown = shown;
     output = out ∙ rw same-output;
     saved-ssp = rw m ssp;
-    saved-usp = rw m usp;
+    saved-usp = rw (m, b .mode) usp;
     kbdr = rw (m, keys) (a .kbdr);
     timer = rw m (a .timer);
     clock = rw m (a .ticks);
@@ -181,7 +187,7 @@ module _ {s : Start} {k : ℕ} {f : Frame} {v : View} (a : At s 0 k f v) (n : �
         psr = rw q psr;
       }
 
--- ---- a routine that a TRAP of User mode called
+-- ---- a routine that a TRAP called
 
 -- The record has R0 to R7.
 pub record Eight (regs : List ℕ) : Type 0 where
@@ -232,11 +238,10 @@ begun s x to pc = record {
 }
 
 -- What was called is one with eight registers.
-eight-registers : (s : Start) (x : Eight (s .machine .regs)) (to to′ pc : ℕ) → to ≡ to′
-    → s .machine .devices .mcr ≡ 0x8000 → At s 0 1 (calledFrame s) (calledView s to pc)
-    → At s 0 1 (calledFrame s) (begun s x to′ pc)
-eight-registers s x to to′ pc leads going a =
-    subst (λ (v : View). At s 0 1 (calledFrame s) v)
+eight-registers : (f : Frame) (s : Start) (x : Eight (s .machine .regs)) (to to′ pc : ℕ) → to ≡ to′
+    → s .machine .devices .mcr ≡ 0x8000 → At s 0 1 f (calledView s to pc) → At s 0 1 f (begun s x to′ pc)
+eight-registers f s x to to′ pc leads going a =
+    subst (λ (v : View). At s 0 1 f v)
     (λ i. record {
       regs = set (x .are i) 6 0x2FFE;
       pc = leads i;
@@ -250,54 +255,83 @@ eight-registers s x to to′ pc leads going a =
     })
     a
 
-pub routine-begins : (s : Start) (n bound : ℕ) (x : Eight (s .machine .regs)) (vector to : ℕ) → Calls vector s n
-    → Quiet s 0 bound → 0 < bound → vector < 0x0100 → vectorWord ours vector ≡ to
-    → At s 0 1 (calledFrame s) (begun s x to (next (s .machine .pc)))
-routine-begins s n bound x vector to c quiet some below leads =
+pub routine-begins : (code : ℕ → Bool) (user : Bool) (s : Start) (n bound : ℕ) (x : Eight (s .machine .regs))
+    (vector to : ℕ) → Calls vector code user s n → Quiet s 0 bound → 0 < bound → vector < 0x0100
+    → vectorWord ours vector ≡ to
+    → At s 0 1 (calledFrame (withVector vector code) user s) (begun s x to (next (s .machine .pc)))
+routine-begins code user s n bound x vector to c quiet some below leads =
     let b = c .begins in
-    eight-registers s x (vectorWord ours vector) to (next (s .machine .pc)) leads (b .mcr)
-    (trap-enters s n bound (b .accepted) quiet some (is-intact s n b) (b .user-mode) (c .user-address) (b .stack)
-    (b .mcr) vector below (c .trap))
+    let uses : ℕ → Bool = withVector vector code in
+    eight-registers (calledFrame uses user s) s x (vectorWord ours vector) to (next (s .machine .pc)) leads (b .mcr)
+    (trap-enters uses user s n bound (b .accepted) quiet some (is-intact s n b) (b .mode) (c .may-fetch) (b .stack)
+    (b .mcr) vector below (vector-is-used vector code) (c .trap))
 
-pub handler-begins : (s : Start) (n bound : ℕ) (x : Eight (s .machine .regs)) (reason : Reason) (to : ℕ)
-    (r : Raises reason s n) → Quiet s 0 bound → 0 < bound → vectorOf reason < 0x0200
-    → vectorWord ours (vectorOf reason) ≡ to → At s 0 1 (calledFrame s) (begun s x to (r .pushed-pc))
-handler-begins s n bound x reason to r quiet some below leads =
+pub handler-begins : (code : ℕ → Bool) (s : Start) (n bound : ℕ) (x : Eight (s .machine .regs)) (reason : Reason)
+    (to : ℕ) (r : Raises reason code s n) → Quiet s 0 bound → 0 < bound → vectorOf reason < 0x0200
+    → vectorWord ours (vectorOf reason) ≡ to
+    → At s 0 1 (calledFrame (withVector (vectorOf reason) code) true s) (begun s x to (r .pushed-pc))
+handler-begins code s n bound x reason to r quiet some below leads =
     let b = r .begins in
-    eight-registers s x (vectorWord ours (vectorOf reason)) to (r .pushed-pc) leads (b .mcr)
-    (exception-enters s n bound (b .accepted) quiet some (is-intact s n b) (b .user-mode) (b .stack) (b .mcr) reason
-    below (r .pushed-psr) (r .pushed-pc) (r .cause))
+    let uses : ℕ → Bool = withVector (vectorOf reason) code in
+    eight-registers (calledFrame uses true s) s x (vectorWord ours (vectorOf reason)) to (r .pushed-pc) leads (b .mcr)
+    (exception-enters uses s n bound (b .accepted) quiet some (is-intact s n b) (b .mode) (b .stack) (b .mcr) reason
+    below (vector-is-used (vectorOf reason) code) (r .pushed-psr) (r .pushed-pc) (r .cause))
 
 -- It has come to an RTI, with R6 at x2FFE, and what the entry pushed is still there.
-pub record AtReturn (s : Start) (v : View) : Type 0 where
-  pub plan : planAt (calledFrame s) v ≡ Return
+pub record AtReturn (uses : ℕ → Bool) (user : Bool) (s : Start) (v : View) : Type 0 where
+  pub plan : planAt (calledFrame uses user s) v ≡ Return
   pub six : getD (v .regs) 6 0 ≡ 0x2FFE
-  pub pc : wordAt (calledFrame s) v 0x2FFE ≡ next (s .machine .pc)
-  pub psr : wordAt (calledFrame s) v 0x2FFF ≡ s .machine .psr
+  pub pc : wordAt (calledFrame uses user s) v 0x2FFE ≡ next (s .machine .pc)
+  pub psr : wordAt (calledFrame uses user s) v 0x2FFF ≡ s .machine .psr
   pub fine : cellsFine (v .cells) ≡ true
   pub going : v .mcr ≡ 0x8000
 
-abbrev pub backFrame : Start → Frame
-backFrame s = returnedFrame (calledFrame s) true 0x2FFE (s .machine .psr)
+abbrev pub backFrame : (ℕ → Bool) → Bool → Start → Frame
+backFrame uses user s = returnedFrame (calledFrame uses user s) user 0x2FFE (s .machine .psr)
 
-abbrev pub backView : Start → View → View
-backView s v = returnedView (calledFrame s) v true 0x2FFE (s .machine .psr) (next (s .machine .pc))
+abbrev pub backView : (ℕ → Bool) → Bool → Start → View → View
+backView uses user s v = returnedView (calledFrame uses user s) v user 0x2FFE (s .machine .psr) (next (s .machine .pc))
+
+-- RTI leaves R6 and Saved_SSP as they were, in either mode.
+module _ (user : Bool) (ssp usp six : ℕ) where
+  six-is-restored : cond user ssp six ≡ 0x3000 → cond user (cond user six usp) 0x3000 ≡ six
+  six-is-restored = go user
+    where
+      go : (b : Bool) → cond b ssp six ≡ 0x3000 → cond b (cond b six usp) 0x3000 ≡ six
+      go true e = refl
+      go false e = sym e
+
+  ssp-is-restored : cond user ssp six ≡ 0x3000 → cond user 0x3000 ssp ≡ ssp
+  ssp-is-restored = go user
+    where
+      go : (b : Bool) → cond b ssp six ≡ 0x3000 → cond b 0x3000 ssp ≡ ssp
+      go true e = sym e
+      go false e = refl
 
 -- The way back, for every routine.
-module _ (s : Start) (n j : ℕ) (v : View) (b : Begins s n) (quiet : Quiet s 0 (j + 1)) (a : At s 0 j (calledFrame s) v)
-    (r : AtReturn s v) (le : j + 1 ≤ n) (low : ℕ) (within-stack : cellsWithin low (v .cells) ≡ true)
-    (regs : List ℕ) (same : set (v .regs) 6 (getD (s .machine .regs) 6 0) ≡ regs) where
-  pub at-back : At s 0 (j + 1) (backFrame s) (backView s v)
+module _ (uses : ℕ → Bool) (user : Bool) (s : Start) (n j : ℕ) (v : View) (b : Begins uses user s n)
+    (quiet : Quiet s 0 (j + 1)) (a : At s 0 j (calledFrame uses user s) v) (r : AtReturn uses user s v) (le : j + 1 ≤ n)
+    (low : ℕ) (within-stack : cellsWithin low (v .cells) ≡ true) (regs : List ℕ)
+    (same : set (v .regs) 6 (getD (s .machine .regs) 6 0) ≡ regs) where
+  pub at-back : At s 0 (j + 1) (backFrame uses user s) (backView uses user s v)
   at-back =
-      returns quiet (calledFrame s) (called-sound s (is-intact s n b)) v (r .going) (r .fine) (r .plan) 0x2FFE
-      (next (s .machine .pc)) (s .machine .psr) (r .six) (r .pc) (r .psr) (psr-is-defined s n b) true (b .user-mode) .on
-      (omega arith) a
+      returns quiet (calledFrame uses user s) (called-sound uses user s (is-intact s n b)) v (r .going) (r .fine)
+      (r .plan) 0x2FFE (next (s .machine .pc)) (s .machine .psr) (r .six) (r .pc) (r .psr) (psr-is-defined s n b) user
+      (b .mode) .on (omega arith) a
+
+  abbrev m : Machine
+  m = s .machine
 
   pub comes-back : (status : ℕ → ℕ)
       → ((keys : ℕ) → readyAfter (take (keys - v .read) (drop (v .read) (s .bytes))) (v .status) ≡ status keys)
       → Resumes s n (j + 1) (v .bytes) low regs status
   comes-back status read =
-      resumes at-back n b low refl refl refl refl within-stack le refl (sym (psr-parts (s .machine .psr))) regs same
+      resumes at-back n b low refl refl
+      (ssp-is-restored user (m .«saved_ssp») (m .«saved_usp») (getD (m .regs) 6 0) (b .stack)) refl within-stack le refl
+      (sym (psr-parts (m .psr))) regs
+      (ap (λ (x : ℕ). set (v .regs) 6 x)
+      (six-is-restored user (m .«saved_ssp») (m .«saved_usp») (getD (m .regs) 6 0) (b .stack))
+      ∙ same)
       (r .going) status read
 
 -- A routine that has not loaded KBDR.

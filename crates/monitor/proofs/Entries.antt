@@ -13,14 +13,13 @@ use lib.ListN.{length, getD, set}
 use lib.Seq.{set-set}
 use Rattle.word.specs.Reading.{readOf}
 use Rattle.word.specs.declared.Instruction.the-variants.{Br, Trap}
-use Rattle.machine.specs.declared.Machine.{Machine}
 use Rattle.machine.specs.declared.Devices.{Devices}
 use Rattle.machine.specs.declared.Plan.the-variants.{Jump, LoadBy, Return}
 use Rattle.machine.specs.Words.{next, before, withRegister, andBits}
 use Rattle.machine.specs.Psr.{inUserMode, definedPsr, codesOf, isTaken}
 use Rattle.machine.specs.Keys.{readyAfter, lastKey}
 use Rattle.machine.specs.Timer.{tickedBy}
-use Rattle.machine.specs.Protection.{privileged, deniedBy, denied}
+use Rattle.machine.specs.Protection.{denied}
 use Rattle.machine.specs.Outcome.{Reason, vectorOf, entered, Outcome, withReads}
 use Rattle.machine.specs.Devices.{DSR}
 use Rattle.machine.specs.Entry.{pushed, entry, afterEntry, raised, stackPointerOnEntry, userStackOnEntry}
@@ -49,8 +48,9 @@ use Rattle.monitor.proofs.Instructions.{all-allowed, plan-is, word-is, 
 
 -- ---- before the first step
 
-abbrev pub startFrame : Start → Frame
-startFrame s = record {
+abbrev pub startFrame : (ℕ → Bool) → Start → Frame
+startFrame uses s = record {
+  uses = uses;
   high = s .machine .psr / 8;
   ssp = s .machine .«saved_ssp»;
   usp = s .machine .«saved_usp»;
@@ -77,10 +77,10 @@ startView s = startViewWith (these (s .machine .psr)) s
 pub psr-parts : (psr : ℕ) → psr ≡ psr / 8 * 8 + psr % 8
 psr-parts psr = omega arith
 
-pub at-start-with : (s : Start) (n : ℕ) → admissionOf s n ≡ Accepted → (since : ℕ) (codes : Known)
-    → codesNumber codes ≡ s .machine .psr % 8 → At s since 0 (startFrame s) (startViewWith codes s)
+pub at-start-with : (uses : ℕ → Bool) (s : Start) (n : ℕ) → admissionOf s n ≡ Accepted → (since : ℕ) (codes : Known)
+    → codesNumber codes ≡ s .machine .psr % 8 → At s since 0 (startFrame uses s) (startViewWith codes s)
 unfolding begin
-at-start-with s n accepted since codes same =
+at-start-with uses s n accepted since codes same =
     let ok = accepted-is-acceptable s n accepted in
     let none : keysBefore (s .machine .clock + 0) (s .times) ≡ 0 =
     rw (add-zero (s .machine .clock)) (none-before (s .machine .clock) (s .times) (ok .order)) in
@@ -119,15 +119,16 @@ at-start-with s n accepted since codes same =
       quiet = λ j l h. absurd (omega arith);
     }
 
-pub at-start : (s : Start) (n : ℕ) → admissionOf s n ≡ Accepted → (since : ℕ)
-    → At s since 0 (startFrame s) (startView s)
-at-start s n accepted since = at-start-with s n accepted since (these (s .machine .psr)) refl
+pub at-start : (uses : ℕ → Bool) (s : Start) (n : ℕ) → admissionOf s n ≡ Accepted → (since : ℕ)
+    → At s since 0 (startFrame uses s) (startView s)
+at-start uses s n accepted since = at-start-with uses s n accepted since (these (s .machine .psr)) refl
 
 -- ---- the entry
 
 -- What an entry leaves: the mode and priority of the PSR that it leaves; in User mode R6 is saved.
-abbrev pub enteredFrame : Start → Bool → ℕ → Frame
-enteredFrame s user high = record {
+abbrev pub enteredFrame : (ℕ → Bool) → Start → Bool → ℕ → Frame
+enteredFrame uses s user high = record {
+  uses = uses;
   high = high;
   ssp = s .machine .«saved_ssp»;
   usp = cond user (getD (s .machine .regs) 6 0) (s .machine .«saved_usp»);
@@ -149,105 +150,101 @@ enteredView s sp to pc = record {
   status = s .machine .devices .kbsr;
 }
 
-module _ (s : Start) (i : Intact (s .memory)) (user : Bool) (mode : inUserMode (s .machine .psr) ≡ user) (sp : ℕ)
+module _ (uses : ℕ → Bool) (s : Start) (i : Intact uses (s .memory)) (user : Bool)
+    (mode : inUserMode (s .machine .psr) ≡ user) (sp : ℕ)
     (stack : cond user (s .machine .«saved_ssp») (getD (s .machine .regs) 6 0) ≡ sp) (reason : Reason) (pc high : ℕ)
-    (vector : vectorOf reason < 0x0200) (fine : cellsFine (enteredView s sp 0 pc .cells) ≡ true) where
+    (vector : vectorOf reason < 0x0200) (used : uses (vectorOf reason) ≡ true) (fine : cellsFine (enteredView s sp 0 pc .cells) ≡ true) where
   pub entry-gives : (psr : ℕ) → psr ≡ high * 8 + s .machine .psr % 8 → (d : Devices) (t : ℕ)
-      → Gives (entry reason pc psr (machineAt (startFrame s) (startView s) d t) (s .memory)) []
-      (s .machine .devices .busy) (enteredFrame s user high) (enteredView s sp (vectorWord ours (vectorOf reason)) pc) d t
+      → Gives (entry reason pc psr (machineAt (startFrame uses s) (startView s) d t) (s .memory)) []
+      (s .machine .devices .busy) (enteredFrame uses s user high)
+      (enteredView s sp (vectorWord ours (vectorOf reason)) pc) d t
   unfolding entry pushed afterEntry stackPointerOnEntry userStackOnEntry
   entry-gives psr p d t =
-      let to : getD (memoryAt (enteredFrame s user high) (enteredView s sp 0 pc)) (vectorOf reason) 0
+      let to : getD (memoryAt (enteredFrame uses s user high) (enteredView s sp 0 pc)) (vectorOf reason) 0
       ≡ vectorWord ours (vectorOf reason) =
       low-word (s .memory) (enteredView s sp 0 pc .cells) fine (vectorOf reason) (omega arith)
-      ∙ vector-word i (vectorOf reason) vector in
+      ∙ vector-word i (vectorOf reason) vector used in
       record {
         machine = rw (← (psr-parts (s .machine .psr)), mode, stack, to, p);
         memory = rw (← (psr-parts (s .machine .psr)), mode, stack);
         shown = refl;
       }
 
-pub entry-silent : (s : Start) (user : Bool) (high sp to pc : ℕ)
-    → Shows [] (startFrame s) (enteredFrame s user high) (startView s) (enteredView s sp to pc)
+pub entry-silent : (uses : ℕ → Bool) (s : Start) (user : Bool) (high sp to pc : ℕ)
+    → Shows [] (startFrame uses s) (enteredFrame uses s user high) (startView s) (enteredView s sp to pc)
 unfolding busyAfter showsByte withShown
-entry-silent s user high sp to pc = record { counts = refl; free = refl; output = refl; shown = refl }
+entry-silent uses s user high sp to pc = record { counts = refl; free = refl; output = refl; shown = refl }
 
 -- The PSR that a trap or an exception leaves.
 pub trap-psr : (psr : ℕ) → psr % 0x8000 ≡ psr / 8 % 4096 * 8 + psr % 8
 trap-psr psr = omega arith
 
--- ---- TRAP in User mode
+-- ---- TRAP
 
-allowed-at : (psr pc : ℕ) → privileged pc ≡ false → denied psr pc ≡ false
-unfolding deniedBy
-allowed-at psr pc h = go (inUserMode psr)
-  where
-    go : (b : Bool) → (b && privileged pc) ≡ false
-    go true = h
-    go false = refl
-
--- Where a routine stands that a User-mode program called by a TRAP, or an exception led to, with the supervisor stack
--- at x3000.
-abbrev pub calledFrame : Start → Frame
-calledFrame s = enteredFrame s true (s .machine .psr / 8 % 4096)
+-- Where a routine stands that a program called by a TRAP, or an exception led to, with the supervisor stack at x3000.
+abbrev pub calledFrame : (ℕ → Bool) → Bool → Start → Frame
+calledFrame uses user s = enteredFrame uses s user (s .machine .psr / 8 % 4096)
 
 abbrev pub calledView : Start → ℕ → ℕ → View
 calledView s to pc = enteredView s 0x3000 to pc
 
-pub called-sound : (s : Start) → Intact (s .memory) → Sound (calledFrame s)
-called-sound s i = record { above = omega arith; intact = i }
+pub called-sound : (uses : ℕ → Bool) (user : Bool) (s : Start) → Intact uses (s .memory)
+    → Sound (calledFrame uses user s)
+called-sound uses user s i = record { above = omega arith; intact = i }
 
-pub trap-enters : (s : Start) (n bound : ℕ) → admissionOf s n ≡ Accepted → Quiet s 0 bound → 0 < bound
-    → Intact (s .memory) → inUserMode (s .machine .psr) ≡ true → privileged (s .machine .pc) ≡ false
-    → s .machine .«saved_ssp» ≡ 0x3000 → s .machine .devices .mcr ≡ 0x8000 → (vector : ℕ) → vector < 0x0100
+pub trap-enters : (uses : ℕ → Bool) (user : Bool) (s : Start) (n bound : ℕ) → admissionOf s n ≡ Accepted
+    → Quiet s 0 bound → 0 < bound → Intact uses (s .memory) → inUserMode (s .machine .psr) ≡ user
+    → denied (s .machine .psr) (s .machine .pc) ≡ false
+    → cond user (s .machine .«saved_ssp») (getD (s .machine .regs) 6 0) ≡ 0x3000
+    → s .machine .devices .mcr ≡ 0x8000 → (vector : ℕ) → vector < 0x0100 → uses vector ≡ true
     → readOf (getD (s .memory) (s .machine .pc) 0) ≡ Trap vector
-    → At s 0 1 (calledFrame s) (calledView s (vectorWord ours vector) (next (s .machine .pc)))
+    → At s 0 1 (calledFrame uses user s) (calledView s (vectorWord ours vector) (next (s .machine .pc)))
 unfolding obeyedBy withReads planBy performBy raised
-trap-enters s n bound accepted quiet some i user address stack going vector below word =
-    let a = at-start s n accepted 0 in
-    let m : (d : Devices) (t : ℕ) → Machine = machineAt (startFrame s) (startView s) in
-    let g = entry-gives s i true user 0x3000 stack (Reason.trap vector) (next (s .machine .pc))
-    (s .machine .psr / 8 % 4096) (omega arith) refl in
-    let p : psrAt (startFrame s) (startView s) % 0x8000 ≡ s .machine .psr / 8 % 4096 * 8 + s .machine .psr % 8 =
+trap-enters uses user s n bound accepted quiet some i mode may-fetch stack going vector below used word =
+    let a = at-start uses s n accepted 0 in
+    let psr : ℕ = psrAt (startFrame uses s) (startView s) in
+    let g = entry-gives uses s i user mode 0x3000 stack (Reason.trap vector) (next (s .machine .pc))
+    (s .machine .psr / 8 % 4096) (omega arith) used refl in
+    let p : psr % 0x8000 ≡ s .machine .psr / 8 % 4096 * 8 + s .machine .psr % 8 =
     rw (← (psr-parts (s .machine .psr))) (trap-psr (s .machine .psr)) in
-    let allowed = allowed-at (psrAt (startFrame s) (startView s)) (s .machine .pc) address in
-    advance a (quiet .at a some) going (calledFrame s)
+    let allowed : denied psr (s .machine .pc) ≡ false = rw (← (psr-parts (s .machine .psr))) may-fetch in
+    advance a (quiet .at a some) going (calledFrame uses user s)
     (calledView s (vectorWord ours vector) (next (s .machine .pc))) []
     (λ d t. record {
-      machine = rw (allowed, word) (g (psrAt (startFrame s) (startView s) % 0x8000) p d t .machine);
-      memory = rw (allowed, word) (g (psrAt (startFrame s) (startView s) % 0x8000) p d t .memory);
-      shown = rw (allowed, word) (g (psrAt (startFrame s) (startView s) % 0x8000) p d t .shown);
+      machine = rw (allowed, word) (g (psr % 0x8000) p d t .machine);
+      memory = rw (allowed, word) (g (psr % 0x8000) p d t .memory);
+      shown = rw (allowed, word) (g (psr % 0x8000) p d t .shown);
     })
-    (entry-silent s true (s .machine .psr / 8 % 4096) 0x3000 (vectorWord ours vector) (next (s .machine .pc))) refl refl
+    (entry-silent uses s user (s .machine .psr / 8 % 4096) 0x3000 (vectorWord ours vector) (next (s .machine .pc))) refl refl
 
 -- ---- an exception, or a trap, in User mode
 
-pub exception-enters : (s : Start) (n bound : ℕ) → admissionOf s n ≡ Accepted → Quiet s 0 bound → 0 < bound
-    → Intact (s .memory) → inUserMode (s .machine .psr) ≡ true → s .machine .«saved_ssp» ≡ 0x3000
-    → s .machine .devices .mcr ≡ 0x8000 → (reason : Reason) → vectorOf reason < 0x0200 → (psr pc : ℕ)
-    → causeAt s 0 ≡ entered reason psr pc
-    → At s 0 1 (calledFrame s) (calledView s (vectorWord ours (vectorOf reason)) pc)
+pub exception-enters : (uses : ℕ → Bool) (s : Start) (n bound : ℕ) → admissionOf s n ≡ Accepted → Quiet s 0 bound
+    → 0 < bound → Intact uses (s .memory) → inUserMode (s .machine .psr) ≡ true → s .machine .«saved_ssp» ≡ 0x3000
+    → s .machine .devices .mcr ≡ 0x8000 → (reason : Reason) → vectorOf reason < 0x0200
+    → uses (vectorOf reason) ≡ true → (psr pc : ℕ) → causeAt s 0 ≡ entered reason psr pc
+    → At s 0 1 (calledFrame uses true s) (calledView s (vectorWord ours (vectorOf reason)) pc)
 unfolding raised ended causeAt
-exception-enters s n bound accepted quiet some i user stack going reason below psr pc cause =
-    let a = at-start s n accepted 0 in
-    let g = entry-gives s i true user 0x3000 stack reason pc (s .machine .psr / 8 % 4096) below refl in
-    let p : psrAt (startFrame s) (startView s) % 0x8000 ≡ s .machine .psr / 8 % 4096 * 8 + s .machine .psr % 8 =
+exception-enters uses s n bound accepted quiet some i user stack going reason below used psr pc cause =
+    let a = at-start uses s n accepted 0 in
+    let g = entry-gives uses s i true user 0x3000 stack reason pc (s .machine .psr / 8 % 4096) below used refl in
+    let p : psrAt (startFrame uses s) (startView s) % 0x8000 ≡ s .machine .psr / 8 % 4096 * 8 + s .machine .psr % 8 =
     rw (← (psr-parts (s .machine .psr))) (trap-psr (s .machine .psr)) in
-    let mode : inUserMode (psrAt (startFrame s) (startView s)) ≡ true = rw (← (psr-parts (s .machine .psr))) user in
+    let mode : inUserMode (psrAt (startFrame uses s) (startView s)) ≡ true = rw (← (psr-parts (s .machine .psr))) user in
     let same : callOf s 0 ≡ runOf s 0 = call-is-run stepOf s n 0 accepted (omega arith) in
-    advance-by a (quiet .at a some) going (calledFrame s) (calledView s (vectorWord ours (vectorOf reason)) pc) []
+    advance-by a (quiet .at a some) going (calledFrame uses true s) (calledView s (vectorWord ours (vectorOf reason)) pc) []
     (statusIn s 0 (startView s))
     (λ d t e kbsr kbdr.
-    let r = user-raises (machineAt (startFrame s) (startView s) d t) (s .memory) mode reason psr pc
+    let r = user-raises (machineAt (startFrame uses s) (startView s) d t) (s .memory) mode reason psr pc
     (ap (λ (o : Outcome). o .cause) (sym e) ∙ ap (λ (x : End). nextStep s x .cause) (sym same) ∙ cause) in
-    let h = g (psrAt (startFrame s) (startView s) % 0x8000) p d t in
+    let h = g (psrAt (startFrame uses s) (startView s) % 0x8000) p d t in
     rw (← kbsr)
     (record {
       machine = r .machine ∙ h .machine;
       memory = r .memory ∙ h .memory;
       shown = r .shown ∙ h .shown;
     }))
-    (entry-silent s true (s .machine .psr / 8 % 4096) 0x3000 (vectorWord ours (vectorOf reason)) pc)
+    (entry-silent uses s true (s .machine .psr / 8 % 4096) 0x3000 (vectorWord ours (vectorOf reason)) pc)
     (same-keyboard a (calledView s (vectorWord ours (vectorOf reason)) pc) refl refl)
 
 -- ---- the wait for the display
@@ -335,6 +332,7 @@ module _ {s : Start} {since bound : ℕ} (quiet : Quiet s since bound) (f : Fram
 -- After an RTI that pops this PSR from the stack at sp.
 abbrev pub returnedFrame : Frame → Bool → ℕ → ℕ → Frame
 returnedFrame f user sp psr = record {
+  uses = f .uses;
   high = psr / 8;
   ssp = cond user (next (next sp)) (f .ssp);
   usp = f .usp;

@@ -1,7 +1,9 @@
 -- The premises can be met, by computing.
 use native.Mathlib.Omega.{arith}
-use Prim.Native.Nat.{ℕ}
-use mathlib.Core.Path.{refl}
+use Prim.Native.Nat.{ℕ, _<_}
+use mathlib.Core.Path.{_≡_, refl}
+use mathlib.Core.Bool.{Bool, true}
+use lib.ListN.{length, take}
 use Rattle.word.specs.Reading.{readOf}
 use Rattle.machine.specs.Psr.{inUserMode, definedPsr}
 use Rattle.machine.specs.Keys.{keysDue, readyAfter, lastKey, afterKeys}
@@ -23,49 +25,97 @@ use Rattle.run.specs.Noninterference.{causeAt}
 use Rattle.monitor.specs.Vectors.{vectorWord, vectorsFrom, vectorTable}
 use Rattle.monitor.specs.Routines.{routineWords, monitorWords}
 use Rattle.monitor.specs.Install.{installOf}
+use Rattle.monitor.specs.Uses.{withVector, getcCode, putsCode, inCode, putspCode, haltCode, stopCode}
 use Rattle.monitor.specs.Calls.{Begins, Calls, Raises, none-enabled}
 use Rattle.monitor.specs.Back.{Interrupted}
 use Rattle.monitor.specs.Examples.{exampleMemory, example, ExamplesHold}
+use Rattle.monitor.proofs.Intact.{monitor-word}
+use Rattle.monitor.proofs.UseLaws.{getc-below, stop-below, puts-below, putsp-below, in-below, halt-below}
+use Rattle.monitor.proofs.UseLaws.{back-below, with-vector-below}
 use Rattle.monitor.proofs.Getc.{getc-reads, still-ready}
 
 -- To unfold this is to compute what a call is handed.
 unfoldable handed : Unit {0}
-unfolding example exampleMemory readOf inUserMode definedPsr privileged wrongSize undefinedTimer undefinedDevices
+unfolding example exampleMemory readOf inUserMode definedPsr privileged deniedBy wrongSize undefinedTimer undefinedDevices
     undefinedRecord tooManySteps unequalLists timesAdmission admissionOf vectorWord vectorsFrom vectorTable routineWords
     monitorWords installOf
 handed = tt
 
-idle : (word : ℕ) → Begins (example word 0) 1000
+whole : (word : ℕ) → take (length monitorWords) (exampleMemory word) ≡ monitorWords
 unfolding handed
-idle word = record { accepted = refl; registers = refl; user-mode = refl; intact = refl; stack = refl; mcr = refl }
+whole word = refl
 
-ready : (word : ℕ) → Begins (example word 0x8000) 1000
+-- A call that begins with this KBSR, where it uses no words but the monitor's.
+idle : (word : ℕ) (uses : ℕ → Bool) → ((a : ℕ) → uses a ≡ true → a < 0x02A5) → Begins uses true (example word 0) 1000
 unfolding handed
-ready word = record { accepted = refl; registers = refl; user-mode = refl; intact = refl; stack = refl; mcr = refl }
+idle word uses below = record {
+  accepted = refl;
+  registers = refl;
+  mode = refl;
+  intact = λ a used. monitor-word (exampleMemory word) (whole word) a (below a used);
+  stack = refl;
+  mcr = refl;
+}
 
-getc : Calls 0x20 (example 0xF020 0x8000) 1000
+ready : (word : ℕ) (uses : ℕ → Bool) → ((a : ℕ) → uses a ≡ true → a < 0x02A5)
+    → Begins uses true (example word 0x8000) 1000
 unfolding handed
-getc = record { begins = ready 0xF020; user-address = refl; trap = refl }
+ready word uses below = record {
+  accepted = refl;
+  registers = refl;
+  mode = refl;
+  intact = λ a used. monitor-word (exampleMemory word) (whole word) a (below a used);
+  stack = refl;
+  mcr = refl;
+}
 
-puts : Calls 0x22 (example 0xF022 0) 1000
+getc : Calls 0x20 getcCode true (example 0xF020 0x8000) 1000
 unfolding handed
-puts = record { begins = idle 0xF022; user-address = refl; trap = refl }
+getc = record {
+  begins = ready 0xF020 (withVector 0x20 getcCode) (with-vector-below 0x20 getcCode (omega arith) getc-below);
+  may-fetch = refl;
+  trap = refl;
+}
 
-input : Calls 0x23 (example 0xF023 0x8000) 1000
+puts : Calls 0x22 putsCode true (example 0xF022 0) 1000
 unfolding handed
-input = record { begins = ready 0xF023; user-address = refl; trap = refl }
+puts = record {
+  begins = idle 0xF022 (withVector 0x22 putsCode) (with-vector-below 0x22 putsCode (omega arith) puts-below);
+  may-fetch = refl;
+  trap = refl;
+}
 
-putsp : Calls 0x24 (example 0xF024 0) 1000
+input : Calls 0x23 inCode true (example 0xF023 0x8000) 1000
 unfolding handed
-putsp = record { begins = idle 0xF024; user-address = refl; trap = refl }
+input = record {
+  begins = ready 0xF023 (withVector 0x23 inCode) (with-vector-below 0x23 inCode (omega arith) in-below);
+  may-fetch = refl;
+  trap = refl;
+}
 
-halt : Calls 0x25 (example 0xF025 0) 1000
+putsp : Calls 0x24 putspCode true (example 0xF024 0) 1000
 unfolding handed
-halt = record { begins = idle 0xF025; user-address = refl; trap = refl }
+putsp = record {
+  begins = idle 0xF024 (withVector 0x24 putspCode) (with-vector-below 0x24 putspCode (omega arith) putsp-below);
+  may-fetch = refl;
+  trap = refl;
+}
 
-other : Calls 0xFF (example 0xF0FF 0) 1000
+halt : Calls 0x25 haltCode true (example 0xF025 0) 1000
 unfolding handed
-other = record { begins = idle 0xF0FF; user-address = refl; trap = refl }
+halt = record {
+  begins = idle 0xF025 (withVector 0x25 haltCode) (with-vector-below 0x25 haltCode (omega arith) halt-below);
+  may-fetch = refl;
+  trap = refl;
+}
+
+other : Calls 0xFF stopCode true (example 0xF0FF 0) 1000
+unfolding handed
+other = record {
+  begins = idle 0xF0FF (withVector 0xFF stopCode) (with-vector-below 0xFF stopCode (omega arith) stop-below);
+  may-fetch = refl;
+  trap = refl;
+}
 
 -- The first step, and the second, by computing.
 unfoldable stepping : Unit {0}
@@ -75,9 +125,14 @@ unfolding handed keysDue readyAfter lastKey afterKeys ticked afterTimer deniedBy
     stepMadeBy isHalted showsByte isFullBy oneMoreBy runBy endedBy admittedBy callBy causeAt
 stepping = tt
 
-raises : Raises access (example 0x21FE 0) 1000
+raises : Raises access stopCode (example 0x21FE 0) 1000
 unfolding stepping
-raises = record { begins = idle 0x21FE; pushed-psr = 0x8002; pushed-pc = 0x3000; cause = refl }
+raises = record {
+  begins = idle 0x21FE (withVector 0x0102 stopCode) (with-vector-below 0x0102 stopCode (omega arith) stop-below);
+  pushed-psr = 0x8002;
+  pushed-pc = 0x3000;
+  cause = refl;
+}
 
 is-interrupted : Interrupted (example 0x1020 0xC000) 1000
 unfolding stepping
@@ -85,7 +140,7 @@ is-interrupted = record {
   accepted = refl;
   steps = omega arith;
   registers = refl;
-  intact = refl;
+  intact = λ a used. monitor-word (exampleMemory 0x1020) (whole 0x1020) a (back-below a used);
   mcr = refl;
   above-monitor = omega arith;
   below-devices = omega arith;

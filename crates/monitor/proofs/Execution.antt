@@ -32,9 +32,10 @@ use Rattle.monitor.proofs.KeyLaws.{arrived, all-arrived, ready-after-bo
 
 -- ---- where a run stands
 
--- What no instruction of a routine alters: mode and priority (the PSR is high * 8 + codes), both saved stack pointers,
--- and the memory and the output that the routine found.
+-- What no instruction of a routine alters: which of the monitor's words it may rely on, mode and priority (the PSR is
+-- high * 8 + codes), both saved stack pointers, and the memory and the output that the routine found.
 pub record Frame : Type 0 where
+  pub uses : ℕ → Bool
   pub high : ℕ
   pub ssp : ℕ
   pub usp : ℕ

@@ -2,6 +2,7 @@
 use Prim.Native.Nat.{ℕ, zero, suc, _+_, _-_, _*_, _/_, _%_, _≤_, _<_}
 use native.Mathlib.Omega.{arith}
 use mathlib.Core.Path.{_≡_, refl, _∙_}
+use mathlib.Core.Bool.{Bool}
 use mathlib.Core.List.{List, [], _∷_}
 use borrow.Author.Tests.{lt-ltb, le-ltb}
 use lib.ListN.{length, getD, set, take, drop}
@@ -11,6 +12,7 @@ use Rattle.machine.specs.Keys.{readyAfter, lastKey}
 use Rattle.run.specs.Run.{Start}
 use Rattle.monitor.specs.Vectors.{vectorWord}
 use Rattle.monitor.specs.Keys.{keysBefore, arrivedBy, statusAt, keyAt}
+use Rattle.monitor.specs.Uses.{withVector, getcCode}
 use Rattle.monitor.specs.Calls.{Begins, Calls, NoInterrupt, readIn, Resumes}
 use Rattle.monitor.specs.Getc.{KeyComes, getcSteps, GetcReads}
 use Rattle.monitor.proofs.KeyLaws.{ready-leaves-rest}
@@ -21,12 +23,15 @@ use Rattle.monitor.proofs.Calls.{is-intact, quiet-steps, Eight, eight, 
 use Rattle.monitor.proofs.Calls.{comes-back}
 use Rattle.monitor.proofs.Keyboard.{keyRead, Keys, Turned, turns, takes-key}
 
-module _ (s : Start) (n t : ℕ) (c : Calls 0x20 s n) (key : KeyComes s 1 t) (le : getcSteps t ≤ n)
+module _ (user : Bool) (s : Start) (n t : ℕ) (c : Calls 0x20 getcCode user s n) (key : KeyComes s 1 t) (le : getcSteps t ≤ n)
     (none : NoInterrupt s (getcSteps t)) (x : Eight (s .machine .regs)) where
-  abbrev f : Frame
-  f = calledFrame s
+  abbrev uses : ℕ → Bool
+  uses = withVector 0x20 getcCode
 
-  abbrev b : Begins s n
+  abbrev f : Frame
+  f = calledFrame uses user s
+
+  abbrev b : Begins uses user s n
   b = c .begins
 
   abbrev j : ℕ
@@ -39,7 +44,7 @@ module _ (s : Start) (n t : ℕ) (c : Calls 0x20 s n) (key : KeyComes s 1 t) (le
   quiet = rw all-steps (quiet-steps s n (getcSteps t) 0 (b .accepted) le none)
 
   sound : Sound f
-  sound = called-sound s (is-intact s n b)
+  sound = called-sound uses user s (is-intact s n b)
 
   abbrev view : View
   view = begun s x 0x0200 (next (s .machine .pc))
@@ -62,7 +67,7 @@ module _ (s : Start) (n t : ℕ) (c : Calls 0x20 s n) (key : KeyComes s 1 t) (le
   unfolding vectorWord
   waited =
       turns quiet f sound view refl refl refl refl 0 0x0200 keys 1 (view .regs) (view .codes) (view .busy)
-      (routine-begins s n (j + 1) x 0x20 0x0200 c quiet (omega arith) (omega arith) refl) t (omega arith) (key .none)
+      (routine-begins getcCode user s n (j + 1) x 0x20 0x0200 c quiet (omega arith) (omega arith) refl) t (omega arith) (key .none)
 
   abbrev polled : View
   polled = within view (withRegister (waited .regs-now) 0 (statusAt s (1 + 2 * t))) 0x0202 (from 0x8000)
@@ -82,7 +87,7 @@ module _ (s : Start) (n t : ℕ) (c : Calls 0x20 s n) (key : KeyComes s 1 t) (le
       set-set (waited .regs-now) 0 (statusAt s (1 + 2 * t)) (keyAt s (1 + 2 * t + 2))
       ∙ waited .same (keyAt s (1 + 2 * t + 2))
 
-  at-return : AtReturn s returning
+  at-return : AtReturn uses user s returning
   unfolding computing
   at-return = record { plan = refl; six = rw regs-are; pc = refl; psr = refl; fine = refl; going = refl }
 
@@ -102,7 +107,7 @@ module _ (s : Start) (n t : ℕ) (c : Calls 0x20 s n) (key : KeyComes s 1 t) (le
   getc-resumes :
       Resumes s n (j + 1) [] 0x2FFE (set (s .machine .regs) 0 (keyAt s (1 + 2 * t + 2))) (readIn (1 + 2 * t + 2) s)
   getc-resumes =
-      comes-back s n j returning b quiet at-rti at-return (rw all-steps le) 0x2FFE refl
+      comes-back uses user s n j returning b quiet at-rti at-return (rw all-steps le) 0x2FFE refl
       (set (s .machine .regs) 0 (keyAt s (1 + 2 * t + 2))) same-registers (readIn (1 + 2 * t + 2) s) cleared
 
 -- ---- which key
@@ -147,10 +152,10 @@ ready-key s j none = rw none
 
 pub getc-reads : GetcReads
 getc-reads = record {
-  resumes = λ s n t c key le none.
+  resumes = λ user s n t c key le none.
       let z : 1 + 2 * t + 2 ≡ 3 + 2 * t = omega arith in
       let x = eight (s .machine .regs) (c .begins .registers) in
-      rw (all-steps s n t c key le none x, z) at (getc-resumes s n t c key le none x);
+      rw (all-steps user s n t c key le none x, z) at (getc-resumes user s n t c key le none x);
   ready = λ s h. record {
     none = λ j l. absurd (omega arith);
     comes = still-ready (take (arrivedBy s (suc (1 + 2 * 0))) (s .bytes)) (s .machine .devices .kbsr) h;

@@ -2,11 +2,13 @@
 use Prim.Native.Nat.{ℕ, _+_, _-_, _≤_, _<_}
 use native.Mathlib.Omega.{arith}
 use mathlib.Core.Path.{_≡_, refl, subst}
+use mathlib.Core.Bool.{Bool}
 use lib.ListN.{length}
 use Rattle.machine.specs.Words.{next}
 use Rattle.run.specs.Run.{Start}
 use Rattle.run.proofs.Acceptance.{accepted-is-acceptable}
 use Rattle.monitor.specs.Vectors.{vectorWord}
+use Rattle.monitor.specs.Uses.{withVector, haltCode}
 use Rattle.monitor.specs.Calls.{Begins, Calls, NoInterrupt, Halts}
 use Rattle.monitor.specs.Halt.{message, haltSteps, HaltShows}
 use Rattle.monitor.proofs.Execution.{Frame, View, At, Quiet}
@@ -24,19 +26,22 @@ eight-later busy h = none-left _ (four-less _ 0 (four-less busy 4 h))
     none-left : (b : ℕ) → b ≤ 0 → b ≡ 0
     none-left b h = omega arith
 
-module _ (s : Start) (n : ℕ) (c : Calls 0x25 s n) (more : haltSteps < n) (room : 7 ≤ length (s .output))
-    (none : NoInterrupt s haltSteps) (x : Eight (s .machine .regs)) where
-  abbrev f : Frame
-  f = calledFrame s
+module _ (user : Bool) (s : Start) (n : ℕ) (c : Calls 0x25 haltCode user s n) (more : haltSteps < n)
+    (room : 7 ≤ length (s .output)) (none : NoInterrupt s haltSteps) (x : Eight (s .machine .regs)) where
+  abbrev uses : ℕ → Bool
+  uses = withVector 0x25 haltCode
 
-  abbrev b : Begins s n
+  abbrev f : Frame
+  f = calledFrame uses user s
+
+  abbrev b : Begins uses user s n
   b = c .begins
 
   quiet : Quiet s 0 haltSteps
   quiet = quiet-steps s n haltSteps 0 (b .accepted) (omega arith) none
 
   sound : Sound f
-  sound = called-sound s (is-intact s n b)
+  sound = called-sound uses user s (is-intact s n b)
 
   polling : View
   polling = steppedBy 7 f (begun s x 0x026D (next (s .machine .pc)))
@@ -51,7 +56,7 @@ module _ (s : Start) (n : ℕ) (c : Calls 0x25 s n) (more : haltSteps < n) (room
   unfolding polling computing vectorWord
   at-poll =
       runs quiet f sound 0 (omega arith) 7 (begun s x 0x026D (next (s .machine .pc))) refl .on (omega arith)
-      (routine-begins s n haltSteps x 0x25 0x026D c quiet (omega arith) (omega arith) refl)
+      (routine-begins haltCode user s n haltSteps x 0x25 0x026D c quiet (omega arith) (omega arith) refl)
 
   is-ready : polling .busy ≡ 0
   unfolding polling computing
@@ -70,7 +75,8 @@ module _ (s : Start) (n : ℕ) (c : Calls 0x25 s n) (more : haltSteps < n) (room
 
   halt-halts : Halts s n haltSteps message 0x2FFB
   unfolding halted ready polling computing
-  halt-halts = halts at-end n b 0x2FFB refl refl (b .stack) refl refl more (rw (x .are)) refl refl refl refl refl
+  halt-halts = halts at-end n b 0x2FFB refl refl refl refl refl more (rw (x .are)) refl refl refl refl refl
 
 pub halt-shows : HaltShows
-halt-shows s n c more room none = halt-halts s n c more room none (eight (s .machine .regs) (c .begins .registers))
+halt-shows user s n c more room none =
+    halt-halts user s n c more room none (eight (s .machine .regs) (c .begins .registers))

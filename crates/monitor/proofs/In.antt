@@ -2,6 +2,7 @@
 use Prim.Native.Nat.{ℕ, suc, _+_, _-_, _*_, _%_, _≤_}
 use native.Mathlib.Omega.{arith}
 use mathlib.Core.Path.{_≡_, refl, ap, subst, _∙_}
+use mathlib.Core.Bool.{Bool}
 use mathlib.Core.List.{List, [], _∷_}
 use lib.ListN.{length, getD, set, take, drop}
 use lib.Seq.{set-set}
@@ -11,6 +12,7 @@ use Rattle.run.specs.Run.{Start}
 use Rattle.monitor.specs.Vectors.{vectorWord}
 use Rattle.monitor.specs.Out.{waitSteps}
 use Rattle.monitor.specs.Keys.{arrivedBy, statusAt, keyAt}
+use Rattle.monitor.specs.Uses.{withVector, inCode}
 use Rattle.monitor.specs.Calls.{Begins, Calls, NoInterrupt, readIn, Resumes}
 use Rattle.monitor.specs.Getc.{KeyComes}
 use Rattle.monitor.specs.In.{prompt, firstPoll, keyStep, echoWait, inSteps, shownByIn, InReads}
@@ -22,9 +24,12 @@ use Rattle.monitor.proofs.Calls.{is-intact, quiet-steps, Eight, eight, 
 use Rattle.monitor.proofs.Calls.{comes-back}
 use Rattle.monitor.proofs.Keyboard.{keyRead, Keys, Turned, turns, takes-key}
 
-module _ (s : Start) (x : Eight (s .machine .regs)) where
+abbrev uses : ℕ → Bool
+uses = withVector 0x23 inCode
+
+module _ (user : Bool) (s : Start) (x : Eight (s .machine .regs)) where
   abbrev f : Frame
-  f = calledFrame s
+  f = calledFrame uses user s
 
   -- R0, R1, R2, PC, codes, bytes, busy count and what is known of the keyboard are all that changes.
   abbrev W : ℕ → ℕ → ℕ → ℕ → Known → List ℕ → ℕ → ℕ → ℕ → View
@@ -116,34 +121,34 @@ seven-less b = ap (λ (n : ℕ). n - 1 - 1 - 1 - 1) (three b) ∙ four b
     four : (b : ℕ) → b - 3 - 1 - 1 - 1 - 1 ≡ b - 7
     four b = omega arith
 
-module _ (s : Start) (n t : ℕ) (c : Calls 0x23 s n) (key : KeyComes s (firstPoll s) t)
+module _ (user : Bool) (s : Start) (n t : ℕ) (c : Calls 0x23 inCode user s n) (key : KeyComes s (firstPoll s) t)
     (room : length (shownByIn s t) ≤ length (s .output)) (le : inSteps s t ≤ n) (none : NoInterrupt s (inSteps s t))
     (x : Eight (s .machine .regs)) where
-  abbrev b : Begins s n
+  abbrev b : Begins uses user s n
   b = c .begins
 
   quiet : Quiet s 0 (inSteps s t)
   quiet = quiet-steps s n (inSteps s t) 0 (b .accepted) le none
 
-  sound : Sound (f s x)
-  sound = called-sound s (is-intact s n b)
+  sound : Sound (f user s x)
+  sound = called-sound uses user s (is-intact s n b)
 
-  at-waiting : At s 0 (firstPoll s) (f s x) (waiting s x)
+  at-waiting : At s 0 (firstPoll s) (f user s x) (waiting user s x)
   unfolding vectorWord
   at-waiting =
       let z : 1 + (6 + (waitSteps (s .machine .devices .busy - 7) + 203)) ≡ firstPoll s = omega arith in
-      let l = rw (seven-less (s .machine .devices .busy)) at (then (to-poll s x (inSteps s t) quiet sound room)
-      (then (to-ready s x (inSteps s t) quiet sound room) (to-key s x (inSteps s t) quiet sound room))) in
+      let l = rw (seven-less (s .machine .devices .busy)) at (then (to-poll user s x (inSteps s t) quiet sound room)
+      (then (to-ready user s x (inSteps s t) quiet sound room) (to-key user s x (inSteps s t) quiet sound room))) in
       rw z at (l .on (omega arith)
-      (routine-begins s n (inSteps s t) x 0x23 0x0228 c quiet (omega arith) (omega arith) refl))
+      (routine-begins inCode user s n (inSteps s t) x 0x23 0x0228 c quiet (omega arith) (omega arith) refl))
 
-  waited : Turned s (firstPoll s + 2 * t) (f s x) (waiting s x) (waiting s x .regs) 0 0x0233 t 4
+  waited : Turned s (firstPoll s + 2 * t) (f user s x) (waiting user s x) (waiting user s x .regs) 0 0x0233 t 4
   waited =
-      turns quiet (f s x) sound (waiting s x) refl refl refl refl 0 0x0233 (keys s x) (firstPoll s) (waiting s x .regs)
-      (from 0) 4 at-waiting t (omega arith) (key .none)
+      turns quiet (f user s x) sound (waiting user s x) refl refl refl refl 0 0x0233 (keys user s x) (firstPoll s)
+      (waiting user s x .regs) (from 0) 4 at-waiting t (omega arith) (key .none)
 
   abbrev polled : View
-  polled = within (waiting s x) (withRegister (waited .regs-now) 0 (statusAt s (firstPoll s + 2 * t))) 0x0235
+  polled = within (waiting user s x) (withRegister (waited .regs-now) 0 (statusAt s (firstPoll s + 2 * t))) 0x0235
       (from 0x8000) (waited .busy-now - 1 - 1)
 
   abbrev read : ℕ
@@ -155,21 +160,21 @@ module _ (s : Start) (n t : ℕ) (c : Calls 0x23 s n) (key : KeyComes s (firstPo
   abbrev byte : ℕ
   byte = keyAt s (keyStep s t)
 
-  at-echo : At s 0 (keyStep s t + 1) (f s x)
-      (W s x byte 0 0x8000 0x0236 (from byte) prompt (4 - 2 * t - 1 - 1 - 1) read status)
+  at-echo : At s 0 (keyStep s t + 1) (f user s x)
+      (W user s x byte 0 0x8000 0x0236 (from byte) prompt (4 - 2 * t - 1 - 1 - 1) read status)
   at-echo =
       let z : firstPoll s + 2 * t + 3 ≡ keyStep s t + 1 = omega arith in
-      let regs : withRegister (polled .regs) 0 byte ≡ withRegister (waiting s x .regs) 0 byte =
+      let regs : withRegister (polled .regs) 0 byte ≡ withRegister (waiting user s x .regs) 0 byte =
       set-set (waited .regs-now) 0 (statusAt s (firstPoll s + 2 * t)) byte ∙ waited .same byte in
-      let a : At s 0 (keyStep s t + 1) (f s x) (keyRead s (keyStep s t) polled 0) =
-      rw z at (takes-key quiet (f s x) sound (waiting s x) refl refl refl refl 0 0x0233 (keys s x) (firstPoll s + 2 * t)
-      (omega arith) (waited .regs-now) (waited .codes) (waited .busy-now) (waited .at) (key .comes)) in
-      subst (λ (v : View). At s 0 (keyStep s t + 1) (f s x) v)
+      let a : At s 0 (keyStep s t + 1) (f user s x) (keyRead s (keyStep s t) polled 0) =
+      rw z at (takes-key quiet (f user s x) sound (waiting user s x) refl refl refl refl 0 0x0233 (keys user s x)
+      (firstPoll s + 2 * t) (omega arith) (waited .regs-now) (waited .codes) (waited .busy-now) (waited .at) (key .comes)) in
+      subst (λ (v : View). At s 0 (keyStep s t + 1) (f user s x) v)
       (λ i. record {
         regs = regs i;
         pc = 0x0236;
         codes = from byte;
-        cells = waiting s x .cells;
+        cells = waiting user s x .cells;
         bytes = prompt;
         busy = waited .count i - 1 - 1 - 1;
         mcr = 0x8000;
@@ -179,20 +184,20 @@ module _ (s : Start) (n t : ℕ) (c : Calls 0x23 s n) (key : KeyComes s (firstPo
       a
 
   returning : View
-  returning = steppedBy 4 (f s x) (W s x byte 0x8000 0x8000 0x0238 (from 0x8000) prompt 0 read status)
+  returning = steppedBy 4 (f user s x) (W user s x byte 0x8000 0x8000 0x0238 (from 0x8000) prompt 0 read status)
 
   abbrev j : ℕ
   j = keyStep s t + 1 + (echoWait t + 4)
 
-  at-rti : At s 0 j (f s x) returning
+  at-rti : At s 0 j (f user s x) returning
   unfolding returning
   at-rti =
       then
-      (to-echo s x (inSteps s t) quiet sound room byte read status (from byte) (4 - 2 * t - 1 - 1 - 1))
-      (to-return s x (inSteps s t) quiet sound room byte read status (from byte) (4 - 2 * t - 1 - 1 - 1))
+      (to-echo user s x (inSteps s t) quiet sound room byte read status (from byte) (4 - 2 * t - 1 - 1 - 1))
+      (to-return user s x (inSteps s t) quiet sound room byte read status (from byte) (4 - 2 * t - 1 - 1 - 1))
       .on (omega arith) at-echo
 
-  at-return : AtReturn s returning
+  at-return : AtReturn uses user s returning
   unfolding returning computing
   at-return = record { plan = refl; six = refl; pc = refl; psr = refl; fine = refl; going = refl }
 
@@ -202,14 +207,14 @@ module _ (s : Start) (n t : ℕ) (c : Calls 0x23 s n) (key : KeyComes s (firstPo
 
   -- Ready was cleared.
   cleared : (keys : ℕ) → readyAfter (take (keys - read) (drop read (s .bytes))) status ≡ readIn (keyStep s t) s keys
-  cleared keys = let z : status ≡ kbsr s x % 0x8000 = ready-leaves-rest _ (kbsr s x) in rw z
+  cleared keys = let z : status ≡ kbsr user s x % 0x8000 = ready-leaves-rest _ (kbsr user s x) in rw z
 
   in-resumes : Resumes s n (inSteps s t) (shownByIn s t) 0x2FFC (set (s .machine .regs) 0 byte) (readIn (keyStep s t) s)
   unfolding returning computing
   in-resumes =
-      comes-back s n j returning b quiet at-rti at-return le 0x2FFC refl (set (s .machine .regs) 0 byte) same-registers
+      comes-back uses user s n j returning b quiet at-rti at-return le 0x2FFC refl (set (s .machine .regs) 0 byte) same-registers
       (readIn (keyStep s t) s) cleared
 
 pub in-reads : InReads
-in-reads s n t c key room le none =
-    in-resumes s n t c key room le none (eight (s .machine .regs) (c .begins .registers))
+in-reads user s n t c key room le none =
+    in-resumes user s n t c key room le none (eight (s .machine .regs) (c .begins .registers))

@@ -245,10 +245,10 @@ pub plain-load-keeps : (b kbsr : ℕ) → b < 0xFE00 → kbsrAfterLoad b kbsr �
 unfolding kbsrAfterLoad
 plain-load-keeps b kbsr plain = rw (ne-eqb b KBDR (λ e. omega arith))
 
--- A routine runs in Supervisor mode, and the monitor's words are in the memory that it found.
+-- A routine runs in Supervisor mode, and the words that it uses are in the memory that it found.
 pub record Sound (f : Frame) : Type 0 where
   pub above : f .high < 4096
-  pub intact : Intact (f .memory)
+  pub intact : Intact (f .uses) (f .memory)
 
 -- One more byte is written behind those written.
 pub one-more-byte : (bytes output : List ℕ) (b : ℕ) → length bytes < length output

@@ -1,4 +1,5 @@
--- A memory that holds the monitor's words, and the words of a view: those stored last, the routines', and all others.
+-- A memory that holds the monitor's words which a routine uses, and the words of a view: those stored last, the
+-- routine's, and all others.
 use Prim.Native.Nat.{ℕ, _+_, _-_, _≤_, _<_}
 use native.Mathlib.Omega.{arith}
 use mathlib.Core.Path.{_≡_, refl, sym, ap, _∙_}
@@ -6,11 +7,12 @@ use mathlib.Core.Bool.{Bool, true, false, cond, _&&_}
 use mathlib.Core.List.{List, [], _∷_, _++_}
 use borrow.Author.Tests.{leb-true, ltb-true, eqb-true, eqb-false}
 use lib.Dec.{leb, ltb, eqb}
-use lib.ListN.{length, getD, set, take, length-set}
+use lib.ListN.{length, getD, set, take, length-set, List·getD-append}
 use lib.Seq.{getD-take, getD-set-same, getD-set-other, getD-append-add}
 use Rattle.machine.proofs.Tests.{both-true}
 use Rattle.monitor.specs.Vectors.{vectorWord, vectorsFrom, vectorTable, ours}
 use Rattle.monitor.specs.Routines.{routineWords, monitorWords}
+use Rattle.monitor.specs.Uses.{HasWords}
 use Rattle.monitor.proofs.VectorLaws.{table-holds}
 use Rattle.monitor.proofs.Execution.{Frame, Cell, View, memoryWith}
 
@@ -19,19 +21,21 @@ pub monitor-length : length monitorWords ≡ 0x02A5
 unfolding monitorWords vectorTable vectorsFrom routineWords
 monitor-length = refl
 
--- A memory of all addresses that holds the monitor's words.
-pub record Intact (mem : List ℕ) : Type 0 where
-  pub words : take (length monitorWords) mem ≡ monitorWords
+-- A memory of all addresses that holds these words of the monitor.
+pub record Intact (uses : ℕ → Bool) (mem : List ℕ) : Type 0 where
+  pub words : HasWords uses mem
   pub size : length mem ≡ 65536
 
-monitor-word : {mem : List ℕ} → Intact mem → (a : ℕ) → a < 0x02A5 → getD mem a 0 ≡ getD monitorWords a 0
-monitor-word {mem} i a l =
+-- Where all of them are there, each is.
+pub monitor-word : (mem : List ℕ) → take (length monitorWords) mem ≡ monitorWords → (a : ℕ) → a < 0x02A5
+    → getD mem a 0 ≡ getD monitorWords a 0
+monitor-word mem all a l =
     let b : a < length monitorWords = omega (arith, monitor-length) in
-    sym (getD-take (length monitorWords) mem a 0 b) ∙ ap (λ (ws : List ℕ). getD ws a 0) (i .words)
+    sym (getD-take (length monitorWords) mem a 0 b) ∙ ap (λ (ws : List ℕ). getD ws a 0) all
 
-pub routine-word : {mem : List ℕ} → Intact mem → (a : ℕ) → 0x0200 ≤ a → a < 0x02A5
+pub routine-word : {uses : ℕ → Bool} {mem : List ℕ} → Intact uses mem → (a : ℕ) → 0x0200 ≤ a → uses a ≡ true
     → getD mem a 0 ≡ getD routineWords (a - 0x0200) 0
-routine-word {mem} i a l h = monitor-word i a h ∙ skip (a - 0x0200) a (omega arith)
+routine-word i a l used = i .words a used ∙ skip (a - 0x0200) a (omega arith)
   where
     skip : (n a : ℕ) → 512 + n ≡ a → getD monitorWords a 0 ≡ getD routineWords n 0
     skip n a e = unfold monitorWords in
@@ -39,12 +43,15 @@ routine-word {mem} i a l h = monitor-word i a h ∙ skip (a - 0x0200) a (omega a
         (ap (λ (k : ℕ). getD (vectorTable ours ++ routineWords) (k + n) 0) (sym (table-holds .size ours))
         ∙ getD-append-add (vectorTable ours) routineWords n 0)
 
-pub vector-word : {mem : List ℕ} → Intact mem → (a : ℕ) → a < 0x0200 → getD mem a 0 ≡ vectorWord ours a
-vector-word {mem} i a l =
-    monitor-word i a (omega arith) ∙ first (omega (arith, table-holds .size ours)) ∙ table-holds .words ours a l
-  where
-    first : a < length (vectorTable ours) → getD monitorWords a 0 ≡ getD (vectorTable ours) a 0
-    first h = unfold monitorWords in lib.ListN.List·getD-append (vectorTable ours) routineWords 0 a h
+pub monitor-vector : (a : ℕ) → a < 0x0200 → getD monitorWords a 0 ≡ vectorWord ours a
+unfolding monitorWords
+monitor-vector a h =
+    List·getD-append (vectorTable ours) routineWords 0 a (omega (arith, table-holds .size ours))
+    ∙ table-holds .words ours a h
+
+pub vector-word : {uses : ℕ → Bool} {mem : List ℕ} → Intact uses mem → (a : ℕ) → a < 0x0200 → uses a ≡ true
+    → getD mem a 0 ≡ vectorWord ours a
+vector-word i a h used = i .words a used ∙ monitor-vector a h
 
 -- ---- the words of a view
 
@@ -53,41 +60,39 @@ abbrev pub cellsFine : List Cell → Bool
 cellsFine [] = true
 cellsFine (c ∷ cells) = leb 0x02A5 (c .address) && ltb (c .address) 0xFE00 && cellsFine cells
 
-abbrev pub isRoutine : ℕ → Bool
-isRoutine a = leb 0x0200 a && ltb a 0x02A5
-
 -- The word at a.
-unfoldable pub wordWith : List ℕ → List Cell → ℕ → ℕ
+unfoldable pub wordWith : (ℕ → Bool) → List ℕ → List Cell → ℕ → ℕ
 unfolding routineWords
-wordWith mem [] a = cond (isRoutine a) (getD routineWords (a - 0x0200) 0) (getD mem a 0)
-wordWith mem (c ∷ cells) a = cond (eqb a (c .address)) (c .value) (wordWith mem cells a)
+wordWith uses mem [] a = cond (leb 0x0200 a && uses a) (getD routineWords (a - 0x0200) 0) (getD mem a 0)
+wordWith uses mem (c ∷ cells) a = cond (eqb a (c .address)) (c .value) (wordWith uses mem cells a)
 
 abbrev pub wordAt : Frame → View → ℕ → ℕ
-wordAt f v a = wordWith (f .memory) (v .cells) a
+wordAt f v a = wordWith (f .uses) (f .memory) (v .cells) a
 
 pub size-with : (mem : List ℕ) (cells : List Cell) → length (memoryWith mem cells) ≡ length mem
 size-with mem [] = refl
 size-with mem (c ∷ cells) = length-set (memoryWith mem cells) (c .address) (c .value) ∙ size-with mem cells
 
-pub word-with : {mem : List ℕ} → Intact mem → (cells : List Cell) → cellsFine cells ≡ true → (a : ℕ)
-    → getD (memoryWith mem cells) a 0 ≡ wordWith mem cells a
+pub word-with : {uses : ℕ → Bool} {mem : List ℕ} → Intact uses mem → (cells : List Cell) → cellsFine cells ≡ true
+    → (a : ℕ) → getD (memoryWith mem cells) a 0 ≡ wordWith uses mem cells a
 unfolding wordWith
-word-with {mem} i [] fine a = go (isRoutine a) refl
+word-with {uses} {mem} i [] fine a = go (leb 0x0200 a && uses a) refl
   where
-    go : (b : Bool) → isRoutine a ≡ b → getD mem a 0 ≡ cond b (getD routineWords (a - 0x0200) 0) (getD mem a 0)
+    go : (b : Bool) → (leb 0x0200 a && uses a) ≡ b
+        → getD mem a 0 ≡ cond b (getD routineWords (a - 0x0200) 0) (getD mem a 0)
     go true e =
-        let both = both-true (leb 0x0200 a) (ltb a 0x02A5) e in
-        routine-word i a (leb-true 0x0200 a (both .0)) (ltb-true a 0x02A5 (both .1))
+        let both = both-true (leb 0x0200 a) (uses a) e in
+        routine-word i a (leb-true 0x0200 a (both .0)) (both .1)
     go false e = refl
-word-with {mem} i (c ∷ cells) fine a =
+word-with {uses} {mem} i (c ∷ cells) fine a =
     let outer = both-true (leb 0x02A5 (c .address) && ltb (c .address) 0xFE00) (cellsFine cells) fine in
     let inner = both-true (leb 0x02A5 (c .address)) (ltb (c .address) 0xFE00) (outer .0) in
     go (eqb a (c .address)) refl (ltb-true (c .address) 0xFE00 (inner .1)) (word-with i cells (outer .1) a)
   where
     go : (b : Bool) → eqb a (c .address) ≡ b → c .address < 0xFE00
-        → getD (memoryWith mem cells) a 0 ≡ wordWith mem cells a
+        → getD (memoryWith mem cells) a 0 ≡ wordWith uses mem cells a
         → getD (set (memoryWith mem cells) (c .address) (c .value)) a 0
-        ≡ cond b (c .value) (wordWith mem cells a)
+        ≡ cond b (c .value) (wordWith uses mem cells a)
     go true e l ih =
         let z : a ≡ c .address = eqb-true a (c .address) e in
         rw z

@@ -4,6 +4,8 @@ pub mod InstallLaws
 pub mod KeyLaws
 pub mod Execution
 pub mod Intact
+pub mod UseLaws
+pub mod Beside
 pub mod Instructions
 pub mod Exceptions
 pub mod Entries

@@ -1,28 +1,36 @@
 -- OUT: two steps, the wait, three steps, RTI.
-use Prim.Native.Nat.{ℕ, zero, suc, _+_, _-_, _%_, _≤_}
+use Prim.Native.Nat.{ℕ, zero, suc, _+_, _-_, _%_, _≤_, _<_}
 use native.Mathlib.Omega.{arith}
-use mathlib.Core.Path.{_≡_, refl, sym, ap, _∙_}
-use mathlib.Core.Bool.{true}
+use mathlib.Core.Path.{_≡_, refl, sym, ap, subst, _∙_}
+use mathlib.Core.Bool.{Bool, true}
 use mathlib.Core.List.{List, [], _∷_}
-use lib.ListN.{length, getD, set}
+use lib.ListN.{length, getD, set, take}
+use lib.Seq.{take-take}
 use Rattle.machine.specs.Words.{next, withRegister}
+use Rattle.machine.specs.Protection.{deniedBy}
 use Rattle.run.specs.Run.{Start}
 use Rattle.run.specs.Call.{callOf}
 use Rattle.run.proofs.Acceptance.{accepted-is-acceptable}
 use Rattle.monitor.specs.Vectors.{vectorWord}
-use Rattle.monitor.specs.Install.{writtenOver}
-use Rattle.monitor.specs.Out.{CallsOut, Resumed, waitSteps, outSteps, outStepsOf, OutShows}
-use Rattle.monitor.specs.Calls.{Begins, Calls, NoInterrupt, takes-none, none-enabled, notRead}
+use Rattle.monitor.specs.Uses.{withVector, outCode}
+use Rattle.monitor.specs.Out.{CallsOut, Uninterrupted, Resumed, waitSteps, outSteps, outStepsOf, OutShows}
+use Rattle.monitor.specs.Calls.{Calls, NoInterrupt, takes-none, none-enabled, notRead, Resumes}
+use Rattle.monitor.specs.OutBothModes.{OutResumes}
 use Rattle.monitor.proofs.Execution.{Frame, View, from, At, Quiet, Leads, then}
+use Rattle.monitor.proofs.Intact.{monitor-word}
+use Rattle.monitor.proofs.UseLaws.{with-vector-below, out-below}
 use Rattle.monitor.proofs.Instructions.{Sound, steppedBy, runs, one-more-byte, computing}
 use Rattle.monitor.proofs.Entries.{calledFrame, called-sound, Polls, within, waits}
 use Rattle.monitor.proofs.Calls.{is-intact, quiet-steps, was-uninterrupted, call-stands, Eight, eight, begun}
 use Rattle.monitor.proofs.Calls.{routine-begins, AtReturn, cellsWithin, backFrame, backView, at-back}
 use Rattle.monitor.proofs.Calls.{comes-back, none-read}
 
-module _ (s : Start) (x : Eight (s .machine .regs)) where
+abbrev uses : ℕ → Bool
+uses = withVector 0x21 outCode
+
+module _ (user : Bool) (s : Start) (x : Eight (s .machine .regs)) where
   abbrev f : Frame
-  f = calledFrame s
+  f = calledFrame uses user s
 
   abbrev busy : ℕ
   busy = s .machine .devices .busy
@@ -59,7 +67,7 @@ module _ (s : Start) (x : Eight (s .machine .regs)) where
         returning
     routine = then to-poll (then to-ready to-return)
 
-  at-return : AtReturn s returning
+  at-return : AtReturn uses user s returning
   unfolding returning ready polling computing
   at-return = record { plan = refl; six = refl; pc = refl; psr = refl; fine = refl; going = refl }
 
@@ -72,108 +80,140 @@ wait-at-most (suc (suc busy)) = omega (arith, wait-at-most busy)
 few-steps : (busy : ℕ) → busy ≤ 8 → outSteps busy ≤ 32
 few-steps busy h = omega (arith, wait-at-most (busy - 1 - 1 - 1))
 
-few : (s : Start) (n : ℕ) → CallsOut s n → outStepsOf s ≤ n
-few s n c =
-    let l = few-steps (s .machine .devices .busy) (accepted-is-acceptable s n (c .accepted) .defined .devices .busy) in
-    omega (arith, l, c .steps)
+-- ---- a call from either mode
 
-begins : (s : Start) (n : ℕ) → CallsOut s n → Begins s n
-begins s n c = record {
-  accepted = c .accepted;
-  registers = c .registers;
-  user-mode = c .user-mode;
-  intact = c .intact;
-  stack = c .stack;
-  mcr = c .mcr;
-}
-
-calls : (s : Start) (n : ℕ) → CallsOut s n → Calls 0x21 s n
-calls s n c = record { begins = begins s n c; user-address = c .user-address; trap = c .trap }
-
-module _ (s : Start) (n : ℕ) (c : CallsOut s n) (no-interrupt : NoInterrupt s (outStepsOf s))
-    (x : Eight (s .machine .regs)) where
+module _ (user : Bool) (s : Start) (n : ℕ) (c : Calls 0x21 outCode user s n) (free : 0 < length (s .output))
+    (le : outStepsOf s ≤ n) (none : NoInterrupt s (outStepsOf s)) (x : Eight (s .machine .regs)) where
   -- the steps before RTI
   abbrev j : ℕ
-  j = 1 + (2 + (waitSteps (busy s x - 1 - 1 - 1) + 3))
+  j = 1 + (2 + (waitSteps (busy user s x - 1 - 1 - 1) + 3))
 
   all-steps : j + 1 ≡ outStepsOf s
   all-steps = omega arith
 
   quiet : Quiet s 0 (j + 1)
-  quiet = rw all-steps (quiet-steps s n (outStepsOf s) 0 (c .accepted) (few s n c) no-interrupt)
+  quiet = rw all-steps (quiet-steps s n (outStepsOf s) 0 (c .begins .accepted) le none)
 
   enough : j + 1 ≤ n
-  enough = rw all-steps (few s n c)
+  enough = rw all-steps le
 
-  at-rti : At s 0 j (f s x) (returning s x)
+  at-rti : At s 0 j (f user s x) (returning user s x)
   unfolding vectorWord
   at-rti =
-      routine s x (j + 1) quiet (called-sound s (is-intact s n (begins s n c))) (c .free-byte) .on (omega arith)
-      (routine-begins s n (j + 1) x 0x21 0x0204 (calls s n c) quiet (omega arith) (omega arith) refl)
+      routine user s x (j + 1) quiet (called-sound uses user s (is-intact s n (c .begins))) free .on (omega arith)
+      (routine-begins outCode user s n (j + 1) x 0x21 0x0204 c quiet (omega arith) (omega arith) refl)
 
-  restored : set (returning s x .regs) 6 (getD (s .machine .regs) 6 0) ≡ s .machine .regs
+  restored : set (returning user s x .regs) 6 (getD (s .machine .regs) 6 0) ≡ s .machine .regs
   unfolding returning ready polling computing
   restored = rw (x .are)
 
-  stack-only : cellsWithin 0x2FF8 (returning s x .cells) ≡ true
+  stack-only : cellsWithin 0x2FFD (returning user s x .cells) ≡ true
   unfolding returning ready polling computing
   stack-only = refl
 
-  the-byte : returning s x .bytes ≡ (getD (s .machine .regs) 0 0 % 256) ∷ []
+  the-byte : returning user s x .bytes ≡ (getD (s .machine .regs) 0 0 % 256) ∷ []
   unfolding returning ready polling computing
   the-byte = rw (x .are)
 
-  five : backView s (returning s x) .busy ≡ 5
+  five : backView uses user s (returning user s x) .busy ≡ 5
   unfolding returning ready polling computing
   five = refl
 
-  untouched : (returning s x .read ≡ 0) × (returning s x .status ≡ s .machine .devices .kbsr)
+  untouched : (returning user s x .read ≡ 0) × (returning user s x .status ≡ s .machine .devices .kbsr)
   unfolding returning ready polling computing
   untouched = (refl, refl)
 
-  at-end : At s 0 (j + 1) (backFrame s) (backView s (returning s x))
+  at-end : At s 0 (j + 1) (backFrame uses user s) (backView uses user s (returning user s x))
   at-end =
-      at-back s n j (returning s x) (begins s n c) quiet at-rti (at-return s x) enough 0x2FF8 stack-only
+      at-back uses user s n j (returning user s x) (c .begins) quiet at-rti (at-return user s x) enough 0x2FFD stack-only
       (s .machine .regs) restored
 
-  resumed : Resumed s n (j + 1) (callOf s (j + 1))
+  five-left : callOf s (j + 1) .machine .devices .busy ≡ 5
+  five-left = rw (call-stands at-end n (c .begins .accepted) enough) five
+
+  resumed : Resumes s n (j + 1) ((getD (s .machine .regs) 0 0 % 256) ∷ []) 0x2FFD (s .machine .regs) (notRead s)
   resumed =
-      let r = comes-back s n j (returning s x) (begins s n c) quiet at-rti (at-return s x) enough 0x2FF8 stack-only
-      (s .machine .regs) restored (notRead s)
-      (none-read s (returning s x) (untouched .0) (untouched .1)) in
-      let q = call-stands at-end n (c .accepted) enough in
+      subst (λ (bytes : List ℕ). Resumes s n (j + 1) bytes 0x2FFD (s .machine .regs) (notRead s)) the-byte
+      (comes-back uses user s n j (returning user s x) (c .begins) quiet at-rti (at-return user s x) enough 0x2FFD
+      stack-only (s .machine .regs) restored (notRead s)
+      (none-read s (returning user s x) (untouched .0) (untouched .1)))
+
+pub out-resumes : OutResumes
+out-resumes user s n c free le none =
+    let x = eight (s .machine .regs) (c .begins .registers) in
+    rw (all-steps user s n c free le none x) at (resumed user s n c free le none x)
+
+-- ---- a call from User mode with all of the monitor's words intact
+
+calls : (s : Start) (n : ℕ) → CallsOut s n → Calls 0x21 outCode true s n
+unfolding deniedBy
+calls s n c = record {
+  begins = record {
+    accepted = c .accepted;
+    registers = c .registers;
+    mode = c .user-mode;
+    intact = λ a used. monitor-word (s .memory) (c .intact) a
+        (with-vector-below 0x21 outCode (omega arith) out-below a used);
+    stack = c .stack;
+    mcr = c .mcr;
+  };
+  may-fetch = rw (c .user-mode) (c .user-address);
+  trap = c .trap;
+}
+
+module _ (s : Start) (n : ℕ) (c : CallsOut s n) (none : NoInterrupt s (outStepsOf s)) where
+  few : outStepsOf s ≤ n
+  few =
+      omega (
+        arith,
+        few-steps (s .machine .devices .busy) (accepted-is-acceptable s n (c .accepted) .defined .devices .busy),
+        c .steps,
+      )
+
+  abbrev x : Eight (s .machine .regs)
+  x = eight (s .machine .regs) (c .registers)
+
+  was-quiet : Uninterrupted s (outStepsOf s)
+  was-quiet =
+      was-uninterrupted n (c .accepted) few
+      (rw (all-steps true s n (calls s n c) (c .free-byte) few none x) at
+      (at-end true s n (calls s n c) (c .free-byte) few none x))
+
+  shorter : (l₁ l₂ : List ℕ) → take 0x2FFD l₁ ≡ take 0x2FFD l₂ → take 0x2FF8 l₁ ≡ take 0x2FF8 l₂
+  shorter l₁ l₂ e =
+      sym (take-take 0x2FF8 0x2FFD l₁ (omega arith))
+      ∙ ap (λ (l : List ℕ). take 0x2FF8 l) e
+      ∙ take-take 0x2FF8 0x2FFD l₂ (omega arith)
+
+  out-resumed : Resumed s n (outStepsOf s) (callOf s (outStepsOf s))
+  out-resumed =
+      let r = out-resumes true s n (calls s n c) (c .free-byte) few none in
       let l = r .leaves in
       record {
         made = r .made;
         steps = l .steps;
         ending = r .ending;
-        shown = rw the-byte at (l .shown);
-        output = l .output
-            ∙ ap (λ (bytes : List ℕ). writtenOver bytes (s .output)) the-byte
-            ∙ one-more-byte [] (s .output) (getD (s .machine .regs) 0 0 % 256) (c .free-byte);
+        shown = l .shown;
+        output = l .output ∙ one-more-byte [] (s .output) (getD (s .machine .regs) 0 0 % 256) (c .free-byte);
         pc = r .pc;
         registers = r .registers-are;
         psr = r .psr;
-        saved-ssp = l .saved-ssp ∙ sym (c .stack);
-        saved-usp = l .saved-usp;
+        saved-ssp = l .saved-ssp;
+        saved-usp = rw (c .user-mode) at (l .saved-usp);
         kbsr = r .kbsr;
         kbdr = l .kbdr;
         mcr = r .mcr ∙ sym (c .mcr);
-        busy = rw q five;
+        busy = rw (all-steps true s n (calls s n c) (c .free-byte) few none x) at
+            (five-left true s n (calls s n c) (c .free-byte) few none x);
         timer = l .timer;
         clock = l .clock;
-        words-below = l .words-below;
+        words-below = shorter (callOf s (outStepsOf s) .memory) (s .memory) (l .words-below);
         words-above = l .words-above;
       }
 
 pub out-shows : OutShows
 out-shows = record {
   within = few-steps;
-  resumes = λ s n c u.
-      let x = eight (s .machine .regs) (c .registers) in
-      rw (all-steps s n c (takes-none u) x) at (resumed s n c (takes-none u) x);
-  not-enabled = λ s n c off.
-      let x = eight (s .machine .regs) (c .registers) in
-      was-uninterrupted n (c .accepted) (few s n c)
-      (rw (all-steps s n c (none-enabled off) x) at (at-end s n c (none-enabled off) x));
+  resumes = λ s n c u. out-resumed s n c (takes-none u);
+  not-enabled = λ s n c off. was-quiet s n c (none-enabled off);
 }

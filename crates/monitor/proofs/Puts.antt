@@ -3,7 +3,7 @@ use Prim.Native.Nat.{ℕ, suc, _+_, _-_, _%_, _≤_, _<_}
 use native.Mathlib.Omega.{arith}
 use native.Mathlib.Decide.{decLe}
 use mathlib.Core.Path.{_≡_, refl, sym, _∙_}
-use mathlib.Core.Bool.{true, false}
+use mathlib.Core.Bool.{Bool, true, false}
 use mathlib.Core.List.{List, [], _∷_, _++_, append-nil}
 use borrow.Author.Tests.{lt-ltb, leb-true}
 use lib.ListN.{length, getD, length-append}
@@ -14,6 +14,7 @@ use Rattle.machine.specs.Protection.{privileged}
 use Rattle.run.specs.Run.{Start}
 use Rattle.run.proofs.Acceptance.{accepted-is-acceptable}
 use Rattle.monitor.specs.Vectors.{vectorWord}
+use Rattle.monitor.specs.Uses.{withVector, putsCode}
 use Rattle.monitor.specs.Calls.{Calls, notRead, Resumes, Halts}
 use Rattle.monitor.specs.Puts.{StringFrom, lowBytes, lookSteps, wordSteps, putsSteps, refusedSteps, r0, PutsShows}
 use Rattle.monitor.proofs.Execution.{Frame, Known, from, codesNumber, cell, View, At, Quiet, Leads}
@@ -25,9 +26,12 @@ use Rattle.monitor.proofs.Calls.{AtReturn, comes-back, none-read}
 use Rattle.monitor.proofs.Strings.{user-address, negative, positive, Looks, Comes, look-at}
 use Rattle.monitor.proofs.Strings.{look-refused, below-two, gets-word}
 
+abbrev uses : ℕ → Bool
+uses = withVector 0x22 putsCode
+
 module _ (s : Start) (x : Eight (s .machine .regs)) where
   abbrev f : Frame
-  f = calledFrame s
+  f = calledFrame uses true s
 
   abbrev psr : ℕ
   psr = s .machine .psr
@@ -198,14 +202,14 @@ module _ (s : Start) (x : Eight (s .machine .regs)) where
 
 -- ---- the theorem
 
-module _ (s : Start) (n : ℕ) (c : Calls 0x22 s n) (x : Eight (s .machine .regs)) (words : List ℕ) (b : ℕ)
+module _ (s : Start) (n : ℕ) (c : Calls 0x22 putsCode true s n) (x : Eight (s .machine .regs)) (words : List ℕ) (b : ℕ)
     (string : StringFrom (s .memory) (r0 s) words b) (room : length words ≤ length (s .output)) (bound : ℕ)
     (some : 5 ≤ bound) (quiet : Quiet s 0 bound) where
   sound : Sound (f s x)
-  sound = called-sound s (is-intact s n (c .begins))
+  sound = called-sound uses true s (is-intact s n (c .begins))
 
   user : 0x8000 ≤ s .machine .psr
-  user = unfold inUserMode in leb-true 0x8000 (s .machine .psr) (c .begins .user-mode)
+  user = unfold inUserMode in leb-true 0x8000 (s .machine .psr) (c .begins .mode)
 
   first : r0 s ≡ x .r₀
   first = rw (x .are)
@@ -230,7 +234,7 @@ module _ (s : Start) (n : ℕ) (c : Calls 0x22 s n) (x : Eight (s .machine .regs
   at-look le =
       let z : 1 + (4 + wordSteps (r0 s) words) ≡ 5 + wordSteps (r0 s) words = omega arith in
       rw z at (then (begins s x bound quiet sound) (all .leads) .on (omega arith)
-      (routine-begins s n bound x 0x22 0x020C c quiet (omega arith) (omega arith) refl))
+      (routine-begins putsCode true s n bound x 0x22 0x020C c quiet (omega arith) (omega arith) refl))
 
   -- ---- a string that ends
 
@@ -243,7 +247,7 @@ module _ (s : Start) (n : ℕ) (c : Calls 0x22 s n) (x : Eight (s .machine .regs
     returning : View
     returning = steppedBy 5 (f s x) (W s x b 0 (seen .r₂) 0x0219 (from 0) (lowBytes words) 0)
 
-    at-return : AtReturn s returning
+    at-return : AtReturn uses true s returning
     unfolding returning computing
     at-return = record { plan = refl; six = refl; pc = refl; psr = refl; fine = refl; going = refl }
 
@@ -263,7 +267,7 @@ module _ (s : Start) (n : ℕ) (c : Calls 0x22 s n) (x : Eight (s .machine .regs
     comes : bound ≡ j + 1 → j + 1 ≤ n → Resumes s n (j + 1) (lowBytes words) 0x2FFB (s .machine .regs) (notRead s)
     unfolding returning computing
     comes e le =
-        comes-back s n j returning (c .begins) (rw e at quiet) (at-rti (omega arith)) at-return le 0x2FFB refl
+        comes-back uses true s n j returning (c .begins) (rw e at quiet) (at-rti (omega arith)) at-return le 0x2FFB refl
         (s .machine .regs) (rw (x .are)) (notRead s) (none-read s returning refl refl)
 
   -- ---- one that does not
@@ -290,7 +294,7 @@ module _ (s : Start) (n : ℕ) (c : Calls 0x22 s n) (x : Eight (s .machine .regs
         → Halts s n (refusedSteps (r0 s) words) (lowBytes words) 0x2FFB
     unfolding stopped computing
     refuses le more =
-        halts (at-stop le) n (c .begins) 0x2FFB refl refl (c .begins .stack) refl refl more (rw (x .are)) refl refl refl
+        halts (at-stop le) n (c .begins) 0x2FFB refl refl refl refl refl more (rw (x .are)) refl refl refl
         refl refl
 
 pub puts-shows : PutsShows

@@ -16,6 +16,7 @@ use Rattle.machine.proofs.WordLaws.{and-bits}
 use Rattle.run.specs.Run.{Start}
 use Rattle.run.proofs.Acceptance.{accepted-is-acceptable}
 use Rattle.monitor.specs.Vectors.{vectorWord}
+use Rattle.monitor.specs.Uses.{withVector, putspCode}
 use Rattle.monitor.specs.Calls.{Calls, notRead, Resumes, Halts}
 use Rattle.monitor.specs.Puts.{StringFrom, lookSteps, r0}
 use Rattle.monitor.specs.Putsp.{AreWords, unlessZero, pairBytes, shiftSteps, byteSteps, pairSteps, pairsSteps}
@@ -66,9 +67,12 @@ high-byte w h = go (shifted 8 w 0) (both-double 8 w 0 w (omega arith) h)
     go : (r : ℕ) → (m : ℕ) × (m < 65536) × (r * 65536 + m ≡ doubled 8 w) → r ≡ w / 256
     go r (m, l, e) = omega arith
 
+abbrev uses : ℕ → Bool
+uses = withVector 0x24 putspCode
+
 module _ (s : Start) (x : Eight (s .machine .regs)) where
   abbrev f : Frame
-  f = calledFrame s
+  f = calledFrame uses true s
 
   abbrev psr : ℕ
   psr = s .machine .psr
@@ -529,15 +533,15 @@ module _ (s : Start) (x : Eight (s .machine .regs)) where
 
 -- ---- the theorem
 
-module _ (s : Start) (n : ℕ) (c : Calls 0x24 s n) (x : Eight (s .machine .regs)) (words : List ℕ) (b : ℕ)
+module _ (s : Start) (n : ℕ) (c : Calls 0x24 putspCode true s n) (x : Eight (s .machine .regs)) (words : List ℕ) (b : ℕ)
     (string : StringFrom (s .memory) (r0 s) words b) (fit : AreWords words)
     (room : length (pairBytes words) ≤ length (s .output)) (bound : ℕ) (some : 6 ≤ bound) (quiet : Quiet s 0 bound)
   where
     sound : Sound (f s x)
-    sound = called-sound s (is-intact s n (c .begins))
+    sound = called-sound uses true s (is-intact s n (c .begins))
 
     user : 0x8000 ≤ s .machine .psr
-    user = unfold inUserMode in leb-true 0x8000 (s .machine .psr) (c .begins .user-mode)
+    user = unfold inUserMode in leb-true 0x8000 (s .machine .psr) (c .begins .mode)
 
     first : r0 s ≡ x .r₀
     first = rw (x .are)
@@ -567,7 +571,7 @@ module _ (s : Start) (n : ℕ) (c : Calls 0x24 s n) (x : Eight (s .machine .regs
     at-look le =
         let z : 1 + (5 + pairsSteps (r0 s) words) ≡ 6 + pairsSteps (r0 s) words = omega arith in
         rw z at (then (begins s x bound quiet sound) (all .leads) .on (omega arith)
-        (routine-begins s n bound x 0x24 0x023D c quiet (omega arith) (omega arith) refl))
+        (routine-begins putspCode true s n bound x 0x24 0x023D c quiet (omega arith) (omega arith) refl))
 
     -- ---- a string that ends
 
@@ -582,7 +586,7 @@ module _ (s : Start) (n : ℕ) (c : Calls 0x24 s n) (x : Eight (s .machine .regs
       returning : View
       returning = steppedBy 6 (f s x) (W s x (all .r₃) b 0 (seen .r₂) 0x024B (from 0) (pairBytes words) 0)
 
-      at-return : AtReturn s returning
+      at-return : AtReturn uses true s returning
       unfolding returning computing
       at-return = record { plan = refl; six = refl; pc = refl; psr = refl; fine = refl; going = refl }
 
@@ -602,7 +606,7 @@ module _ (s : Start) (n : ℕ) (c : Calls 0x24 s n) (x : Eight (s .machine .regs
       comes : bound ≡ j + 1 → j + 1 ≤ n → Resumes s n (j + 1) (pairBytes words) 0x2FFA (s .machine .regs) (notRead s)
       unfolding returning computing
       comes e le =
-          comes-back s n j returning (c .begins) (rw e at quiet) (at-rti (omega arith)) at-return le 0x2FFA refl
+          comes-back uses true s n j returning (c .begins) (rw e at quiet) (at-rti (omega arith)) at-return le 0x2FFA refl
           (s .machine .regs) (rw (x .are)) (notRead s) (none-read s returning refl refl)
 
     -- ---- one that does not
@@ -630,7 +634,7 @@ module _ (s : Start) (n : ℕ) (c : Calls 0x24 s n) (x : Eight (s .machine .regs
           → Halts s n (refusedPairSteps (r0 s) words) (pairBytes words) 0x2FFA
       unfolding stopped computing
       refuses le more =
-          halts (at-stop le) n (c .begins) 0x2FFA refl refl (c .begins .stack) refl refl more (rw (x .are)) refl refl
+          halts (at-stop le) n (c .begins) 0x2FFA refl refl refl refl refl more (rw (x .are)) refl refl
           refl refl refl
 
 pub putsp-shows : PutspShows

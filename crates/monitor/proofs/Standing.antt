@@ -3,20 +3,14 @@ use Prim.Native.Nat.{ℕ, _<_}
 use native.Mathlib.Omega.{arith}
 use mathlib.Core.Path.{_≡_, refl, sym, ap, _∙_}
 use mathlib.Core.Bool.{true}
-use lib.ListN.{getD, List·getD-append}
+use lib.ListN.{getD}
 use Rattle.word.specs.Reading.{readOf}
 use Rattle.word.specs.declared.Instruction.the-variants.{Rti}
 use Rattle.monitor.specs.Vectors.{vectorWord, vectorsFrom, vectorTable, ours}
 use Rattle.monitor.specs.Routines.{routineWords, monitorWords}
 use Rattle.monitor.specs.Standing.{waitFrom, Stands}
-use Rattle.monitor.proofs.VectorLaws.{table-holds, other-trap, interrupt-word}
-use Rattle.monitor.proofs.Intact.{monitor-length}
-
-vector-at : (a : ℕ) → a < 0x0200 → getD monitorWords a 0 ≡ vectorWord ours a
-unfolding monitorWords
-vector-at a h =
-    List·getD-append (vectorTable ours) routineWords 0 a (omega (arith, table-holds .size ours))
-    ∙ table-holds .words ours a h
+use Rattle.monitor.proofs.VectorLaws.{other-trap, interrupt-word}
+use Rattle.monitor.proofs.Intact.{monitor-length, monitor-vector}
 
 back-word : readOf (getD monitorWords 0x027F 0) ≡ Rti
 unfolding monitorWords vectorTable vectorsFrom vectorWord routineWords readOf
@@ -30,11 +24,11 @@ pub stands : Stands
 stands = record {
   waits = wait;
   lone-rti = λ a least most.
-      ap (λ (w : ℕ). readOf (getD monitorWords w 0)) (vector-at a most ∙ sym (interrupt-word ours a least)) ∙ back-word;
+      ap (λ (w : ℕ). readOf (getD monitorWords w 0)) (monitor-vector a most ∙ sym (interrupt-word ours a least)) ∙ back-word;
   one-routine = λ a b other-a other-b.
-      vector-at a (omega (arith, other-a .below))
+      monitor-vector a (omega (arith, other-a .below))
       ∙ sym (other-trap ours a (other-a .no-service) (other-a .below))
       ∙ other-trap ours b (other-b .no-service) (other-b .below)
-      ∙ sym (vector-at b (omega (arith, other-b .below)));
+      ∙ sym (monitor-vector b (omega (arith, other-b .below)));
   fits = omega (arith, monitor-length);
 }

@@ -2,9 +2,10 @@
 use Prim.Native.Nat.{ℕ, _+_, _*_, _/_, _%_, _≤_, _<_}
 use native.Mathlib.Omega.{arith}
 use mathlib.Core.Path.{_≡_, refl, sym, ap, subst, _∙_}
+use mathlib.Core.Bool.{Bool, true}
 use mathlib.Core.List.{List, [], _∷_}
-use lib.ListN.{take}
-use lib.Seq.{take-take}
+use lib.ListN.{getD}
+use lib.Seq.{getD-take}
 use Rattle.machine.specs.Words.{next}
 use Rattle.machine.specs.Psr.{codesOf}
 use Rattle.machine.specs.Outcome.{Reason, privilege, illegal, access, vectorOf}
@@ -12,74 +13,85 @@ use Rattle.run.specs.Run.{Start, endedBy}
 use Rattle.run.specs.Call.{callOf}
 use Rattle.run.proofs.Acceptance.{accepted-is-acceptable}
 use Rattle.monitor.specs.Vectors.{ours}
+use Rattle.monitor.specs.Uses.{HasWords, withVector, stopCode}
 use Rattle.monitor.specs.Calls.{Begins, Calls, Raises, NoInterrupt, Halts}
 use Rattle.monitor.specs.Stop.{OtherTrap, GoesOn, HaltsAgain, StopHalts}
 use Rattle.monitor.proofs.VectorLaws.{other-trap, exception-word}
-use Rattle.monitor.proofs.Execution.{View, from, At, Quiet}
-use Rattle.monitor.proofs.Intact.{Intact, monitor-length}
+use Rattle.monitor.proofs.Execution.{Frame, View, from, At, Quiet}
+use Rattle.monitor.proofs.Intact.{Intact}
+use Rattle.monitor.proofs.UseLaws.{stop-below}
 use Rattle.monitor.proofs.Instructions.{Sound, steppedBy, runs, computing}
 use Rattle.monitor.proofs.Entries.{calledFrame, called-sound, startFrame, at-start-with}
 use Rattle.monitor.proofs.Calls.{is-intact, quiet-steps, call-halts, Eight, eight, begun, halts}
 use Rattle.monitor.proofs.Calls.{routine-begins, handler-begins}
 
 -- Halted, from the first word of STOP on.
-module _ (s : Start) (n : ℕ) (b : Begins s n) (x : Eight (s .machine .regs)) (pc : ℕ) (more : 3 < n)
-    (quiet : Quiet s 0 3) (a : At s 0 1 (calledFrame s) (begun s x 0x027C pc)) where
-  abbrev stopped : View
-  stopped = steppedBy 2 (calledFrame s) (begun s x 0x027C pc)
+module _ (vector : ℕ) (user : Bool) (s : Start) (n : ℕ) (b : Begins (withVector vector stopCode) user s n)
+    (x : Eight (s .machine .regs)) (pc : ℕ) (more : 3 < n) (quiet : Quiet s 0 3)
+    (a : At s 0 1 (calledFrame (withVector vector stopCode) user s) (begun s x 0x027C pc)) where
+  abbrev f : Frame
+  f = calledFrame (withVector vector stopCode) user s
 
-  at-stop : At s 0 3 (calledFrame s) stopped
+  abbrev stopped : View
+  stopped = steppedBy 2 f (begun s x 0x027C pc)
+
+  at-stop : At s 0 3 f stopped
   unfolding computing
   at-stop =
-      runs quiet (calledFrame s) (called-sound s (is-intact s n b)) 0 (omega arith) 2 (begun s x 0x027C pc) refl .on
-      (omega arith) a
+      runs quiet f (called-sound (withVector vector stopCode) user s (is-intact s n b)) 0 (omega arith) 2
+      (begun s x 0x027C pc) refl .on (omega arith) a
 
   stop-halts : Halts s n 3 [] 0x2FFE
   unfolding computing
-  stop-halts = halts at-stop n b 0x2FFE refl refl (b .stack) refl refl more (rw (x .are)) refl refl refl refl refl
+  stop-halts = halts at-stop n b 0x2FFE refl refl refl refl refl more (rw (x .are)) refl refl refl refl refl
 
-quiet-three : (s : Start) (n : ℕ) → Begins s n → 3 < n → NoInterrupt s 3 → Quiet s 0 3
+quiet-three : {uses : ℕ → Bool} {user : Bool} (s : Start) (n : ℕ) → Begins uses user s n → 3 < n → NoInterrupt s 3
+    → Quiet s 0 3
 quiet-three s n b more none = quiet-steps s n 3 0 (b .accepted) (omega arith) none
 
-other-trap-halts : (vector : ℕ) → OtherTrap vector → (s : Start) (n : ℕ) → Calls vector s n → 3 < n → NoInterrupt s 3
-    → Halts s n 3 [] 0x2FFE
-other-trap-halts vector other s n c more none =
+other-trap-halts : (vector : ℕ) → OtherTrap vector → (user : Bool) (s : Start) (n : ℕ) → Calls vector stopCode user s n
+    → 3 < n → NoInterrupt s 3 → Halts s n 3 [] 0x2FFE
+other-trap-halts vector other user s n c more none =
     let b = c .begins in
     let x = eight (s .machine .regs) (b .registers) in
     let quiet = quiet-three s n b more none in
-    stop-halts s n b x (next (s .machine .pc)) more quiet
-    (routine-begins s n 3 x vector 0x027C c quiet (omega arith) (other .below)
+    stop-halts vector user s n b x (next (s .machine .pc)) more quiet
+    (routine-begins stopCode user s n 3 x vector 0x027C c quiet (omega arith) (other .below)
     (sym (other-trap ours vector (other .no-service) (other .below))))
 
 exception-halts : (reason : Reason) → 0x0100 ≤ vectorOf reason → vectorOf reason < 0x0103 → (s : Start) (n : ℕ)
-    → Raises reason s n → 3 < n → NoInterrupt s 3 → Halts s n 3 [] 0x2FFE
+    → Raises reason stopCode s n → 3 < n → NoInterrupt s 3 → Halts s n 3 [] 0x2FFE
 exception-halts reason least most s n r more none =
     let b = r .begins in
     let x = eight (s .machine .regs) (b .registers) in
     let quiet = quiet-three s n b more none in
-    stop-halts s n b x (r .pushed-pc) more quiet
-    (handler-begins s n 3 x reason 0x027C r quiet (omega arith) (omega arith)
+    stop-halts (vectorOf reason) true s n b x (r .pushed-pc) more quiet
+    (handler-begins stopCode s n 3 x reason 0x027C r quiet (omega arith) (omega arith)
     (sym (exception-word ours (vectorOf reason) least most)))
 
 -- ---- the host lets the machine go on
 
-module _ (s : Start) (n k : ℕ) (bytes : List ℕ) (low : ℕ) (b : Begins s n) (h : Halts s n k bytes low)
-    (above : 0x02A5 ≤ low) (s′ : Start) (n′ : ℕ) (g : GoesOn s n s′ n′) (more : 3 < n′) (none : NoInterrupt s′ 3) where
-  still-intact : Intact (s′ .memory)
+module _ (s : Start) (n k : ℕ) (bytes : List ℕ) (low : ℕ) (words : HasWords stopCode (s .memory))
+    (h : Halts s n k bytes low) (above : 0x02A5 ≤ low) (s′ : Start) (n′ : ℕ) (g : GoesOn s n s′ n′) (more : 3 < n′) (none : NoInterrupt s′ 3) where
+  still-intact : Intact stopCode (s′ .memory)
   still-intact = record {
-    words = rw (g .memory, monitor-length)
-        (shorter (callOf s n .memory) (s .memory) (h .leaves .words-below) ∙ rw monitor-length at (b .intact));
+    words = λ a used.
+        let l : a < low = omega (arith, stop-below a used) in
+        rw (g .memory)
+        (sym (getD-take low (callOf s n .memory) a 0 l)
+        ∙ ap (λ (memory : List ℕ). getD memory a 0) (h .leaves .words-below)
+        ∙ getD-take low (s .memory) a 0 l
+        ∙ words a used);
     size = accepted-is-acceptable s′ n′ (g .accepted) .size;
   }
-    where
-      shorter : (l₁ l₂ : List ℕ) → take low l₁ ≡ take low l₂ → take 0x02A5 l₁ ≡ take 0x02A5 l₂
-      shorter l₁ l₂ e =
-          sym (take-take 0x02A5 low l₁ above) ∙ ap (λ (l : List ℕ). take 0x02A5 l) e ∙ take-take 0x02A5 low l₂ above
 
   psr-is : s′ .machine .psr ≡ s .machine .psr / 8 % 4096 * 8 + 1
   psr-is = rw (g .machine) (h .psr)
 
-  sound : Sound (startFrame s′)
+  abbrev after : Frame
+  after = startFrame stopCode s′
+
+  sound : Sound after
   sound = record { above = omega (arith, psr-is); intact = still-intact }
 
   module _ (x : Eight (s .machine .regs)) where
@@ -99,13 +111,13 @@ module _ (s : Start) (n k : ℕ) (bytes : List ℕ) (low : ℕ) (b : Begins s n)
     regs-are : s′ .machine .regs ≡ waiting .regs
     regs-are = rw (g .machine) (h .registers-are ∙ rw (x .are))
 
-    at-waiting : At s′ 0 0 (startFrame s′) waiting
+    at-waiting : At s′ 0 0 after waiting
     unfolding codesOf
     at-waiting =
         let one : 1 ≡ s′ .machine .psr % 8 = omega (arith, psr-is) in
         let pc : s′ .machine .pc ≡ 0x027E = rw (g .machine) (h .pc) in
         let mcr : s′ .machine .devices .mcr ≡ 0x8000 = rw (g .machine) in
-        subst (λ (v : View). At s′ 0 0 (startFrame s′) v)
+        subst (λ (v : View). At s′ 0 0 after v)
         (λ i. record {
           regs = regs-are i;
           pc = pc i;
@@ -117,15 +129,15 @@ module _ (s : Start) (n k : ℕ) (bytes : List ℕ) (low : ℕ) (b : Begins s n)
           read = 0;
           status = s′ .machine .devices .kbsr;
         })
-        (at-start-with s′ n′ (g .accepted) 0 (from 1) one)
+        (at-start-with stopCode s′ n′ (g .accepted) 0 (from 1) one)
 
     abbrev stopped-again : View
-    stopped-again = steppedBy 3 (startFrame s′) waiting
+    stopped-again = steppedBy 3 after waiting
 
-    at-stop-again : At s′ 0 3 (startFrame s′) stopped-again
+    at-stop-again : At s′ 0 3 after stopped-again
     unfolding computing
     at-stop-again =
-        runs (quiet-steps s′ n′ 3 0 (g .accepted) (omega arith) none) (startFrame s′) sound 0 (omega arith) 3 waiting
+        runs (quiet-steps s′ n′ 3 0 (g .accepted) (omega arith) none) after sound 0 (omega arith) 3 waiting
         refl .on (omega arith) at-waiting
 
     halts-again : HaltsAgain s′ n′
@@ -150,6 +162,6 @@ stop-halts-all = record {
   privilege-exception = exception-halts privilege (omega arith) (omega arith);
   illegal-exception = exception-halts illegal (omega arith) (omega arith);
   access-exception = exception-halts access (omega arith) (omega arith);
-  again = λ s n k bytes low b h above s′ n′ g more none.
-      halts-again s n k bytes low b h above s′ n′ g more none (eight (s .machine .regs) (b .registers));
+  again = λ s n k bytes low registers words h above s′ n′ g more none.
+      halts-again s n k bytes low words h above s′ n′ g more none (eight (s .machine .regs) registers);
 }

@@ -15,7 +15,7 @@ use Rattle.run.specs.Run.{Start, End}
 use Rattle.run.specs.Refusals.{admissionOf}
 use Rattle.run.specs.Call.{callOf}
 use Rattle.run.specs.Noninterference.{causeAt}
-use Rattle.monitor.specs.Routines.{monitorWords}
+use Rattle.monitor.specs.Uses.{HasWords, backUses}
 
 -- Where the entry's pushes begin: Saved_SSP in User mode, and R6 in Supervisor mode.
 abbrev pub stackOf : Start → ℕ
@@ -27,7 +27,7 @@ pub record Interrupted (s : Start) (n : ℕ) : Type 0 where
   pub accepted : admissionOf s n ≡ Accepted
   pub steps : 2 ≤ n
   pub registers : length (s .machine .regs) ≡ 8
-  pub intact : take (length monitorWords) (s .memory) ≡ monitorWords
+  pub intact : HasWords backUses (s .memory)
   pub mcr : s .machine .devices .mcr ≡ 0x8000
   pub above-monitor : 0x02A7 ≤ stackOf s
   pub below-devices : stackOf s ≤ 0xFE00

@@ -1,8 +1,8 @@
--- A call of one of the monitor's routines from User mode, and what it leaves: the caller resumed, or the machine
--- halted.
+-- A call of one of the monitor's routines, from User mode or from Supervisor mode, and what it leaves: the caller
+-- resumed, or the machine halted.
 use Prim.Native.Nat.{ℕ, suc, _+_, _-_, _*_, _/_, _%_, _≤_}
 use mathlib.Core.Path.{_≡_}
-use mathlib.Core.Bool.{true, false}
+use mathlib.Core.Bool.{Bool, true, false, cond}
 use mathlib.Core.List.{List}
 use lib.ListN.{length, getD, set, take, drop}
 use Rattle.word.specs.Reading.{readOf}
@@ -10,40 +10,41 @@ use Rattle.word.specs.declared.Instruction.the-variants.{Trap}
 use Rattle.machine.specs.Words.{next}
 use Rattle.machine.specs.Record.{timerOf}
 use Rattle.machine.specs.Psr.{inUserMode}
-use Rattle.machine.specs.Protection.{privileged}
+use Rattle.machine.specs.Protection.{denied}
 use Rattle.machine.specs.Keys.{readyAfter, lastKey}
 use Rattle.machine.specs.Timer.{tickedBy}
-use Rattle.machine.specs.Outcome.{Reason, entered}
+use Rattle.machine.specs.Outcome.{Reason, vectorOf, entered}
 use Rattle.run.specs.declared.Admission.the-variants.{Accepted}
 use Rattle.run.specs.declared.Ending.the-variants.{Done, Halted}
 use Rattle.run.specs.Run.{Start, End}
 use Rattle.run.specs.Refusals.{admissionOf}
 use Rattle.run.specs.Call.{callOf}
 use Rattle.run.specs.Noninterference.{causeAt}
-use Rattle.monitor.specs.Routines.{monitorWords}
 use Rattle.monitor.specs.Install.{writtenOver}
+use Rattle.monitor.specs.Uses.{HasWords, withVector}
 use Rattle.monitor.specs.Keys.{arrivedBy}
 use Rattle.monitor.specs.Out.{Uninterrupted, NotEnabled}
 
--- "With the monitor's words intact, Saved_SSP x3000, MCR x8000", an accepted call of n steps that begins in User mode.
--- Nothing is asked of registers, codes, priority, other words and keys.
-pub record Begins (s : Start) (n : ℕ) : Type 0 where
+-- An accepted call of n steps that begins in User mode or not, "with the monitor's words intact", as far as these are
+-- used, the supervisor stack at x3000 (Saved_SSP in User mode, and R6 in Supervisor mode) and MCR x8000. Nothing is
+-- asked of other registers, codes, priority, other words and keys.
+pub record Begins (uses : ℕ → Bool) (user : Bool) (s : Start) (n : ℕ) : Type 0 where
   pub accepted : admissionOf s n ≡ Accepted
   pub registers : length (s .machine .regs) ≡ 8
-  pub user-mode : inUserMode (s .machine .psr) ≡ true
-  pub intact : take (length monitorWords) (s .memory) ≡ monitorWords
-  pub stack : s .machine .«saved_ssp» ≡ 0x3000
+  pub mode : inUserMode (s .machine .psr) ≡ user
+  pub intact : HasWords uses (s .memory)
+  pub stack : cond user (s .machine .«saved_ssp») (getD (s .machine .regs) 6 0) ≡ 0x3000
   pub mcr : s .machine .devices .mcr ≡ 0x8000
 
--- Its next instruction is this TRAP, at an address that User mode may fetch from.
-pub record Calls (vector : ℕ) (s : Start) (n : ℕ) : Type 0 where
-  pub begins : Begins s n
-  pub user-address : privileged (s .machine .pc) ≡ false
+-- Its next instruction is this TRAP, at an address that it may fetch from.
+pub record Calls (vector : ℕ) (code : ℕ → Bool) (user : Bool) (s : Start) (n : ℕ) : Type 0 where
+  pub begins : Begins (withVector vector code) user s n
+  pub may-fetch : denied (s .machine .psr) (s .machine .pc) ≡ false
   pub trap : readOf (getD (s .memory) (s .machine .pc) 0) ≡ Trap vector
 
--- Its next step raises this exception, or makes the entry for this trap, and pushes this PC.
-pub record Raises (reason : Reason) (s : Start) (n : ℕ) : Type 0 where
-  pub begins : Begins s n
+-- In User mode its next step raises this exception, or makes the entry for this trap, and pushes this PC.
+pub record Raises (reason : Reason) (code : ℕ → Bool) (s : Start) (n : ℕ) : Type 0 where
+  pub begins : Begins (withVector (vectorOf reason) code) true s n
   pub pushed-psr : ℕ
   pub pushed-pc : ℕ
   pub cause : causeAt s 0 ≡ entered reason pushed-psr pushed-pc
@@ -69,8 +70,10 @@ pub record Leaves (s : Start) (k : ℕ) (bytes : List ℕ) (low : ℕ) (e : End)
   pub steps : e .steps ≡ k
   pub shown : e .shown ≡ length bytes
   pub output : e .output ≡ writtenOver bytes (s .output)
-  pub saved-ssp : e .machine .«saved_ssp» ≡ 0x3000
-  pub saved-usp : e .machine .«saved_usp» ≡ getD (s .machine .regs) 6 0
+  pub saved-ssp : e .machine .«saved_ssp» ≡ s .machine .«saved_ssp»
+  -- as every entry from User mode leaves it
+  pub saved-usp : e .machine .«saved_usp»
+      ≡ cond (inUserMode (s .machine .psr)) (getD (s .machine .regs) 6 0) (s .machine .«saved_usp»)
   pub kbdr : e .machine .devices .kbdr ≡ lastKey (take (e .keys) (s .bytes)) (s .machine .devices .kbdr)
   pub timer : timerOf (e .machine .devices) ≡ tickedBy k (timerOf (s .machine .devices))
   pub clock : e .machine .clock ≡ s .machine .clock + k

@@ -1,6 +1,7 @@
 -- The premises of the theorems can be met: for each, a fresh machine in User mode at x3000 with the monitor in memory.
 use Prim.Native.Nat.{ℕ}
 use mathlib.Core.Path.{_≡_}
+use mathlib.Core.Bool.{true}
 use mathlib.Core.List.{List, [], _∷_}
 use lib.ListN.{getD, set, replicate}
 use Rattle.machine.specs.declared.Machine.{Machine}
@@ -9,6 +10,7 @@ use Rattle.machine.specs.Outcome.{access}
 use Rattle.run.specs.Run.{Start}
 use Rattle.run.specs.Call.{startOf}
 use Rattle.monitor.specs.Install.{installOf}
+use Rattle.monitor.specs.Uses.{getcCode, putsCode, inCode, putspCode, haltCode, stopCode}
 use Rattle.monitor.specs.Calls.{Calls, Raises, NoInterrupt}
 use Rattle.monitor.specs.Puts.{StringFrom}
 use Rattle.monitor.specs.Getc.{KeyComes}
@@ -35,19 +37,19 @@ unfoldable pub example : ℕ → ℕ → Start
 example word kbsr = startOf (programAt3000 kbsr) (exampleMemory word) [] [] (replicate 32 0)
 
 pub record ExamplesHold : Type 0 where
-  pub getc : Calls 0x20 (example 0xF020 0x8000) 1000
+  pub getc : Calls 0x20 getcCode true (example 0xF020 0x8000) 1000
   pub getc-key : KeyComes (example 0xF020 0x8000) 1 0
-  pub puts : Calls 0x22 (example 0xF022 0) 1000
+  pub puts : Calls 0x22 putsCode true (example 0xF022 0) 1000
   pub puts-string : StringFrom (exampleMemory 0xF022) 0x3002 (0x0061 ∷ 0xABCD ∷ []) 0x3004
   pub puts-end : getD (exampleMemory 0xF022) 0x3004 0 ≡ 0
-  pub input : Calls 0x23 (example 0xF023 0x8000) 1000
+  pub input : Calls 0x23 inCode true (example 0xF023 0x8000) 1000
   pub input-key : KeyComes (example 0xF023 0x8000) (firstPoll (example 0xF023 0x8000)) 0
-  pub putsp : Calls 0x24 (example 0xF024 0) 1000
+  pub putsp : Calls 0x24 putspCode true (example 0xF024 0) 1000
   pub putsp-string : StringFrom (exampleMemory 0xF024) 0x3002 (0x0061 ∷ 0xABCD ∷ []) 0x3004
-  pub halt : Calls 0x25 (example 0xF025 0) 1000
-  pub other : Calls 0xFF (example 0xF0FF 0) 1000
+  pub halt : Calls 0x25 haltCode true (example 0xF025 0) 1000
+  pub other : Calls 0xFF stopCode true (example 0xF0FF 0) 1000
   -- LD R0 from x2FFF
-  pub access-exception : Raises access (example 0x21FE 0) 1000
+  pub access-exception : Raises access stopCode (example 0x21FE 0) 1000
   -- no device is enabled, whatever the word and the keyboard's ready bit are
   pub no-interrupt : (word k : ℕ) → NoInterrupt (example word 0x8000) k
   -- a key that is ready and may interrupt

@@ -1,9 +1,11 @@
 -- GETC: waits for a key; R0 becomes the key. Nothing is shown.
 use Prim.Native.Nat.{ℕ, suc, _+_, _*_, _/_, _≤_, _<_}
 use mathlib.Core.Path.{_≡_}
+use mathlib.Core.Bool.{Bool}
 use mathlib.Core.List.{List, [], _∷_}
 use lib.ListN.{length, set}
 use Rattle.run.specs.Run.{Start}
+use Rattle.monitor.specs.Uses.{getcCode}
 use Rattle.monitor.specs.Keys.{arrivedBy, statusAt, keyAt}
 use Rattle.monitor.specs.Calls.{Calls, NoInterrupt, readIn, Resumes}
 
@@ -19,8 +21,8 @@ getcSteps turns = 5 + 2 * turns
 pub record GetcReads : Type 0 where
   -- R0 becomes the last key that has arrived by the step that loads KBDR, all other registers and the PSR are as
   -- before, nothing is shown, ready is cleared, and no word is changed but x2FFE and x2FFF.
-  pub resumes : (s : Start) (n turns : ℕ) → Calls 0x20 s n → KeyComes s 1 turns → getcSteps turns ≤ n
-      → NoInterrupt s (getcSteps turns)
+  pub resumes : (user : Bool) (s : Start) (n turns : ℕ) → Calls 0x20 getcCode user s n → KeyComes s 1 turns
+      → getcSteps turns ≤ n → NoInterrupt s (getcSteps turns)
       → Resumes s n (getcSteps turns) [] 0x2FFE (set (s .machine .regs) 0 (keyAt s (3 + 2 * turns)))
       (readIn (3 + 2 * turns) s)
   -- a key that is ready at the call is found at once, and is the one in KBDR unless another arrives on the way

@@ -1,9 +1,11 @@
 -- HALT: shows "Halted" and a line feed, then halts.
 use Prim.Native.Nat.{ℕ, _≤_, _<_}
+use mathlib.Core.Bool.{Bool}
 use mathlib.Core.List.{List}
 use lib.ListN.{length}
 use Rattle.text.specs.Characters.{codesIn}
 use Rattle.run.specs.Run.{Start}
+use Rattle.monitor.specs.Uses.{haltCode}
 use Rattle.monitor.specs.Calls.{Calls, NoInterrupt, Halts}
 
 -- "HALT's message [is] "Halted" and a line feed."
@@ -14,8 +16,8 @@ message = codesIn "Halted\n"
 abbrev pub haltSteps : ℕ
 haltSteps = 86
 
--- Called from User mode with room for seven bytes, HALT shows its message and nothing else, and halts; no word is
+-- Called with room for seven bytes, HALT shows its message and nothing else, and halts; no word is
 -- changed but x2FFB to x2FFF.
 abbrev pub HaltShows : Type 0
-HaltShows = (s : Start) (n : ℕ) → Calls 0x25 s n → haltSteps < n → 7 ≤ length (s .output) → NoInterrupt s haltSteps
-    → Halts s n haltSteps message 0x2FFB
+HaltShows = (user : Bool) (s : Start) (n : ℕ) → Calls 0x25 haltCode user s n → haltSteps < n → 7 ≤ length (s .output)
+    → NoInterrupt s haltSteps → Halts s n haltSteps message 0x2FFB

@@ -1,11 +1,13 @@
 -- IN: shows its prompt, waits for a key, shows it; R0 becomes the key.
 use Prim.Native.Nat.{ℕ, _+_, _-_, _*_, _%_, _≤_}
+use mathlib.Core.Bool.{Bool}
 use mathlib.Core.List.{List, [], _∷_, _++_}
 use lib.ListN.{length, set}
 use Rattle.text.specs.Characters.{codesIn}
 use Rattle.run.specs.Run.{Start}
 use Rattle.monitor.specs.Out.{waitSteps}
 use Rattle.monitor.specs.Keys.{keyAt}
+use Rattle.monitor.specs.Uses.{inCode}
 use Rattle.monitor.specs.Calls.{Calls, NoInterrupt, readIn, Resumes}
 use Rattle.monitor.specs.Getc.{KeyComes}
 
@@ -37,7 +39,7 @@ shownByIn s turns = prompt ++ (keyAt s (keyStep s turns) % 256) ∷ []
 -- R0 becomes the key, all other registers and the PSR are as before, prompt and key are shown and nothing else, ready
 -- is cleared, and no word is changed but x2FFC to x2FFF.
 abbrev pub InReads : Type 0
-InReads = (s : Start) (n turns : ℕ) → Calls 0x23 s n → KeyComes s (firstPoll s) turns
+InReads = (user : Bool) (s : Start) (n turns : ℕ) → Calls 0x23 inCode user s n → KeyComes s (firstPoll s) turns
     → length (shownByIn s turns) ≤ length (s .output) → inSteps s turns ≤ n → NoInterrupt s (inSteps s turns)
     → Resumes s n (inSteps s turns) (shownByIn s turns) 0x2FFC (set (s .machine .regs) 0 (keyAt s (keyStep s turns)))
     (readIn (keyStep s turns) s)

@@ -2,10 +2,13 @@
 pub mod Vectors
 pub mod Routines
 pub mod Install
+pub mod Uses
 pub mod Keys
 pub mod Out
 pub mod Calls
+pub mod OutBothModes
 pub mod Stop
+pub mod Beside
 pub mod Standing
 pub mod Back
 pub mod Getc

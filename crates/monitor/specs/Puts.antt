@@ -8,6 +8,7 @@ use lib.Dec.{leb}
 use lib.ListN.{length, getD}
 use Rattle.machine.specs.Protection.{privileged}
 use Rattle.run.specs.Run.{Start}
+use Rattle.monitor.specs.Uses.{putsCode}
 use Rattle.monitor.specs.Calls.{Calls, NoInterrupt, notRead, Resumes, Halts}
 
 -- From a up to b stand these words, in addresses of User mode's, and none of them is zero.
@@ -43,12 +44,12 @@ r0 s = getD (s .machine .regs) 0 0
 pub record PutsShows : Type 0 where
   -- A string that ends in a word x0000: its low bytes are shown in order, and nothing else; the caller resumes with all
   -- registers as before; no word is changed but x2FFB to x2FFF.
-  pub shows : (s : Start) (n : ℕ) → Calls 0x22 s n → (words : List ℕ) (b : ℕ) → StringFrom (s .memory) (r0 s) words b
-      → privileged b ≡ false → getD (s .memory) b 0 ≡ 0 → length words ≤ length (s .output)
+  pub shows : (s : Start) (n : ℕ) → Calls 0x22 putsCode true s n → (words : List ℕ) (b : ℕ)
+      → StringFrom (s .memory) (r0 s) words b → privileged b ≡ false → getD (s .memory) b 0 ≡ 0 → length words ≤ length (s .output)
       → putsSteps (r0 s) words b ≤ n → NoInterrupt s (putsSteps (r0 s) words b)
       → Resumes s n (putsSteps (r0 s) words b) (lowBytes words) 0x2FFB (s .machine .regs) (notRead s)
   -- One that begins in a privileged word or runs into one: what came before is shown, and the machine halts.
-  pub is-refused : (s : Start) (n : ℕ) → Calls 0x22 s n → (words : List ℕ) (b : ℕ)
+  pub is-refused : (s : Start) (n : ℕ) → Calls 0x22 putsCode true s n → (words : List ℕ) (b : ℕ)
       → StringFrom (s .memory) (r0 s) words b → privileged b ≡ true → b < 65536 → length words ≤ length (s .output)
       → refusedSteps (r0 s) words < n → NoInterrupt s (refusedSteps (r0 s) words)
       → Halts s n (refusedSteps (r0 s) words) (lowBytes words) 0x2FFB

@@ -7,6 +7,7 @@ use lib.Dec.{eqb}
 use lib.ListN.{length, getD}
 use Rattle.machine.specs.Protection.{privileged}
 use Rattle.run.specs.Run.{Start}
+use Rattle.monitor.specs.Uses.{putspCode}
 use Rattle.monitor.specs.Calls.{Calls, NoInterrupt, notRead, Resumes, Halts}
 use Rattle.monitor.specs.Puts.{StringFrom, lookSteps, r0}
 
@@ -50,12 +51,12 @@ abbrev pub refusedPairSteps : ℕ → List ℕ → ℕ
 refusedPairSteps a words = 6 + pairsSteps a words + 15
 
 pub record PutspShows : Type 0 where
-  pub shows : (s : Start) (n : ℕ) → Calls 0x24 s n → (words : List ℕ) (b : ℕ) → StringFrom (s .memory) (r0 s) words b
-      → AreWords words → privileged b ≡ false → getD (s .memory) b 0 ≡ 0
+  pub shows : (s : Start) (n : ℕ) → Calls 0x24 putspCode true s n → (words : List ℕ) (b : ℕ)
+      → StringFrom (s .memory) (r0 s) words b → AreWords words → privileged b ≡ false → getD (s .memory) b 0 ≡ 0
       → length (pairBytes words) ≤ length (s .output) → putspSteps (r0 s) words b ≤ n
       → NoInterrupt s (putspSteps (r0 s) words b)
       → Resumes s n (putspSteps (r0 s) words b) (pairBytes words) 0x2FFA (s .machine .regs) (notRead s)
-  pub is-refused : (s : Start) (n : ℕ) → Calls 0x24 s n → (words : List ℕ) (b : ℕ)
+  pub is-refused : (s : Start) (n : ℕ) → Calls 0x24 putspCode true s n → (words : List ℕ) (b : ℕ)
       → StringFrom (s .memory) (r0 s) words b → AreWords words → privileged b ≡ true → b < 65536
       → length (pairBytes words) ≤ length (s .output) → refusedPairSteps (r0 s) words < n
       → NoInterrupt s (refusedPairSteps (r0 s) words)

@@ -2,7 +2,9 @@
 -- halts"; and "the other halting routines show nothing".
 use Prim.Native.Nat.{ℕ, _≤_, _<_}
 use mathlib.Core.Path.{_≡_}
+use mathlib.Core.Bool.{Bool}
 use mathlib.Core.List.{List, []}
+use lib.ListN.{length}
 use Rattle.machine.specs.Record.{withMcr}
 use Rattle.machine.specs.Outcome.{privilege, illegal, access}
 use Rattle.run.specs.declared.Admission.the-variants.{Accepted}
@@ -10,7 +12,8 @@ use Rattle.run.specs.declared.Ending.the-variants.{Halted}
 use Rattle.run.specs.Run.{Start}
 use Rattle.run.specs.Refusals.{admissionOf}
 use Rattle.run.specs.Call.{callOf}
-use Rattle.monitor.specs.Calls.{Begins, Calls, Raises, NoInterrupt, Halts}
+use Rattle.monitor.specs.Uses.{HasWords, stopCode}
+use Rattle.monitor.specs.Calls.{Calls, Raises, NoInterrupt, Halts}
 
 -- A trap vector that is none of x20 to x25.
 pub record OtherTrap (vector : ℕ) : Type 0 where
@@ -37,11 +40,14 @@ pub record HaltsAgain (s : Start) (n : ℕ) : Type 0 where
 
 -- Three steps, the entry, LD and STI: halted, nothing shown, no word changed but x2FFE and x2FFF.
 pub record StopHalts : Type 0 where
-  pub other-trap : (vector : ℕ) → OtherTrap vector → (s : Start) (n : ℕ) → Calls vector s n → 3 < n → NoInterrupt s 3
+  pub other-trap : (vector : ℕ) → OtherTrap vector → (user : Bool) (s : Start) (n : ℕ) → Calls vector stopCode user s n
+      → 3 < n → NoInterrupt s 3 → Halts s n 3 [] 0x2FFE
+  pub privilege-exception : (s : Start) (n : ℕ) → Raises privilege stopCode s n → 3 < n → NoInterrupt s 3
       → Halts s n 3 [] 0x2FFE
-  pub privilege-exception : (s : Start) (n : ℕ) → Raises privilege s n → 3 < n → NoInterrupt s 3 → Halts s n 3 [] 0x2FFE
-  pub illegal-exception : (s : Start) (n : ℕ) → Raises illegal s n → 3 < n → NoInterrupt s 3 → Halts s n 3 [] 0x2FFE
-  pub access-exception : (s : Start) (n : ℕ) → Raises access s n → 3 < n → NoInterrupt s 3 → Halts s n 3 [] 0x2FFE
+  pub illegal-exception : (s : Start) (n : ℕ) → Raises illegal stopCode s n → 3 < n → NoInterrupt s 3
+      → Halts s n 3 [] 0x2FFE
+  pub access-exception : (s : Start) (n : ℕ) → Raises access stopCode s n → 3 < n → NoInterrupt s 3
+      → Halts s n 3 [] 0x2FFE
   -- "and it halts again": after STOP, after HALT, and after PUTS or PUTSP that was refused a word
-  pub again : (s : Start) (n k : ℕ) (bytes : List ℕ) (low : ℕ) → Begins s n → Halts s n k bytes low → 0x02A5 ≤ low
-      → (s′ : Start) (n′ : ℕ) → GoesOn s n s′ n′ → 3 < n′ → NoInterrupt s′ 3 → HaltsAgain s′ n′
+  pub again : (s : Start) (n k : ℕ) (bytes : List ℕ) (low : ℕ) → length (s .machine .regs) ≡ 8
+      → HasWords stopCode (s .memory) → Halts s n k bytes low → 0x02A5 ≤ low → (s′ : Start) (n′ : ℕ) → GoesOn s n s′ n′ → 3 < n′ → NoInterrupt s′ 3 → HaltsAgain s′ n′
