@@ -2,8 +2,8 @@
 use Prim.Native.Nat.{ℕ, suc, _+_, _-_, _%_, _≤_, _<_}
 use native.Mathlib.Omega.{arith}
 use native.Mathlib.Decide.{decLe}
-use mathlib.Core.Path.{_≡_, refl, sym, _∙_}
-use mathlib.Core.Bool.{Bool, true, false}
+use mathlib.Core.Path.{_≡_, refl, sym, ap, _∙_}
+use mathlib.Core.Bool.{Bool, true}
 use mathlib.Core.List.{List, [], _∷_, _++_, append-nil}
 use borrow.Author.Tests.{lt-ltb, leb-true}
 use lib.ListN.{length, getD, length-append}
@@ -15,23 +15,25 @@ use Rattle.run.specs.Run.{Start}
 use Rattle.run.proofs.Acceptance.{accepted-is-acceptable}
 use Rattle.monitor.specs.Vectors.{vectorWord}
 use Rattle.monitor.specs.Uses.{withVector, putsCode}
+use Rattle.monitor.specs.Out.{waitSteps}
 use Rattle.monitor.specs.Calls.{Calls, notRead, Resumes, Halts}
-use Rattle.monitor.specs.Puts.{StringFrom, lowBytes, lookSteps, wordSteps, putsSteps, refusedSteps, r0, PutsShows}
+use Rattle.monitor.specs.Puts.{mayRead, StringFrom, lowBytes, lookSteps, wordSteps, r0, stringSteps, putsSteps}
+use Rattle.monitor.specs.Puts.{refusedSteps, PutsShows}
 use Rattle.monitor.proofs.Execution.{Frame, Known, from, codesNumber, cell, View, At, Quiet, Leads}
 use Rattle.monitor.proofs.Execution.{then, no-step}
-use Rattle.monitor.proofs.Instructions.{Sound, steppedBy, maySteps, runs, computing}
-use Rattle.monitor.proofs.Entries.{calledFrame, called-sound, recoded}
+use Rattle.monitor.proofs.Instructions.{Sound, steppedBy, runs, computing}
+use Rattle.monitor.proofs.Entries.{calledFrame, called-sound, recoded, Polls, waits}
 use Rattle.monitor.proofs.Calls.{is-intact, quiet-steps, Eight, eight, begun, routine-begins, halts}
 use Rattle.monitor.proofs.Calls.{AtReturn, comes-back, none-read}
-use Rattle.monitor.proofs.Strings.{user-address, negative, positive, Looks, Comes, look-at}
-use Rattle.monitor.proofs.Strings.{look-refused, below-two, gets-word}
+use Rattle.monitor.proofs.Strings.{readable, negative, positive, Looks, Comes, look-at, look-refused, below-two}
+use Rattle.monitor.proofs.Strings.{gets-word}
 
 abbrev uses : ℕ → Bool
 uses = withVector 0x22 putsCode
 
-module _ (s : Start) (x : Eight (s .machine .regs)) where
+module _ (user : Bool) (s : Start) (x : Eight (s .machine .regs)) where
   abbrev f : Frame
-  f = calledFrame uses true s
+  f = calledFrame uses user s
 
   abbrev psr : ℕ
   psr = s .machine .psr
@@ -69,6 +71,12 @@ module _ (s : Start) (x : Eight (s .machine .regs)) where
     unfolding computing
     looks = record {
       loads-psr = λ a r₁ r₂ c bytes busy. runs quiet f sound 0 (omega arith) 1 (W a r₁ r₂ 0x0210 c bytes busy) refl;
+      skips = λ a r₁ r₂ x l bytes busy.
+          below-two
+          (λ (x : ℕ). Leads s 0 bound f (W a r₁ r₂ 0x0211 (from x) bytes busy) 1 f
+          (W a r₁ r₂ 0x0218 (from x) bytes (busy - 1)))
+          (runs quiet f sound 0 (omega arith) 1 (W a r₁ r₂ 0x0211 (from 0) bytes busy) refl)
+          (runs quiet f sound 0 (omega arith) 1 (W a r₁ r₂ 0x0211 (from 1) bytes busy) refl) x l;
       adds-above = λ a r₁ r₂ bytes busy.
           runs quiet f sound 0 (omega arith) 3 (W a r₁ r₂ 0x0211 (from 0x8000) bytes busy) refl;
       goes-on = λ a r₁ r₂ bytes busy.
@@ -90,81 +98,117 @@ module _ (s : Start) (x : Eight (s .machine .regs)) where
       knows = known;
     }
 
-    -- From the look to the word, with the display ready.
-    gets : (a r₁ r₂ : ℕ) (c : Known) (bytes : List ℕ) (busy : ℕ) → busy ≤ 1 → (w : ℕ) → privileged a ≡ false
+    -- From the look to the word.
+    gets : (a r₁ r₂ : ℕ) (c : Known) (bytes : List ℕ) (busy w : ℕ) → mayRead user 0x2FFB a ≡ true
         → getD (s .memory) a 0 ≡ w
-        → Leads s 0 bound f (W a r₁ r₂ 0x0218 c bytes busy) 1 f (W a w r₂ 0x0219 (from w) bytes 0)
+        → Leads s 0 bound f (W a r₁ r₂ 0x0218 c bytes busy) 1 f (W a w r₂ 0x0219 (from w) bytes (busy - 1))
     unfolding computing
-    gets a r₁ r₂ c bytes busy few w mine is =
-        let z : busy - 1 ≡ 0 = omega arith in
-        rw z at (gets-word quiet f sound (W a r₁ r₂ 0x0218 c bytes busy) refl refl 0x2FFB refl a w mine refl is)
+    gets a r₁ r₂ c bytes busy w may is =
+        let r = readable user 0x2FFB a may in
+        gets-word quiet f sound (W a r₁ r₂ 0x0218 c bytes busy) refl refl 0x2FFB refl a w (r .0) (r .1) refl is
 
-    module _ (user : 0x8000 ≤ psr) where
-      -- The look at an address of User mode's.
-      look : (a r₁ r₂ : ℕ) (c : Known) (bytes : List ℕ) (busy : ℕ) → busy ≤ 6 → privileged a ≡ false
-          → Comes s bound f W (W a r₁ r₂ 0x0210 c bytes busy) (lookSteps a) a 0x0218 bytes 1
-      look a r₁ r₂ c bytes busy few mine = look-at looks user a r₁ r₂ c bytes busy few mine
+    -- BRz is not taken.
+    not-zero : (a w r₂ : ℕ) (bytes : List ℕ) (busy : ℕ) → 0 < w
+        → (c : Known) × Leads s 0 bound f (W a w r₂ 0x0219 (from w) bytes busy) 1 f (W a w r₂ 0x021A c bytes (busy - 1))
+    unfolding computing
+    not-zero a w r₂ bytes busy some = elim (decLe 0x8000 w) [
+      | yes h ↦ (
+          from 0x8000,
+          then (known a w r₂ 0x0219 (from w) (from 0x8000) bytes busy (negative w h))
+          (runs quiet f sound 0 (omega arith) 1 (W a w r₂ 0x0219 (from 0x8000) bytes busy) refl),
+        )
+      | no h ↦ (
+          from 1,
+          then (known a w r₂ 0x0219 (from w) (from 1) bytes busy (positive w some (omega arith)))
+          (runs quiet f sound 0 (omega arith) 1 (W a w r₂ 0x0219 (from 1) bytes busy) refl),
+        )
+    ]
 
-      -- BRz is not taken; LDI, BRzp, STI, ADD, BRnzp.
-      shows-byte : (a w r₂ : ℕ) (bytes : List ℕ) → a < 0xFE00 → 0 < w → length bytes < length (s .output)
-          → Leads s 0 bound f (W a w r₂ 0x0219 (from w) bytes 0) 6 f
-          (W (suc a) w 0x8000 0x0210 (from (suc a)) (bytes ++ (w % 256) ∷ []) 6)
-      shows-byte a w r₂ bytes below some free =
-          let z : wrap (a + 1) ≡ suc a = omega arith in
-          let known-codes : Leads s 0 bound f (W a w r₂ 0x0219 (from w) bytes 0) 6 f
-          (W (wrap (a + 1)) w 0x8000 0x0210 (from (wrap (a + 1))) (bytes ++ (w % 256) ∷ []) 6) =
-          elim (decLe 0x8000 w) [
-            | yes h ↦ then (known a w r₂ 0x0219 (from w) (from 0x8000) bytes 0 (negative w h ∙ unfold codesOf in refl))
-                (shows 0x8000 (unfold computing in rw (lt-ltb (length bytes) (length (s .output)) free))
-                (unfold computing in refl))
-            | no h ↦ then
-                (known a w r₂ 0x0219 (from w) (from 1) bytes 0 (positive w some (omega arith) ∙ unfold codesOf in refl))
-                (shows 1 (unfold computing in rw (lt-ltb (length bytes) (length (s .output)) free))
-                (unfold computing in refl))
-          ] in
-          rw z at known-codes
-        where
-          shows : (x : ℕ) → maySteps 6 f (length (s .output)) (W a w r₂ 0x0219 (from x) bytes 0) ≡ true
-              → steppedBy 6 f (W a w r₂ 0x0219 (from x) bytes 0)
-              ≡ W (wrap (a + 1)) w 0x8000 0x0210 (from (wrap (a + 1))) (bytes ++ (w % 256) ∷ []) 6
-              → Leads s 0 bound f (W a w r₂ 0x0219 (from x) bytes 0) 6 f
-              (W (wrap (a + 1)) w 0x8000 0x0210 (from (wrap (a + 1))) (bytes ++ (w % 256) ∷ []) 6)
-          shows x may to =
-              rw to at (runs quiet f sound (length (s .output)) (omega arith) 6 (W a w r₂ 0x0219 (from x) bytes 0) may)
+    polls : (a w r₂ : ℕ) (c : Known) (bytes : List ℕ) (busy : ℕ) → Polls f (W a w r₂ 0x021A c bytes busy) 2 0x021A
+    unfolding computing
+    polls a w r₂ c bytes busy = record {
+      pointer = 0x0282;
+      loads = λ r c b. refl;
+      display = refl;
+      branches = λ r c b. refl;
+    }
+
+    -- STI, ADD, BRnzp.
+    shows : (a w : ℕ) (bytes : List ℕ) → a < 0xFE00 → length bytes < length (s .output)
+        → Leads s 0 bound f (W a w 0x8000 0x021C (from 0x8000) bytes 0) 3 f
+        (W (suc a) w 0x8000 0x0210 (from (suc a)) (bytes ++ (w % 256) ∷ []) 6)
+    shows a w bytes below free =
+        let z : wrap (a + 1) ≡ suc a = omega arith in
+        let l : Leads s 0 bound f (W a w 0x8000 0x021C (from 0x8000) bytes 0) 3 f
+        (W (wrap (a + 1)) w 0x8000 0x0210 (from (wrap (a + 1))) (bytes ++ (w % 256) ∷ []) 6) =
+        unfold computing in
+        runs quiet f sound (length (s .output)) (omega arith) 3 (W a w 0x8000 0x021C (from 0x8000) bytes 0)
+        (rw (lt-ltb (length bytes) (length (s .output)) free)) in
+        rw z at l
+
+    shows-byte : (a w r₂ : ℕ) (bytes : List ℕ) (busy : ℕ) → a < 0xFE00 → 0 < w → length bytes < length (s .output)
+        → Leads s 0 bound f (W a w r₂ 0x0219 (from w) bytes busy) (1 + (waitSteps (busy - 1) + 3)) f
+        (W (suc a) w 0x8000 0x0210 (from (suc a)) (bytes ++ (w % 256) ∷ []) 6)
+    shows-byte a w r₂ bytes busy below some free =
+        let first = not-zero a w r₂ bytes busy some in
+        let v : View = W a w r₂ 0x021A (first .0) bytes (busy - 1) in
+        let ready : Leads s 0 bound f v (waitSteps (busy - 1)) f (W a w 0x8000 0x021C (from 0x8000) bytes 0) =
+        waits quiet f sound v refl refl 2 0x021A (polls a w r₂ (first .0) bytes (busy - 1)) (busy - 1) (v .regs)
+        (first .0) in
+        then (first .1) (then ready (shows a w bytes below free))
+
+    module _ (mode : inUserMode psr ≡ user) where
+      look : (a r₁ r₂ : ℕ) (c : Known) (bytes : List ℕ) (busy : ℕ) → busy ≤ 6 → mayRead user 0x2FFB a ≡ true
+          → Comes s bound f W (W a r₁ r₂ 0x0210 c bytes busy) (lookSteps user a) a 0x0218 bytes
+          (busy - lookSteps user a)
+      look a r₁ r₂ c bytes busy few may = look-at looks a r₁ r₂ c bytes busy user mode few 0x2FFB may
 
       -- A word that is shown.
-      shows-word : (a w r₁ r₂ : ℕ) (c : Known) (bytes : List ℕ) (busy : ℕ) → busy ≤ 6 → privileged a ≡ false
+      shows-word : (a w r₁ r₂ : ℕ) (c : Known) (bytes : List ℕ) (busy : ℕ) → busy ≤ 6 → mayRead user 0x2FFB a ≡ true
           → getD (s .memory) a 0 ≡ w → 0 < w → length bytes < length (s .output)
-          → Comes s bound f W (W a r₁ r₂ 0x0210 c bytes busy) (lookSteps a + 7) (suc a) 0x0210
+          → Comes s bound f W (W a r₁ r₂ 0x0210 c bytes busy)
+          (lookSteps user a + (2 + (waitSteps (busy - lookSteps user a - 2) + 3))) (suc a) 0x0210
           (bytes ++ (w % 256) ∷ []) 6
-      shows-word a w r₁ r₂ c bytes busy few mine is some free =
-          let l = look a r₁ r₂ c bytes busy few mine in
+      shows-word a w r₁ r₂ c bytes busy few may is some free =
+          let l = look a r₁ r₂ c bytes busy few may in
+          let left : ℕ = busy - lookSteps user a in
+          let z : left - 1 - 1 ≡ left - 2 = two-less left in
+          let y : lookSteps user a + (1 + (1 + (waitSteps (left - 2) + 3)))
+          ≡ lookSteps user a + (2 + (waitSteps (left - 2) + 3)) = omega arith in
           record {
             r₁ = w;
             r₂ = 0x8000;
             codes = from (suc a);
-            busy = 6;
-            few = omega arith;
-            leads = then (l .leads)
-                (then (gets a (l .r₁) (l .r₂) (l .codes) bytes (l .busy) (l .few) w mine is)
-                (shows-byte a w (l .r₂) bytes (user-address a mine .1) some free));
+            leads = rw (z, y) at (then (l .leads)
+                (then (gets a (l .r₁) (l .r₂) (l .codes) bytes left w may is)
+                (shows-byte a w (l .r₂) bytes (left - 1) (readable user 0x2FFB a may .0) some free)));
           }
+        where
+          two-less : (b : ℕ) → b - 1 - 1 ≡ b - 2
+          two-less b = omega arith
 
-      -- All of them.
+      -- All of them, with some busy count at the end.
+      record All (v : View) (n b : ℕ) (bytes : List ℕ) : Type 0 where
+        busy : ℕ
+        few : busy ≤ 6
+        comes : Comes s bound f W v n b 0x0210 bytes busy
+
       abbrev ShowsAll : List ℕ → Type 0
       ShowsAll words = (a b r₁ r₂ : ℕ) (c : Known) (bytes : List ℕ) (busy : ℕ) → busy ≤ 6
-          → StringFrom (s .memory) a words b → length bytes + length words ≤ length (s .output)
-          → Comes s bound f W (W a r₁ r₂ 0x0210 c bytes busy) (wordSteps a words) b 0x0210 (bytes ++ lowBytes words) 6
+          → StringFrom (mayRead user 0x2FFB) (s .memory) a words b → length bytes + length words ≤ length (s .output)
+          → All (W a r₁ r₂ 0x0210 c bytes busy) (wordSteps user busy a words) b (bytes ++ lowBytes words)
 
       shows-none : ShowsAll []
       unfolding wordSteps
       shows-none a b r₁ r₂ c bytes busy few string room = record {
-        r₁ = r₁;
-        r₂ = r₂;
-        codes = c;
         busy = busy;
         few = few;
-        leads = rw (← string, append-nil bytes) (no-step f (W a r₁ r₂ 0x0210 c bytes busy));
+        comes = record {
+          r₁ = r₁;
+          r₂ = r₂;
+          codes = c;
+          leads = rw (← string, append-nil bytes) (no-step f (W a r₁ r₂ 0x0210 c bytes busy));
+        };
       }
 
       shows-more : (w : ℕ) (words : List ℕ) → ShowsAll words → ShowsAll (w ∷ words)
@@ -172,15 +216,17 @@ module _ (s : Start) (x : Eight (s .machine .regs)) where
       shows-more w words rest a b r₁ r₂ c bytes busy few string room =
           let first = shows-word a w r₁ r₂ c bytes busy few (string .0) (string .1) (string .2) (omega arith) in
           let longer : length (bytes ++ (w % 256) ∷ []) ≡ length bytes + 1 = length-append bytes ((w % 256) ∷ []) in
-          let others = rest (suc a) b (first .r₁) (first .r₂) (first .codes) (bytes ++ (w % 256) ∷ []) (first .busy)
-          (first .few) (string .3) (omega arith) in
+          let others = rest (suc a) b (first .r₁) (first .r₂) (first .codes) (bytes ++ (w % 256) ∷ []) 6 (omega arith)
+          (string .3) (omega arith) in
           record {
-            r₁ = others .r₁;
-            r₂ = others .r₂;
-            codes = others .codes;
             busy = others .busy;
             few = others .few;
-            leads = rw (append-snoc bytes (w % 256) (lowBytes words)) at (then (first .leads) (others .leads));
+            comes = record {
+              r₁ = others .comes .r₁;
+              r₂ = others .comes .r₂;
+              codes = others .comes .codes;
+              leads = rw (append-snoc bytes (w % 256) (lowBytes words)) at (then (first .leads) (others .comes .leads));
+            };
           }
 
       shows-all : (words : List ℕ) → ShowsAll words
@@ -188,11 +234,11 @@ module _ (s : Start) (x : Eight (s .machine .regs)) where
       shows-all (w ∷ words) = shows-more w words (shows-all words)
 
       -- The end: BRz is taken, and the registers are restored.
-      restores : (b r₂ : ℕ) (bytes : List ℕ)
-          → Leads s 0 bound f (W b 0 r₂ 0x0219 (from 0) bytes 0) 5 f
-          (steppedBy 5 f (W b 0 r₂ 0x0219 (from 0) bytes 0))
+      restores : (b r₂ : ℕ) (bytes : List ℕ) (busy : ℕ)
+          → Leads s 0 bound f (W b 0 r₂ 0x0219 (from 0) bytes busy) 5 f
+          (steppedBy 5 f (W b 0 r₂ 0x0219 (from 0) bytes busy))
       unfolding computing
-      restores b r₂ bytes = runs quiet f sound 0 (omega arith) 5 (W b 0 r₂ 0x0219 (from 0) bytes 0) refl
+      restores b r₂ bytes busy = runs quiet f sound 0 (omega arith) 5 (W b 0 r₂ 0x0219 (from 0) bytes busy) refl
 
       -- The refusal: the registers are restored, and STOP halts.
       stops : (b r₁ r₂ : ℕ) (c : Known) (bytes : List ℕ)
@@ -202,112 +248,128 @@ module _ (s : Start) (x : Eight (s .machine .regs)) where
 
 -- ---- the theorem
 
-module _ (s : Start) (n : ℕ) (c : Calls 0x22 putsCode true s n) (x : Eight (s .machine .regs)) (words : List ℕ) (b : ℕ)
-    (string : StringFrom (s .memory) (r0 s) words b) (room : length words ≤ length (s .output)) (bound : ℕ)
-    (some : 5 ≤ bound) (quiet : Quiet s 0 bound) where
-  sound : Sound (f s x)
-  sound = called-sound uses true s (is-intact s n (c .begins))
+five-less : (busy : ℕ) → busy - 1 - 1 - 1 - 1 - 1 ≡ busy - 5
+five-less busy = omega arith
 
-  user : 0x8000 ≤ s .machine .psr
-  user = unfold inUserMode in leb-true 0x8000 (s .machine .psr) (c .begins .mode)
+module _ (user : Bool) (s : Start) (n : ℕ) (c : Calls 0x22 putsCode user s n) (x : Eight (s .machine .regs))
+    (words : List ℕ) (b : ℕ) (string : StringFrom (mayRead user 0x2FFB) (s .memory) (r0 s) words b)
+    (room : length words ≤ length (s .output)) (bound : ℕ) (some : 5 ≤ bound) (quiet : Quiet s 0 bound) where
+  sound : Sound (f user s x)
+  sound = called-sound uses user s (is-intact s n (c .begins))
+
+  abbrev mode : inUserMode (s .machine .psr) ≡ user
+  mode = c .begins .mode
+
+  abbrev left : ℕ
+  left = s .machine .devices .busy - 5
 
   first : r0 s ≡ x .r₀
   first = rw (x .are)
 
-  all : Comes s bound (f s x) (W s x)
-      (W s x (x .r₀) (x .r₁) (x .r₂) 0x0210 (from 0x2FFB) [] (s .machine .devices .busy - 1 - 1 - 1 - 1 - 1))
-      (wordSteps (r0 s) words) b 0x0210 (lowBytes words) 6
+  all : All user s x bound quiet sound mode (W user s x (x .r₀) (x .r₁) (x .r₂) 0x0210 (from 0x2FFB) [] left)
+      (wordSteps user left (r0 s) words) b (lowBytes words)
   all =
+      let few = accepted-is-acceptable s n (c .begins .accepted) .defined .devices .busy in
       rw first
-      (shows-all s x bound quiet sound user words (x .r₀) b (x .r₁) (x .r₂) (from 0x2FFB) []
-      (s .machine .devices .busy - 1 - 1 - 1 - 1 - 1)
-      (few (s .machine .devices .busy)
-      (accepted-is-acceptable s n (c .begins .accepted) .defined .devices .busy)) (rw first at string) (omega arith))
-    where
-      few : (busy : ℕ) → busy ≤ 8 → busy - 1 - 1 - 1 - 1 - 1 ≤ 6
-      few busy h = omega arith
+      (shows-all user s x bound quiet sound mode words (x .r₀) b (x .r₁) (x .r₂) (from 0x2FFB) [] left (omega arith)
+      (rw first at string) (omega arith))
 
-  at-look : 5 + wordSteps (r0 s) words ≤ bound
-      → At s 0 (5 + wordSteps (r0 s) words) (f s x)
-      (W s x b (all .r₁) (all .r₂) 0x0210 (all .codes) (lowBytes words) (all .busy))
+  abbrev looking : View
+  looking =
+      W user s x b (all .comes .r₁) (all .comes .r₂) 0x0210 (all .comes .codes) (lowBytes words) (all .busy)
+
+  at-look : stringSteps user s words ≤ bound → At s 0 (stringSteps user s words) (f user s x) looking
   unfolding vectorWord
   at-look le =
-      let z : 1 + (4 + wordSteps (r0 s) words) ≡ 5 + wordSteps (r0 s) words = omega arith in
-      rw z at (then (begins s x bound quiet sound) (all .leads) .on (omega arith)
-      (routine-begins putsCode true s n bound x 0x22 0x020C c quiet (omega arith) (omega arith) refl))
+      let z : 1 + (4 + wordSteps user left (r0 s) words) ≡ stringSteps user s words = omega arith in
+      rw z at (then (rw (five-less (s .machine .devices .busy)) at (begins user s x bound quiet sound))
+      (all .comes .leads) .on (omega arith)
+      (routine-begins putsCode user s n bound x 0x22 0x020C c quiet (omega arith) (omega arith) refl))
 
   -- ---- a string that ends
 
-  module _ (mine : privileged b ≡ false) (zero-word : getD (s .memory) b 0 ≡ 0) where
-    seen : Comes s bound (f s x) (W s x) (W s x b (all .r₁) (all .r₂) 0x0210 (all .codes) (lowBytes words) (all .busy))
-        (lookSteps b) b 0x0218 (lowBytes words) 1
+  module _ (may : mayRead user 0x2FFB b ≡ true) (zero-word : getD (s .memory) b 0 ≡ 0) where
+    seen : Comes s bound (f user s x) (W user s x) looking (lookSteps user b) b 0x0218 (lowBytes words)
+        (all .busy - lookSteps user b)
     seen =
-        look s x bound quiet sound user b (all .r₁) (all .r₂) (all .codes) (lowBytes words) (all .busy) (all .few) mine
+        look user s x bound quiet sound mode b (all .comes .r₁) (all .comes .r₂) (all .comes .codes) (lowBytes words)
+        (all .busy) (all .few) may
 
     returning : View
-    returning = steppedBy 5 (f s x) (W s x b 0 (seen .r₂) 0x0219 (from 0) (lowBytes words) 0)
+    returning =
+        steppedBy 5 (f user s x)
+        (W user s x b 0 (seen .r₂) 0x0219 (from 0) (lowBytes words) (all .busy - lookSteps user b - 1))
 
-    at-return : AtReturn uses true s returning
+    at-return : AtReturn uses user s returning
     unfolding returning computing
     at-return = record { plan = refl; six = refl; pc = refl; psr = refl; fine = refl; going = refl }
 
     abbrev j : ℕ
-    j = 5 + wordSteps (r0 s) words + (lookSteps b + 6)
+    j = stringSteps user s words + (lookSteps user b + 6)
 
-    at-rti : j ≤ bound → At s 0 j (f s x) returning
+    at-rti : j ≤ bound → At s 0 j (f user s x) returning
     unfolding returning
     at-rti le =
         then (seen .leads)
         (then
-        (gets s x bound quiet sound b (seen .r₁) (seen .r₂) (seen .codes) (lowBytes words) (seen .busy) (seen .few) 0
-        mine zero-word)
-        (restores s x bound quiet sound user b (seen .r₂) (lowBytes words)))
+        (gets user s x bound quiet sound b (seen .r₁) (seen .r₂) (seen .codes) (lowBytes words)
+        (all .busy - lookSteps user b) 0 may zero-word)
+        (restores user s x bound quiet sound mode b (seen .r₂) (lowBytes words) (all .busy - lookSteps user b - 1)))
         .on (omega arith) (at-look (omega arith))
 
     comes : bound ≡ j + 1 → j + 1 ≤ n → Resumes s n (j + 1) (lowBytes words) 0x2FFB (s .machine .regs) (notRead s)
     unfolding returning computing
     comes e le =
-        comes-back uses true s n j returning (c .begins) (rw e at quiet) (at-rti (omega arith)) at-return le 0x2FFB refl
+        comes-back uses user s n j returning (c .begins) (rw e at quiet) (at-rti (omega arith)) at-return le 0x2FFB refl
         (s .machine .regs) (rw (x .are)) (notRead s) (none-read s returning refl refl)
 
-  -- ---- one that does not
+-- ---- one that does not
 
-  module _ (privileged-word : privileged b ≡ true) (below : b < 65536) where
-    bad : Comes s bound (f s x) (W s x) (W s x b (all .r₁) (all .r₂) 0x0210 (all .codes) (lowBytes words) (all .busy)) 8
-        b 0x0224 (lowBytes words) 0
-    bad =
-        look-refused (looks s x bound quiet sound) user b (all .r₁) (all .r₂) (all .codes) (lowBytes words) (all .busy)
-        (all .few) below privileged-word
+module _ (s : Start) (n : ℕ) (c : Calls 0x22 putsCode true s n) (x : Eight (s .machine .regs)) (words : List ℕ) (b : ℕ)
+    (string : StringFrom (mayRead true 0x2FFB) (s .memory) (r0 s) words b) (room : length words ≤ length (s .output))
+    (quiet : Quiet s 0 (refusedSteps s words)) (privileged-word : privileged b ≡ true) (below : b < 65536) where
+  abbrev shown : All true s x (refusedSteps s words) quiet
+      (sound true s n c x words b string room (refusedSteps s words) (omega arith) quiet) (c .begins .mode)
+      (W true s x (x .r₀) (x .r₁) (x .r₂) 0x0210 (from 0x2FFB) [] (s .machine .devices .busy - 5))
+      (wordSteps true (s .machine .devices .busy - 5) (r0 s) words) b (lowBytes words)
+  shown = all true s n c x words b string room (refusedSteps s words) (omega arith) quiet
 
-    stopped : View
-    stopped = steppedBy 6 (f s x) (W s x b (bad .r₁) (bad .r₂) 0x0224 (bad .codes) (lowBytes words) 0)
+  bad : Comes s (refusedSteps s words) (f true s x) (W true s x)
+      (looking true s n c x words b string room (refusedSteps s words) (omega arith) quiet) 8 b 0x0224 (lowBytes words) 0
+  bad =
+      look-refused
+      (looks true s x (refusedSteps s words) quiet
+      (sound true s n c x words b string room (refusedSteps s words) (omega arith) quiet))
+      b (shown .comes .r₁) (shown .comes .r₂) (shown .comes .codes) (lowBytes words) (shown .busy)
+      (unfold inUserMode in leb-true 0x8000 (s .machine .psr) (c .begins .mode)) (shown .few) below privileged-word
 
-    at-stop : refusedSteps (r0 s) words ≤ bound → At s 0 (refusedSteps (r0 s) words) (f s x) stopped
-    unfolding stopped
-    at-stop le =
-        let z : bad .busy ≡ 0 = omega (arith, bad .few) in
-        then (rw z at (bad .leads))
-        (stops s x bound quiet sound user b (bad .r₁) (bad .r₂) (bad .codes) (lowBytes words))
-        .on (omega arith) (at-look (omega arith))
+  stopped : View
+  stopped = steppedBy 6 (f true s x) (W true s x b (bad .r₁) (bad .r₂) 0x0224 (bad .codes) (lowBytes words) 0)
 
-    refuses : refusedSteps (r0 s) words ≤ bound → refusedSteps (r0 s) words < n
-        → Halts s n (refusedSteps (r0 s) words) (lowBytes words) 0x2FFB
-    unfolding stopped computing
-    refuses le more =
-        halts (at-stop le) n (c .begins) 0x2FFB refl refl refl refl refl more (rw (x .are)) refl refl refl
-        refl refl
+  at-stop : At s 0 (refusedSteps s words) (f true s x) stopped
+  unfolding stopped
+  at-stop =
+      then (bad .leads)
+      (stops true s x (refusedSteps s words) quiet
+      (sound true s n c x words b string room (refusedSteps s words) (omega arith) quiet) (c .begins .mode) b
+      (bad .r₁) (bad .r₂) (bad .codes) (lowBytes words))
+      .on (omega arith)
+      (at-look true s n c x words b string room (refusedSteps s words) (omega arith) quiet (omega arith))
+
+  refuses : refusedSteps s words < n → Halts s n (refusedSteps s words) (lowBytes words) 0x2FFB
+  unfolding stopped computing
+  refuses more =
+      halts at-stop n (c .begins) 0x2FFB refl refl refl refl refl more (rw (x .are)) refl refl refl refl refl
 
 pub puts-shows : PutsShows
 puts-shows = record {
-  shows = λ s n c words b string mine zero-word room le none.
-      let z : 5 + wordSteps (r0 s) words + (lookSteps b + 6) + 1 ≡ putsSteps (r0 s) words b = omega arith in
-      rw z at (comes s n c (eight (s .machine .regs) (c .begins .registers)) words b string room
-      (putsSteps (r0 s) words b) (omega arith)
-      (quiet-steps s n (putsSteps (r0 s) words b) 0 (c .begins .accepted) le none) mine zero-word (sym z)
+  shows = λ user s n c words b string may zero-word room le none.
+      let z : stringSteps user s words + (lookSteps user b + 6) + 1 ≡ putsSteps user s words b = omega arith in
+      rw z at (comes user s n c (eight (s .machine .regs) (c .begins .registers)) words b string room
+      (putsSteps user s words b) (omega arith)
+      (quiet-steps s n (putsSteps user s words b) 0 (c .begins .accepted) le none) may zero-word (sym z)
       (rw z le));
   is-refused = λ s n c words b string privileged-word below room more none.
-      refuses s n c (eight (s .machine .regs) (c .begins .registers)) words b string room (refusedSteps (r0 s) words)
-      (omega arith)
-      (quiet-steps s n (refusedSteps (r0 s) words) 0 (c .begins .accepted) (omega arith) none) privileged-word below
-      (omega arith) more;
+      refuses s n c (eight (s .machine .regs) (c .begins .registers)) words b string room
+      (quiet-steps s n (refusedSteps s words) 0 (c .begins .accepted) (omega arith) none) privileged-word below more;
 }

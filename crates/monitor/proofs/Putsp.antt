@@ -7,6 +7,7 @@ use mathlib.Core.Path.{_≡_, refl, sym, ap, _∙_}
 use mathlib.Core.Bool.{Bool, true, false, cond}
 use mathlib.Core.List.{List, [], _∷_, _++_, append-nil, append-assoc}
 use borrow.Author.Tests.{lt-ltb, leb-true, ne-eqb}
+use lib.Dec.{leb}
 use lib.Bits.{and-mask, and-zero-r}
 use lib.ListN.{length, getD, length-append}
 use Rattle.machine.specs.Words.{next, wrap, wordAnd}
@@ -18,7 +19,7 @@ use Rattle.run.proofs.Acceptance.{accepted-is-acceptable}
 use Rattle.monitor.specs.Vectors.{vectorWord}
 use Rattle.monitor.specs.Uses.{withVector, putspCode}
 use Rattle.monitor.specs.Calls.{Calls, notRead, Resumes, Halts}
-use Rattle.monitor.specs.Puts.{StringFrom, lookSteps, r0}
+use Rattle.monitor.specs.Puts.{mayRead, StringFrom, lookSteps, r0}
 use Rattle.monitor.specs.Putsp.{AreWords, unlessZero, pairBytes, shiftSteps, byteSteps, pairSteps, pairsSteps}
 use Rattle.monitor.specs.Putsp.{putspSteps, refusedPairSteps, PutspShows}
 use Rattle.monitor.proofs.Execution.{Frame, Known, from, codesNumber, cell, View, At, Quiet, Leads}
@@ -27,7 +28,7 @@ use Rattle.monitor.proofs.Instructions.{Sound, steppedBy, runs, computi
 use Rattle.monitor.proofs.Entries.{calledFrame, called-sound, recoded}
 use Rattle.monitor.proofs.Calls.{is-intact, quiet-steps, Eight, eight, begun, routine-begins, halts}
 use Rattle.monitor.proofs.Calls.{AtReturn, comes-back, none-read}
-use Rattle.monitor.proofs.Strings.{user-address, negative, positive, Looks, Comes, look-at, look-refused}
+use Rattle.monitor.proofs.Strings.{readable, negative, positive, Looks, Comes, look-at, look-refused}
 use Rattle.monitor.proofs.Strings.{below-two, gets-word}
 
 -- AND with x00FF.
@@ -70,9 +71,9 @@ high-byte w h = go (shifted 8 w 0) (both-double 8 w 0 w (omega arith) h)
 abbrev uses : ℕ → Bool
 uses = withVector 0x24 putspCode
 
-module _ (s : Start) (x : Eight (s .machine .regs)) where
+module _ (user : Bool) (s : Start) (x : Eight (s .machine .regs)) where
   abbrev f : Frame
-  f = calledFrame uses true s
+  f = calledFrame uses user s
 
   abbrev psr : ℕ
   psr = s .machine .psr
@@ -112,6 +113,12 @@ module _ (s : Start) (x : Eight (s .machine .regs)) where
     unfolding computing
     looks r₃ = record {
       loads-psr = λ a r₁ r₂ c bytes busy. runs quiet f sound 0 (omega arith) 1 (W r₃ a r₁ r₂ 0x0242 c bytes busy) refl;
+      skips = λ a r₁ r₂ x l bytes busy.
+          below-two
+          (λ (x : ℕ). Leads s 0 bound f (W r₃ a r₁ r₂ 0x0243 (from x) bytes busy) 1 f
+          (W r₃ a r₁ r₂ 0x024A (from x) bytes (busy - 1)))
+          (runs quiet f sound 0 (omega arith) 1 (W r₃ a r₁ r₂ 0x0243 (from 0) bytes busy) refl)
+          (runs quiet f sound 0 (omega arith) 1 (W r₃ a r₁ r₂ 0x0243 (from 1) bytes busy) refl) x l;
       adds-above = λ a r₁ r₂ bytes busy.
           runs quiet f sound 0 (omega arith) 3 (W r₃ a r₁ r₂ 0x0243 (from 0x8000) bytes busy) refl;
       goes-on = λ a r₁ r₂ bytes busy.
@@ -133,14 +140,14 @@ module _ (s : Start) (x : Eight (s .machine .regs)) where
       knows = known r₃;
     }
 
-    -- From the look to the word, with the display ready.
-    gets : (r₃ a r₁ r₂ : ℕ) (c : Known) (bytes : List ℕ) (busy : ℕ) → busy ≤ 1 → (w : ℕ) → privileged a ≡ false
+    -- From the look to the word.
+    gets : (r₃ a r₁ r₂ : ℕ) (c : Known) (bytes : List ℕ) (busy w : ℕ) → mayRead user 0x2FFA a ≡ true
         → getD (s .memory) a 0 ≡ w
-        → Leads s 0 bound f (W r₃ a r₁ r₂ 0x024A c bytes busy) 1 f (W r₃ a w r₂ 0x024B (from w) bytes 0)
+        → Leads s 0 bound f (W r₃ a r₁ r₂ 0x024A c bytes busy) 1 f (W r₃ a w r₂ 0x024B (from w) bytes (busy - 1))
     unfolding computing
-    gets r₃ a r₁ r₂ c bytes busy few w mine is =
-        let z : busy - 1 ≡ 0 = omega arith in
-        rw z at (gets-word quiet f sound (W r₃ a r₁ r₂ 0x024A c bytes busy) refl refl 0x2FFA refl a w mine refl is)
+    gets r₃ a r₁ r₂ c bytes busy w may is =
+        let r = readable user 0x2FFA a may in
+        gets-word quiet f sound (W r₃ a r₁ r₂ 0x024A c bytes busy) refl refl 0x2FFA refl a w (r .0) (r .1) refl is
 
     -- Codes of a value that is not zero: positive or negative.
     not-zero : (r₃ a r₁ r₂ pc w n : ℕ) (bytes : List ℕ) (busy : ℕ) (v : View) → 0 < w
@@ -155,15 +162,18 @@ module _ (s : Start) (x : Eight (s .machine .regs)) where
           | no h ↦ rw z at (then (known r₃ a r₁ r₂ pc (from w) (from 1) bytes busy (positive w some (omega arith))) p)
         ]
 
-    -- BRz is not taken; LD, AND.
-    masks : (r₃ a w r₂ : ℕ) (bytes : List ℕ) → 0 < w → w < 65536
-        → Leads s 0 bound f (W r₃ a w r₂ 0x024B (from w) bytes 0) 3 f
+    -- BRz is not taken; LD, AND. Then the display is ready.
+    masks : (r₃ a w r₂ : ℕ) (bytes : List ℕ) (busy : ℕ) → busy ≤ 3 → 0 < w → w < 65536
+        → Leads s 0 bound f (W r₃ a w r₂ 0x024B (from w) bytes busy) 3 f
         (W r₃ a w (w % 256) 0x024E (from (w % 256)) bytes 0)
-    masks r₃ a w r₂ bytes some below =
-        rw (← (low-byte w below))
-        (not-zero r₃ a w r₂ 0x024B w 3 bytes 0 (W r₃ a w (wordAnd w 0x00FF) 0x024E (from (wordAnd w 0x00FF)) bytes 0)
-        some (unfold computing in runs quiet f sound 0 (omega arith) 3 (W r₃ a w r₂ 0x024B (from 1) bytes 0) refl)
-        (unfold computing in runs quiet f sound 0 (omega arith) 3 (W r₃ a w r₂ 0x024B (from 0x8000) bytes 0) refl))
+    masks r₃ a w r₂ bytes busy few some below =
+        let z : busy - 1 - 1 - 1 ≡ 0 = omega arith in
+        let l = not-zero r₃ a w r₂ 0x024B w 3 bytes busy
+        (W r₃ a w (wordAnd w 0x00FF) 0x024E (from (wordAnd w 0x00FF)) bytes (busy - 1 - 1 - 1)) some
+        (unfold computing in runs quiet f sound 0 (omega arith) 3 (W r₃ a w r₂ 0x024B (from 1) bytes busy) refl)
+        (unfold computing in runs quiet f sound 0 (omega arith) 3 (W r₃ a w r₂ 0x024B (from 0x8000) bytes busy) refl)
+        in
+        rw (← (low-byte w below)) (rw z at l)
 
     -- ---- a byte that is shown unless it is zero
 
@@ -419,25 +429,27 @@ module _ (s : Start) (x : Eight (s .machine .regs)) where
       few : busy ≤ 6
       leads : Leads s 0 bound f v n f (W r₃ a r₁ r₂ 0x0242 codes bytes busy)
 
-    module _ (user : 0x8000 ≤ psr) where
-      shows-pair : (a w r₁ r₂ r₃ : ℕ) (c : Known) (bytes : List ℕ) (busy : ℕ) → busy ≤ 6 → privileged a ≡ false
-          → getD (s .memory) a 0 ≡ w → 0 < w → w < 65536
+    module _ (mode : inUserMode psr ≡ user) where
+      shows-pair : (a w r₁ r₂ r₃ : ℕ) (c : Known) (bytes : List ℕ) (busy : ℕ) → busy ≤ 6
+          → mayRead user 0x2FFA a ≡ true → getD (s .memory) a 0 ≡ w → 0 < w → w < 65536
           → length bytes + (length (unlessZero (w % 256)) + length (unlessZero (w / 256))) ≤ length (s .output)
-          → Pairs (W r₃ a r₁ r₂ 0x0242 c bytes busy) (pairSteps a w) (suc a)
+          → Pairs (W r₃ a r₁ r₂ 0x0242 c bytes busy) (pairSteps user a w) (suc a)
           (bytes ++ unlessZero (w % 256) ++ unlessZero (w / 256))
-      shows-pair a w r₁ r₂ r₃ c bytes busy few mine is some fits room =
+      shows-pair a w r₁ r₂ r₃ c bytes busy few may is some fits room =
           let bytes′ : List ℕ = bytes ++ unlessZero (w % 256) in
           let longer : length bytes′ ≡ length bytes + length (unlessZero (w % 256)) =
           length-append bytes (unlessZero (w % 256)) in
-          let l = look-at (looks r₃) user a r₁ r₂ c bytes busy few mine in
+          let l = look-at (looks r₃) a r₁ r₂ c bytes busy user mode few 0x2FFA may in
+          let left : ℕ = busy - lookSteps user a in
+          let ready : left - 1 ≤ 3 = soon user busy few in
           let low = low-part r₃ a w (w % 256) bytes (omega arith) (omega arith) in
           let first-four : low .busy - 1 - 1 ≤ 6 = omega (arith, low .few) in
           let bits = all-bits 7 a w 0 (from 8) bytes′ (low .busy - 1 - 1) first-four fits
           (unfold limit in omega arith) (omega arith) in
           let high = high-part 0 a (bits .0) (w / 256) bytes′ (omega arith) (omega arith) in
-          let z : lookSteps a
+          let z : lookSteps user a
           + (1 + (3 + (1 + byteSteps (w % 256) + (2 + (shiftSteps 8 w + (1 + (1 + byteSteps (w / 256) + 2)))))))
-          ≡ pairSteps a w = omega arith in
+          ≡ pairSteps user a w = omega arith in
           record {
             r₁ = bits .0;
             r₂ = w / 256;
@@ -446,23 +458,32 @@ module _ (s : Start) (x : Eight (s .machine .regs)) where
             busy = high .busy - 1 - 1;
             few = omega (arith, high .few);
             leads = rw z at (then (l .leads)
-                (then (gets r₃ a (l .r₁) (l .r₂) (l .codes) bytes (l .busy) (l .few) w mine is)
-                (then (masks r₃ a w (l .r₂) bytes some fits)
+                (then (gets r₃ a (l .r₁) (l .r₂) (l .codes) bytes left w may is)
+                (then (masks r₃ a w (l .r₂) bytes (left - 1) ready some fits)
                 (then (low .leads)
                 (then (clears (low .r₃) a w (w % 256) (low .codes) bytes′ (low .busy) (omega arith))
                 (then (rw (high-byte w fits) at (bits .1))
                 (then (tests a (bits .0) (w / 256) bytes′ (omega arith))
                 (then (high .leads)
                 (goes-on (high .r₃) a (bits .0) (w / 256) (high .codes) (bytes′ ++ unlessZero (w / 256)) (high .busy)
-                (user-address a mine .1))))))))));
+                (readable user 0x2FFA a may .0))))))))));
           }
+        where
+          -- The look takes two steps at least.
+          soon : (b : Bool) (busy : ℕ) → busy ≤ 6 → busy - lookSteps b a - 1 ≤ 3
+          soon true busy h = go (leb 0x7E00 a)
+            where
+              go : (high : Bool) → busy - cond high 5 8 - 1 ≤ 3
+              go true = omega arith
+              go false = omega arith
+          soon false busy h = omega arith
 
       -- All of them.
       abbrev ShowsAll : List ℕ → Type 0
       ShowsAll words = (a b r₁ r₂ r₃ : ℕ) (c : Known) (bytes : List ℕ) (busy : ℕ) → busy ≤ 6
-          → StringFrom (s .memory) a words b → AreWords words
+          → StringFrom (mayRead user 0x2FFA) (s .memory) a words b → AreWords words
           → length bytes + length (pairBytes words) ≤ length (s .output)
-          → Pairs (W r₃ a r₁ r₂ 0x0242 c bytes busy) (pairsSteps a words) b (bytes ++ pairBytes words)
+          → Pairs (W r₃ a r₁ r₂ 0x0242 c bytes busy) (pairsSteps user a words) b (bytes ++ pairBytes words)
 
       shows-none : ShowsAll []
       unfolding pairsSteps pairBytes
@@ -519,11 +540,12 @@ module _ (s : Start) (x : Eight (s .machine .regs)) where
       shows-all (w ∷ words) = shows-more w words (shows-all words)
 
       -- The end: BRz is taken, and the registers are restored.
-      restores : (r₃ b r₂ : ℕ) (bytes : List ℕ)
-          → Leads s 0 bound f (W r₃ b 0 r₂ 0x024B (from 0) bytes 0) 6 f
-          (steppedBy 6 f (W r₃ b 0 r₂ 0x024B (from 0) bytes 0))
+      restores : (r₃ b r₂ : ℕ) (bytes : List ℕ) (busy : ℕ)
+          → Leads s 0 bound f (W r₃ b 0 r₂ 0x024B (from 0) bytes busy) 6 f
+          (steppedBy 6 f (W r₃ b 0 r₂ 0x024B (from 0) bytes busy))
       unfolding computing
-      restores r₃ b r₂ bytes = runs quiet f sound 0 (omega arith) 6 (W r₃ b 0 r₂ 0x024B (from 0) bytes 0) refl
+      restores r₃ b r₂ bytes busy =
+          runs quiet f sound 0 (omega arith) 6 (W r₃ b 0 r₂ 0x024B (from 0) bytes busy) refl
 
       -- The refusal: the registers are restored, and STOP halts.
       stops : (r₃ b r₁ r₂ : ℕ) (c : Known) (bytes : List ℕ)
@@ -533,121 +555,138 @@ module _ (s : Start) (x : Eight (s .machine .regs)) where
 
 -- ---- the theorem
 
-module _ (s : Start) (n : ℕ) (c : Calls 0x24 putspCode true s n) (x : Eight (s .machine .regs)) (words : List ℕ) (b : ℕ)
-    (string : StringFrom (s .memory) (r0 s) words b) (fit : AreWords words)
-    (room : length (pairBytes words) ≤ length (s .output)) (bound : ℕ) (some : 6 ≤ bound) (quiet : Quiet s 0 bound)
+six-less : (busy : ℕ) → busy ≤ 8 → busy - 1 - 1 - 1 - 1 - 1 - 1 ≤ 6
+six-less busy h = five-less (busy - 1) (omega arith)
   where
-    sound : Sound (f s x)
-    sound = called-sound uses true s (is-intact s n (c .begins))
+    five-less : (b : ℕ) → b ≤ 7 → b - 1 - 1 - 1 - 1 - 1 ≤ 6
+    five-less b h = omega arith
 
-    user : 0x8000 ≤ s .machine .psr
-    user = unfold inUserMode in leb-true 0x8000 (s .machine .psr) (c .begins .mode)
+module _ (user : Bool) (s : Start) (n : ℕ) (c : Calls 0x24 putspCode user s n) (x : Eight (s .machine .regs))
+    (words : List ℕ) (b : ℕ) (string : StringFrom (mayRead user 0x2FFA) (s .memory) (r0 s) words b)
+    (fit : AreWords words) (room : length (pairBytes words) ≤ length (s .output)) (bound : ℕ) (some : 6 ≤ bound)
+    (quiet : Quiet s 0 bound) where
+  sound : Sound (f user s x)
+  sound = called-sound uses user s (is-intact s n (c .begins))
 
-    first : r0 s ≡ x .r₀
-    first = rw (x .are)
+  abbrev mode : inUserMode (s .machine .psr) ≡ user
+  mode = c .begins .mode
 
-    all : Pairs s x bound quiet sound
-        (W s x (x .r₃) (x .r₀) (x .r₁) (x .r₂) 0x0242 (from 0x2FFA) []
-        (s .machine .devices .busy - 1 - 1 - 1 - 1 - 1 - 1))
-        (pairsSteps (r0 s) words) b (pairBytes words)
-    all =
-        rw first
-        (shows-all s x bound quiet sound user words (x .r₀) b (x .r₁) (x .r₂) (x .r₃) (from 0x2FFA) []
-        (s .machine .devices .busy - 1 - 1 - 1 - 1 - 1 - 1)
-        (few (s .machine .devices .busy - 1)
-        (less (s .machine .devices .busy) (accepted-is-acceptable s n (c .begins .accepted) .defined .devices .busy)))
-        (rw first at string) fit (omega arith))
-      where
-        less : (busy : ℕ) → busy ≤ 8 → busy - 1 ≤ 8
-        less busy h = omega arith
+  first : r0 s ≡ x .r₀
+  first = rw (x .are)
 
-        few : (busy : ℕ) → busy ≤ 8 → busy - 1 - 1 - 1 - 1 - 1 ≤ 6
-        few busy h = omega arith
+  abbrev left : ℕ
+  left = s .machine .devices .busy - 1 - 1 - 1 - 1 - 1 - 1
 
-    at-look : 6 + pairsSteps (r0 s) words ≤ bound
-        → At s 0 (6 + pairsSteps (r0 s) words) (f s x)
-        (W s x (all .r₃) b (all .r₁) (all .r₂) 0x0242 (all .codes) (pairBytes words) (all .busy))
-    unfolding vectorWord
-    at-look le =
-        let z : 1 + (5 + pairsSteps (r0 s) words) ≡ 6 + pairsSteps (r0 s) words = omega arith in
-        rw z at (then (begins s x bound quiet sound) (all .leads) .on (omega arith)
-        (routine-begins putspCode true s n bound x 0x24 0x023D c quiet (omega arith) (omega arith) refl))
+  all : Pairs user s x bound quiet sound
+      (W user s x (x .r₃) (x .r₀) (x .r₁) (x .r₂) 0x0242 (from 0x2FFA) [] left) (pairsSteps user (r0 s) words) b
+      (pairBytes words)
+  all =
+      rw first
+      (shows-all user s x bound quiet sound mode words (x .r₀) b (x .r₁) (x .r₂) (x .r₃) (from 0x2FFA) [] left
+      (six-less (s .machine .devices .busy)
+      (accepted-is-acceptable s n (c .begins .accepted) .defined .devices .busy))
+      (rw first at string) fit (omega arith))
 
-    -- ---- a string that ends
+  abbrev looking : View
+  looking = W user s x (all .r₃) b (all .r₁) (all .r₂) 0x0242 (all .codes) (pairBytes words) (all .busy)
 
-    module _ (mine : privileged b ≡ false) (zero-word : getD (s .memory) b 0 ≡ 0) where
-      seen : Comes s bound (f s x) (W s x (all .r₃))
-          (W s x (all .r₃) b (all .r₁) (all .r₂) 0x0242 (all .codes) (pairBytes words) (all .busy)) (lookSteps b) b
-          0x024A (pairBytes words) 1
-      seen =
-          look-at (looks s x bound quiet sound (all .r₃)) user b (all .r₁) (all .r₂) (all .codes) (pairBytes words)
-          (all .busy) (all .few) mine
+  at-look : 6 + pairsSteps user (r0 s) words ≤ bound → At s 0 (6 + pairsSteps user (r0 s) words) (f user s x) looking
+  unfolding vectorWord
+  at-look le =
+      let z : 1 + (5 + pairsSteps user (r0 s) words) ≡ 6 + pairsSteps user (r0 s) words = omega arith in
+      rw z at (then (begins user s x bound quiet sound) (all .leads) .on (omega arith)
+      (routine-begins putspCode user s n bound x 0x24 0x023D c quiet (omega arith) (omega arith) refl))
 
-      returning : View
-      returning = steppedBy 6 (f s x) (W s x (all .r₃) b 0 (seen .r₂) 0x024B (from 0) (pairBytes words) 0)
+  -- ---- a string that ends
 
-      at-return : AtReturn uses true s returning
-      unfolding returning computing
-      at-return = record { plan = refl; six = refl; pc = refl; psr = refl; fine = refl; going = refl }
+  module _ (may : mayRead user 0x2FFA b ≡ true) (zero-word : getD (s .memory) b 0 ≡ 0) where
+    abbrev spent : ℕ
+    spent = all .busy - lookSteps user b
 
-      abbrev j : ℕ
-      j = 6 + pairsSteps (r0 s) words + (lookSteps b + 7)
+    seen : Comes s bound (f user s x) (W user s x (all .r₃)) looking (lookSteps user b) b 0x024A (pairBytes words) spent
+    seen =
+        look-at (looks user s x bound quiet sound (all .r₃)) b (all .r₁) (all .r₂) (all .codes) (pairBytes words)
+        (all .busy) user mode (all .few) 0x2FFA may
 
-      at-rti : j ≤ bound → At s 0 j (f s x) returning
-      unfolding returning
-      at-rti le =
-          then (seen .leads)
-          (then
-          (gets s x bound quiet sound (all .r₃) b (seen .r₁) (seen .r₂) (seen .codes) (pairBytes words) (seen .busy)
-          (seen .few) 0 mine zero-word)
-          (restores s x bound quiet sound user (all .r₃) b (seen .r₂) (pairBytes words)))
-          .on (omega arith) (at-look (omega arith))
+    returning : View
+    returning =
+        steppedBy 6 (f user s x) (W user s x (all .r₃) b 0 (seen .r₂) 0x024B (from 0) (pairBytes words) (spent - 1))
 
-      comes : bound ≡ j + 1 → j + 1 ≤ n → Resumes s n (j + 1) (pairBytes words) 0x2FFA (s .machine .regs) (notRead s)
-      unfolding returning computing
-      comes e le =
-          comes-back uses true s n j returning (c .begins) (rw e at quiet) (at-rti (omega arith)) at-return le 0x2FFA refl
-          (s .machine .regs) (rw (x .are)) (notRead s) (none-read s returning refl refl)
+    at-return : AtReturn uses user s returning
+    unfolding returning computing
+    at-return = record { plan = refl; six = refl; pc = refl; psr = refl; fine = refl; going = refl }
 
-    -- ---- one that does not
+    abbrev j : ℕ
+    j = 6 + pairsSteps user (r0 s) words + (lookSteps user b + 7)
 
-    module _ (privileged-word : privileged b ≡ true) (below : b < 65536) where
-      bad : Comes s bound (f s x) (W s x (all .r₃))
-          (W s x (all .r₃) b (all .r₁) (all .r₂) 0x0242 (all .codes) (pairBytes words) (all .busy)) 8 b 0x0268
-          (pairBytes words) 0
-      bad =
-          look-refused (looks s x bound quiet sound (all .r₃)) user b (all .r₁) (all .r₂) (all .codes) (pairBytes words)
-          (all .busy) (all .few) below privileged-word
+    at-rti : j ≤ bound → At s 0 j (f user s x) returning
+    unfolding returning
+    at-rti le =
+        then (seen .leads)
+        (then
+        (gets user s x bound quiet sound (all .r₃) b (seen .r₁) (seen .r₂) (seen .codes) (pairBytes words) spent 0 may
+        zero-word)
+        (restores user s x bound quiet sound mode (all .r₃) b (seen .r₂) (pairBytes words) (spent - 1)))
+        .on (omega arith) (at-look (omega arith))
 
-      stopped : View
-      stopped = steppedBy 7 (f s x) (W s x (all .r₃) b (bad .r₁) (bad .r₂) 0x0268 (bad .codes) (pairBytes words) 0)
+    comes : bound ≡ j + 1 → j + 1 ≤ n → Resumes s n (j + 1) (pairBytes words) 0x2FFA (s .machine .regs) (notRead s)
+    unfolding returning computing
+    comes e le =
+        comes-back uses user s n j returning (c .begins) (rw e at quiet) (at-rti (omega arith)) at-return le 0x2FFA refl
+        (s .machine .regs) (rw (x .are)) (notRead s) (none-read s returning refl refl)
 
-      at-stop : refusedPairSteps (r0 s) words ≤ bound → At s 0 (refusedPairSteps (r0 s) words) (f s x) stopped
-      unfolding stopped
-      at-stop le =
-          let z : bad .busy ≡ 0 = omega (arith, bad .few) in
-          then (rw z at (bad .leads))
-          (stops s x bound quiet sound user (all .r₃) b (bad .r₁) (bad .r₂) (bad .codes) (pairBytes words))
-          .on (omega arith) (at-look (omega arith))
+-- ---- one that does not
 
-      refuses : refusedPairSteps (r0 s) words ≤ bound → refusedPairSteps (r0 s) words < n
-          → Halts s n (refusedPairSteps (r0 s) words) (pairBytes words) 0x2FFA
-      unfolding stopped computing
-      refuses le more =
-          halts (at-stop le) n (c .begins) 0x2FFA refl refl refl refl refl more (rw (x .are)) refl refl
-          refl refl refl
+module _ (s : Start) (n : ℕ) (c : Calls 0x24 putspCode true s n) (x : Eight (s .machine .regs)) (words : List ℕ) (b : ℕ)
+    (string : StringFrom (mayRead true 0x2FFA) (s .memory) (r0 s) words b) (fit : AreWords words)
+    (room : length (pairBytes words) ≤ length (s .output)) (quiet : Quiet s 0 (refusedPairSteps (r0 s) words))
+    (privileged-word : privileged b ≡ true) (below : b < 65536) where
+  abbrev total : ℕ
+  total = refusedPairSteps (r0 s) words
+
+  routine-sound : Sound (f true s x)
+  routine-sound = sound true s n c x words b string fit room total (omega arith) quiet
+
+  abbrev shown : Pairs true s x total quiet (sound true s n c x words b string fit room total (omega arith) quiet)
+      (W true s x (x .r₃) (x .r₀) (x .r₁) (x .r₂) 0x0242 (from 0x2FFA) [] (left true s n c x words b string fit room total
+      (omega arith) quiet))
+      (pairsSteps true (r0 s) words) b (pairBytes words)
+  shown = all true s n c x words b string fit room total (omega arith) quiet
+
+  bad : Comes s total (f true s x) (W true s x (shown .r₃))
+      (looking true s n c x words b string fit room total (omega arith) quiet) 8 b 0x0268 (pairBytes words) 0
+  bad =
+      look-refused (looks true s x total quiet routine-sound (shown .r₃)) b (shown .r₁) (shown .r₂) (shown .codes)
+      (pairBytes words) (shown .busy) (unfold inUserMode in leb-true 0x8000 (s .machine .psr) (c .begins .mode))
+      (shown .few) below privileged-word
+
+  stopped : View
+  stopped = steppedBy 7 (f true s x) (W true s x (shown .r₃) b (bad .r₁) (bad .r₂) 0x0268 (bad .codes) (pairBytes words) 0)
+
+  at-stop : At s 0 total (f true s x) stopped
+  unfolding stopped
+  at-stop =
+      then (bad .leads)
+      (stops true s x total quiet routine-sound (c .begins .mode) (shown .r₃) b (bad .r₁) (bad .r₂) (bad .codes)
+      (pairBytes words))
+      .on (omega arith) (at-look true s n c x words b string fit room total (omega arith) quiet (omega arith))
+
+  refuses : total < n → Halts s n total (pairBytes words) 0x2FFA
+  unfolding stopped computing
+  refuses more =
+      halts at-stop n (c .begins) 0x2FFA refl refl refl refl refl more (rw (x .are)) refl refl refl refl refl
 
 pub putsp-shows : PutspShows
 putsp-shows = record {
-  shows = λ s n c words b string fit mine zero-word room le none.
-      let z : 6 + pairsSteps (r0 s) words + (lookSteps b + 7) + 1 ≡ putspSteps (r0 s) words b = omega arith in
-      rw z at (comes s n c (eight (s .machine .regs) (c .begins .registers)) words b string fit room
-      (putspSteps (r0 s) words b) (omega arith)
-      (quiet-steps s n (putspSteps (r0 s) words b) 0 (c .begins .accepted) le none) mine zero-word (sym z)
+  shows = λ user s n c words b string fit may zero-word room le none.
+      let z : 6 + pairsSteps user (r0 s) words + (lookSteps user b + 7) + 1 ≡ putspSteps user (r0 s) words b =
+      omega arith in
+      rw z at (comes user s n c (eight (s .machine .regs) (c .begins .registers)) words b string fit room
+      (putspSteps user (r0 s) words b) (omega arith)
+      (quiet-steps s n (putspSteps user (r0 s) words b) 0 (c .begins .accepted) le none) may zero-word (sym z)
       (rw z le));
   is-refused = λ s n c words b string fit privileged-word below room more none.
       refuses s n c (eight (s .machine .regs) (c .begins .registers)) words b string fit room
-      (refusedPairSteps (r0 s) words) (omega arith)
-      (quiet-steps s n (refusedPairSteps (r0 s) words) 0 (c .begins .accepted) (omega arith) none) privileged-word below
-      (omega arith) more;
+      (quiet-steps s n (refusedPairSteps (r0 s) words) 0 (c .begins .accepted) (omega arith) none) privileged-word
+      below more;
 }

@@ -3,19 +3,20 @@ use Prim.Native.Nat.{ℕ, zero, suc, _+_, _-_, _≤_, _<_}
 use native.Mathlib.Omega.{arith}
 use native.Mathlib.Decide.{decLe}
 use mathlib.Core.Path.{_≡_, refl, sym, ap, _∙_}
-use mathlib.Core.Bool.{true, false}
+use mathlib.Core.Bool.{Bool, true, false, not, _&&_}
 use mathlib.Core.List.{List, [], _∷_}
-use borrow.Author.Tests.{le-leb, lt-leb, lt-ltb, le-ltb, ltb-false, leb-false, leb-true, ne-eqb}
+use borrow.Author.Tests.{le-leb, lt-leb, lt-ltb, le-ltb, ltb-true, ltb-false, leb-false, leb-true, ne-eqb}
 use lib.Dec.{leb, ltb}
 use lib.ListN.{getD}
 use lib.Seq.{getD-set-other}
 use Rattle.machine.specs.declared.Plan.the-variants.{Load}
 use Rattle.machine.specs.Words.{next, wrap}
-use Rattle.machine.specs.Psr.{codesOf}
+use Rattle.machine.specs.Psr.{inUserMode, codesOf}
 use Rattle.machine.specs.Protection.{privileged}
-use Rattle.machine.proofs.Tests.{or-is-false}
+use Rattle.machine.proofs.Tests.{both-true, or-is-false}
 use Rattle.run.specs.Run.{Start}
-use Rattle.monitor.specs.Puts.{lookSteps}
+use Rattle.monitor.specs.Uses.{between}
+use Rattle.monitor.specs.Puts.{mayRead, lookSteps}
 use Rattle.monitor.proofs.Execution.{Frame, Known, from, codesNumber, Cell, View, memoryWith, Quiet, Leads}
 use Rattle.monitor.proofs.Execution.{then}
 use Rattle.monitor.proofs.Intact.{cellsFine, wordAt}
@@ -28,6 +29,20 @@ unfolding privileged
 user-address a h =
     let both = or-is-false (ltb a 0x3000) (leb 0xFE00 a) h in
     (ltb-false a 0x3000 (both .0), leb-false 0xFE00 a (both .1))
+
+is-not : (b : Bool) → not b ≡ true → b ≡ false
+is-not true e = sym e
+is-not false e = refl
+
+-- An address that may be read: no device's, and none of the stack's.
+pub readable : (user : Bool) (low a : ℕ) → mayRead user low a ≡ true → (a < 0xFE00) × (low ≤ a → 0x3000 ≤ a)
+readable true low a h =
+    let u = user-address a (is-not (privileged a) h) in
+    (u .1, λ m. u .0)
+readable false low a h =
+    let both = both-true (ltb a 0xFE00) (not (between low 0x2FFF a)) h in
+    let outside : (leb low a && leb a 0x2FFF) ≡ false = is-not (leb low a && leb a 0x2FFF) (both .1) in
+    (ltb-true a 0xFE00 (both .0), λ m. leb-false a 0x2FFF (rw (le-leb low a m) at outside))
 
 -- ---- codes of numbers
 
@@ -42,13 +57,16 @@ positive x l h = rw (ne-eqb x 0 (λ e. omega arith), lt-ltb x 0x8000 h)
 -- ---- the look at the address
 
 -- Steps from one view to another whatever R1, R2, the bytes shown and the busy count are. W has R0, R1, R2, PC, codes,
--- bytes and busy count; the caller's PSR is on the stack; the look begins at p, goes on at `get` or at `bad`.
+-- bytes and busy count; the caller's PSR is on the stack; the look begins at p₁, goes on at `get` or at `bad`.
 pub record Looks (s : Start) (bound : ℕ) (f : Frame) (W : ℕ → ℕ → ℕ → ℕ → Known → List ℕ → ℕ → View)
     (psr p₁ p₂ p₃ p₄ get bad : ℕ) : Type 0 where
   -- LDR R1: the PSR
   pub loads-psr : (a r₁ r₂ : ℕ) (c : Known) (bytes : List ℕ) (busy : ℕ)
       → Leads s 0 bound f (W a r₁ r₂ p₁ c bytes busy) 1 f (W a psr r₂ p₂ (from psr) bytes (busy - 1))
-  -- BRzp is not taken after a negative value; LD R1, ABOVE; ADD R1, R0, R1
+  -- BRzp is taken after a value that is not negative
+  pub skips : (a r₁ r₂ x : ℕ) → x < 2 → (bytes : List ℕ) (busy : ℕ)
+      → Leads s 0 bound f (W a r₁ r₂ p₂ (from x) bytes busy) 1 f (W a r₁ r₂ get (from x) bytes (busy - 1))
+  -- and not after a negative one; LD R1, ABOVE; ADD R1, R0, R1
   pub adds-above : (a r₁ r₂ : ℕ) (bytes : List ℕ) (busy : ℕ)
       → Leads s 0 bound f (W a r₁ r₂ p₂ (from 0x8000) bytes busy) 3 f
       (W a (wrap (a + 0x0200)) r₂ p₃ (from (wrap (a + 0x0200))) bytes (busy - 1 - 1 - 1))
@@ -68,143 +86,156 @@ pub record Looks (s : Start) (bound : ℕ) (f : Frame) (W : ℕ → ℕ → ℕ 
   pub knows : (a r₁ r₂ pc : ℕ) (c c′ : Known) (bytes : List ℕ) (busy : ℕ) → codesNumber c ≡ codesNumber c′
       → Leads s 0 bound f (W a r₁ r₂ pc c bytes busy) 0 f (W a r₁ r₂ pc c′ bytes busy)
 
--- It comes to pc in n steps.
+-- It comes to pc in n steps, with this busy count.
 pub record Comes (s : Start) (bound : ℕ) (f : Frame) (W : ℕ → ℕ → ℕ → ℕ → Known → List ℕ → ℕ → View) (from-view : View)
-    (n a pc : ℕ) (bytes : List ℕ) (most : ℕ) : Type 0 where
+    (n a pc : ℕ) (bytes : List ℕ) (busy : ℕ) : Type 0 where
   pub r₁ : ℕ
   pub r₂ : ℕ
   pub codes : Known
-  pub busy : ℕ
-  pub few : busy ≤ most
   pub leads : Leads s 0 bound f from-view n f (W a r₁ r₂ pc codes bytes busy)
 
-fewer : (b : ℕ) → b ≤ 6 → b - 1 - (1 + 1 + 1) ≤ 2
-fewer b h = omega arith
-
 module _ {s : Start} {bound : ℕ} {f : Frame} {W : ℕ → ℕ → ℕ → ℕ → Known → List ℕ → ℕ → View}
-    {psr p₁ p₂ p₃ p₄ get bad : ℕ} (l : Looks s bound f W psr p₁ p₂ p₃ p₄ get bad) (user : 0x8000 ≤ psr)
-    (a r₁ r₂ : ℕ) (c : Known) (bytes : List ℕ) (busy : ℕ) (few : busy ≤ 6) where
-  abbrev sum : ℕ
-  sum = wrap (a + 0x0200)
+    {psr p₁ p₂ p₃ p₄ get bad : ℕ} (l : Looks s bound f W psr p₁ p₂ p₃ p₄ get bad) (a r₁ r₂ : ℕ) (c : Known)
+    (bytes : List ℕ) (busy : ℕ) where
+  -- ---- in User mode
 
-  two-left : busy - 1 - 1 - 1 - 1 ≤ 2
-  two-left = omega arith
+  module _ (user : 0x8000 ≤ psr) (few : busy ≤ 6) where
+    abbrev sum : ℕ
+    sum = wrap (a + 0x0200)
 
-  to-branch : Leads s 0 bound f (W a r₁ r₂ p₁ c bytes busy) 4 f
-      (W a sum r₂ p₃ (from sum) bytes (busy - 1 - 1 - 1 - 1))
-  unfolding codesOf
-  to-branch =
-      then (l .loads-psr a r₁ r₂ c bytes busy)
-      (then (l .knows a psr r₂ p₂ (from psr) (from 0x8000) bytes (busy - 1) (negative psr user))
-      (l .adds-above a psr r₂ bytes (busy - 1)))
-
-  -- An address from x7E00 to xFDFF.
-  pub look-high : 0x7E00 ≤ a → a < 0xFE00 → Comes s bound f W (W a r₁ r₂ p₁ c bytes busy) 5 a get bytes 1
-  unfolding codesOf
-  look-high least most = record {
-    r₁ = sum;
-    r₂ = r₂;
-    codes = from 0x8000;
-    busy = busy - 1 - 1 - 1 - 1 - 1;
-    few = omega (arith, two-left);
-    leads = then to-branch
-        (then (l .knows a sum r₂ p₃ (from sum) (from 0x8000) bytes (busy - 1 - 1 - 1 - 1)
-        (negative sum (omega arith)))
-        (l .goes-on a sum r₂ bytes (busy - 1 - 1 - 1 - 1)));
-  }
-
-  -- A sum that is not negative: zero or positive.
-  module _ (small : sum < 0x8000) where
-    abbrev left : ℕ
-    left = busy - 1 - 1 - 1 - 1
-
-    abbrev difference : ℕ
-    difference = wrap (sum + 0xCE00)
-
-    second : Leads s 0 bound f (W a r₁ r₂ p₁ c bytes busy) 7 f
-        (W a difference 0xCE00 p₄ (from difference) bytes (left - 1 - 1 - 1))
+    to-branch : Leads s 0 bound f (W a r₁ r₂ p₁ c bytes busy) 4 f
+        (W a sum r₂ p₃ (from sum) bytes (busy - 1 - 1 - 1 - 1))
     unfolding codesOf
-    second = elim (decLe 1 sum) [
-      | yes h ↦ then to-branch
-          (then (l .knows a sum r₂ p₃ (from sum) (from 1) bytes left (positive sum h small))
-          (l .adds-below a sum r₂ 1 (omega arith) bytes left))
-      | no h ↦ (
-          let z : sum ≡ 0 = omega arith in
-          then to-branch
-          (then (l .knows a sum r₂ p₃ (from sum) (from 0) bytes left (ap codesOf z))
-          (l .adds-below a sum r₂ 0 (omega arith) bytes left))
-          )
+    to-branch =
+        then (l .loads-psr a r₁ r₂ c bytes busy)
+        (then (l .knows a psr r₂ p₂ (from psr) (from 0x8000) bytes (busy - 1) (negative psr user))
+        (l .adds-above a psr r₂ bytes (busy - 1)))
+
+    -- An address from x7E00 to xFDFF.
+    look-high : 0x7E00 ≤ a → a < 0xFE00 → Comes s bound f W (W a r₁ r₂ p₁ c bytes busy) 5 a get bytes (busy - 5)
+    unfolding codesOf
+    look-high least most =
+        let z : busy - 1 - 1 - 1 - 1 - 1 ≡ busy - 5 = omega arith in
+        record {
+          r₁ = sum;
+          r₂ = r₂;
+          codes = from 0x8000;
+          leads = rw z at (then to-branch
+              (then (l .knows a sum r₂ p₃ (from sum) (from 0x8000) bytes (busy - 1 - 1 - 1 - 1)
+              (negative sum (omega arith)))
+              (l .goes-on a sum r₂ bytes (busy - 1 - 1 - 1 - 1))));
+        }
+
+    -- A sum that is not negative: zero or positive.
+    module _ (small : sum < 0x8000) where
+      abbrev left : ℕ
+      left = busy - 1 - 1 - 1 - 1
+
+      abbrev difference : ℕ
+      difference = wrap (sum + 0xCE00)
+
+      second : Leads s 0 bound f (W a r₁ r₂ p₁ c bytes busy) 7 f
+          (W a difference 0xCE00 p₄ (from difference) bytes (left - 1 - 1 - 1))
+      unfolding codesOf
+      second = elim (decLe 1 sum) [
+        | yes h ↦ then to-branch
+            (then (l .knows a sum r₂ p₃ (from sum) (from 1) bytes left (positive sum h small))
+            (l .adds-below a sum r₂ 1 (omega arith) bytes left))
+        | no h ↦ (
+            let z : sum ≡ 0 = omega arith in
+            then to-branch
+            (then (l .knows a sum r₂ p₃ (from sum) (from 0) bytes left (ap codesOf z))
+            (l .adds-below a sum r₂ 0 (omega arith) bytes left))
+            )
+      ]
+
+      spent : left - 1 - 1 - 1 ≡ 0
+      spent = go left (omega arith)
+        where
+          go : (x : ℕ) → x ≤ 2 → x - 1 - 1 - 1 ≡ 0
+          go x h = omega arith
+
+      comes-by : (pc x : ℕ) → codesOf difference ≡ codesOf x
+          → Leads s 0 bound f (W a difference 0xCE00 p₄ (from x) bytes 0) 1 f
+          (W a difference 0xCE00 pc (from x) bytes (0 - 1))
+          → Comes s bound f W (W a r₁ r₂ p₁ c bytes busy) 8 a pc bytes 0
+      comes-by pc x same last = record {
+        r₁ = difference;
+        r₂ = 0xCE00;
+        codes = from x;
+        leads = then (rw spent at second)
+            (then (l .knows a difference 0xCE00 p₄ (from difference) (from x) bytes 0 same) last);
+      }
+
+    -- An address from x3000 to x7DFF.
+    look-low : 0x3000 ≤ a → a < 0x7E00 → Comes s bound f W (W a r₁ r₂ p₁ c bytes busy) 8 a get bytes 0
+    look-low least most = elim (decLe 1 (difference (omega arith))) [
+      | yes h ↦ comes-by (omega arith) get 1
+          (positive (difference (omega arith)) h (omega arith) ∙ unfold codesOf in refl)
+          (l .gets a (difference (omega arith)) 0xCE00 1 (omega arith) bytes 0)
+      | no h ↦ comes-by (omega arith) get 0 (ap codesOf (let z : difference (omega arith) ≡ 0 = omega arith in z))
+          (l .gets a (difference (omega arith)) 0xCE00 0 (omega arith) bytes 0)
     ]
 
-    spent : left - 1 - 1 - 1 ≡ 0
-    spent = go left two-left
+    -- A privileged address.
+    pub look-refused : a < 65536 → privileged a ≡ true → Comes s bound f W (W a r₁ r₂ p₁ c bytes busy) 8 a bad bytes 0
+    look-refused below h = elim (decLe (suc a) 0x3000) [
+      | yes less ↦ refuse (omega arith) (omega arith)
+      | no less ↦ (
+          let above : 0xFE00 ≤ a = not-below (omega arith) in
+          refuse (omega arith) (omega arith)
+          )
+    ]
       where
-        go : (x : ℕ) → x ≤ 2 → x - 1 - 1 - 1 ≡ 0
-        go x h = omega arith
+        not-below : 0x3000 ≤ a → 0xFE00 ≤ a
+        not-below g = unfold privileged in leb-true 0xFE00 a (rw (le-ltb a 0x3000 g) at h)
 
-    comes-by : (pc x : ℕ) → codesOf difference ≡ codesOf x
-        → Leads s 0 bound f (W a difference 0xCE00 p₄ (from x) bytes 0) 1 f
-        (W a difference 0xCE00 pc (from x) bytes (0 - 1))
-        → Comes s bound f W (W a r₁ r₂ p₁ c bytes busy) 8 a pc bytes 0
-    comes-by pc x same last = record {
-      r₁ = difference;
-      r₂ = 0xCE00;
-      codes = from x;
-      busy = 0;
-      few = omega arith;
-      leads = then (rw spent at second)
-          (then (l .knows a difference 0xCE00 p₄ (from difference) (from x) bytes 0 same) last);
-    }
+        refuse : (small : sum < 0x8000) → 0x8000 ≤ wrap (sum + 0xCE00)
+            → Comes s bound f W (W a r₁ r₂ p₁ c bytes busy) 8 a bad bytes 0
+        refuse small big =
+            comes-by small bad 0x8000 (negative (difference small) big ∙ unfold codesOf in refl)
+            (l .refuses a (difference small) 0xCE00 bytes 0)
 
-  -- An address from x3000 to x7DFF.
-  pub look-low : 0x3000 ≤ a → a < 0x7E00 → Comes s bound f W (W a r₁ r₂ p₁ c bytes busy) 8 a get bytes 0
-  look-low least most = elim (decLe 1 (difference (omega arith))) [
-    | yes h ↦ comes-by (omega arith) get 1
-        (positive (difference (omega arith)) h (omega arith) ∙ unfold codesOf in refl)
-        (l .gets a (difference (omega arith)) 0xCE00 1 (omega arith) bytes 0)
-    | no h ↦ comes-by (omega arith) get 0 (ap codesOf (let z : difference (omega arith) ≡ 0 = omega arith in z))
-        (l .gets a (difference (omega arith)) 0xCE00 0 (omega arith) bytes 0)
-  ]
+    -- The look at an address of User mode's.
+    user-look : privileged a ≡ false
+        → Comes s bound f W (W a r₁ r₂ p₁ c bytes busy) (lookSteps true a) a get bytes (busy - lookSteps true a)
+    user-look mine =
+        let u = user-address a mine in
+        let none : busy - 8 ≡ 0 = omega arith in
+        elim (decLe 0x7E00 a) [
+          | yes h ↦ rw (le-leb 0x7E00 a h) (look-high h (u .1))
+          | no h ↦ rw (lt-leb 0x7E00 a (omega arith), none) (look-low (u .0) (omega arith))
+        ]
 
-  -- A privileged address.
-  pub look-refused : a < 65536 → privileged a ≡ true → Comes s bound f W (W a r₁ r₂ p₁ c bytes busy) 8 a bad bytes 0
-  look-refused below h = elim (decLe (suc a) 0x3000) [
-    | yes less ↦ refuse (omega arith) (omega arith)
-    | no less ↦ (
-        let above : 0xFE00 ≤ a = not-below (omega arith) in
-        refuse (omega arith) (omega arith)
-        )
+  -- ---- in Supervisor mode
+
+  supervisor-look : psr < 0x8000 → Comes s bound f W (W a r₁ r₂ p₁ c bytes busy) 2 a get bytes (busy - 2)
+  unfolding codesOf
+  supervisor-look small = elim (decLe 1 psr) [
+    | yes h ↦ looked 1 (omega arith) (positive psr h small)
+    | no h ↦ looked 0 (omega arith) (ap codesOf (let z : psr ≡ 0 = omega arith in z))
   ]
     where
-      not-below : 0x3000 ≤ a → 0xFE00 ≤ a
-      not-below g = unfold privileged in leb-true 0xFE00 a (rw (le-ltb a 0x3000 g) at h)
+      looked : (x : ℕ) → x < 2 → codesOf psr ≡ codesOf x
+          → Comes s bound f W (W a r₁ r₂ p₁ c bytes busy) 2 a get bytes (busy - 2)
+      looked x h same =
+          let z : busy - 1 - 1 ≡ busy - 2 = omega arith in
+          record {
+            r₁ = psr;
+            r₂ = r₂;
+            codes = from x;
+            leads = rw z at (then (l .loads-psr a r₁ r₂ c bytes busy)
+                (then (l .knows a psr r₂ p₂ (from psr) (from x) bytes (busy - 1) same)
+                (l .skips a psr r₂ x h bytes (busy - 1))));
+          }
 
-      refuse : (small : sum < 0x8000) → 0x8000 ≤ wrap (sum + 0xCE00)
-          → Comes s bound f W (W a r₁ r₂ p₁ c bytes busy) 8 a bad bytes 0
-      refuse small big =
-          comes-by small bad 0x8000 (negative (difference small) big ∙ unfold codesOf in refl)
-          (l .refuses a (difference small) 0xCE00 bytes 0)
+  -- ---- in both
 
-  -- The look at an address of User mode's.
-  pub look-at : privileged a ≡ false
-      → Comes s bound f W (W a r₁ r₂ p₁ c bytes busy) (lookSteps a) a get bytes 1
-  look-at mine =
-      let u = user-address a mine in
-      elim (decLe 0x7E00 a) [
-        | yes h ↦ rw (le-leb 0x7E00 a h) (look-high h (u .1))
-        | no h ↦ rw (lt-leb 0x7E00 a (omega arith)) (weaker (look-low (u .0) (omega arith)))
-      ]
-    where
-      weaker : Comes s bound f W (W a r₁ r₂ p₁ c bytes busy) 8 a get bytes 0
-          → Comes s bound f W (W a r₁ r₂ p₁ c bytes busy) 8 a get bytes 1
-      weaker l = record {
-        r₁ = l .r₁;
-        r₂ = l .r₂;
-        codes = l .codes;
-        busy = l .busy;
-        few = omega (arith, l .few);
-        leads = l .leads;
-      }
+  pub look-at : (user : Bool) → inUserMode psr ≡ user → busy ≤ 6 → (low : ℕ) → mayRead user low a ≡ true
+      → Comes s bound f W (W a r₁ r₂ p₁ c bytes busy) (lookSteps user a) a get bytes (busy - lookSteps user a)
+  unfolding inUserMode
+  look-at true mode few low may = user-look (leb-true 0x8000 psr mode) few (is-not (privileged a) may)
+  look-at false mode few low may = supervisor-look (leb-false 0x8000 psr mode)
 
 -- What holds of 0 and 1.
 pub below-two : (P : ℕ → Type 0) → P 0 → P 1 → (x : ℕ) → x < 2 → P x
@@ -214,26 +245,28 @@ below-two P p q (suc (suc x)) l = absurd (omega arith)
 
 -- ---- the word there
 
--- A word above the stack is as it was.
-high-word : (mem : List ℕ) (low : ℕ) (cells : List Cell) → cellsWithin low cells ≡ true → (a : ℕ) → 0x3000 ≤ a
-    → getD (memoryWith mem cells) a 0 ≡ getD mem a 0
-high-word mem low [] fine a h = refl
-high-word mem low (c ∷ cells) fine a h =
+-- A word outside the stack is as it was.
+other-word : (mem : List ℕ) (low : ℕ) (cells : List Cell) → cellsWithin low cells ≡ true → (a : ℕ)
+    → (low ≤ a → 0x3000 ≤ a) → getD (memoryWith mem cells) a 0 ≡ getD mem a 0
+other-word mem low [] fine a h = refl
+other-word mem low (c ∷ cells) fine a h =
     let w = cells-within low c cells fine in
     getD-set-other (memoryWith mem cells) (c .address) a (c .value) 0
-    (λ e. let m : c .address < 0x3000 = w .1 in omega arith)
-    ∙ high-word mem low cells (w .2) a h
+    (λ e.
+    let least : low ≤ c .address = w .0 in
+    let most : c .address < 0x3000 = w .1 in
+    let above : 0x3000 ≤ a = h (omega arith) in
+    omega arith)
+    ∙ other-word mem low cells (w .2) a h
 
 -- LDR of the word at R0.
 pub gets-word : {s : Start} {bound : ℕ} → Quiet s 0 bound → (f : Frame) → Sound f → (v : View) → v .mcr ≡ 0x8000
-    → cellsFine (v .cells) ≡ true → (low : ℕ) → cellsWithin low (v .cells) ≡ true → (a w : ℕ) → privileged a ≡ false
-    → planAt f v ≡ Load 1 (wrap (a + 0)) → getD (f .memory) a 0 ≡ w
+    → cellsFine (v .cells) ≡ true → (low : ℕ) → cellsWithin low (v .cells) ≡ true → (a w : ℕ) → a < 0xFE00
+    → (low ≤ a → 0x3000 ≤ a) → planAt f v ≡ Load 1 (wrap (a + 0)) → getD (f .memory) a 0 ≡ w
     → Leads s 0 bound f v 1 f (valued v 1 w (next (v .pc)))
-gets-word {s} {bound} quiet f sound v going fine low within-stack a w mine plan is =
-    let u = user-address a mine in
-    let z : wrap (a + 0) ≡ a = omega (arith, u .1) in
+gets-word {s} {bound} quiet f sound v going fine low within-stack a w plain outside plan is =
+    let z : wrap (a + 0) ≡ a = omega arith in
     let x : wordAt f v (wrap (a + 0)) ≡ w =
-    rw z
-    (sym (word-is f sound v fine a) ∙ high-word (f .memory) low (v .cells) within-stack a (u .0) ∙ is) in
-    let may : ltb (wrap (a + 0)) 0xFE00 ≡ true = rw z (lt-ltb a 0xFE00 (u .1)) in
+    rw z (sym (word-is f sound v fine a) ∙ other-word (f .memory) low (v .cells) within-stack a outside ∙ is) in
+    let may : ltb (wrap (a + 0)) 0xFE00 ≡ true = rw z (lt-ltb a 0xFE00 plain) in
     rw x at (by-plan quiet f sound 0 (omega arith) v going fine (Load 1 (wrap (a + 0))) plan may)

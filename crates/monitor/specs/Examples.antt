@@ -12,7 +12,7 @@ use Rattle.run.specs.Call.{startOf}
 use Rattle.monitor.specs.Install.{installOf}
 use Rattle.monitor.specs.Uses.{getcCode, putsCode, inCode, putspCode, haltCode, stopCode}
 use Rattle.monitor.specs.Calls.{Calls, Raises, NoInterrupt}
-use Rattle.monitor.specs.Puts.{StringFrom}
+use Rattle.monitor.specs.Puts.{mayRead, StringFrom}
 use Rattle.monitor.specs.Getc.{KeyComes}
 use Rattle.monitor.specs.In.{firstPoll}
 use Rattle.monitor.specs.Back.{Interrupted}
@@ -40,12 +40,12 @@ pub record ExamplesHold : Type 0 where
   pub getc : Calls 0x20 getcCode true (example 0xF020 0x8000) 1000
   pub getc-key : KeyComes (example 0xF020 0x8000) 1 0
   pub puts : Calls 0x22 putsCode true (example 0xF022 0) 1000
-  pub puts-string : StringFrom (exampleMemory 0xF022) 0x3002 (0x0061 ∷ 0xABCD ∷ []) 0x3004
+  pub puts-string : StringFrom (mayRead true 0x2FFB) (exampleMemory 0xF022) 0x3002 (0x0061 ∷ 0xABCD ∷ []) 0x3004
   pub puts-end : getD (exampleMemory 0xF022) 0x3004 0 ≡ 0
   pub input : Calls 0x23 inCode true (example 0xF023 0x8000) 1000
   pub input-key : KeyComes (example 0xF023 0x8000) (firstPoll (example 0xF023 0x8000)) 0
   pub putsp : Calls 0x24 putspCode true (example 0xF024 0) 1000
-  pub putsp-string : StringFrom (exampleMemory 0xF024) 0x3002 (0x0061 ∷ 0xABCD ∷ []) 0x3004
+  pub putsp-string : StringFrom (mayRead true 0x2FFA) (exampleMemory 0xF024) 0x3002 (0x0061 ∷ 0xABCD ∷ []) 0x3004
   pub halt : Calls 0x25 haltCode true (example 0xF025 0) 1000
   pub other : Calls 0xFF stopCode true (example 0xF0FF 0) 1000
   -- LD R0 from x2FFF

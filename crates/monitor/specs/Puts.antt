@@ -1,55 +1,69 @@
 -- PUTS: shows the low byte of each word from R0 on, up to a word x0000; "a routine .. reads no privileged word" for a
 -- caller in User mode.
-use Prim.Native.Nat.{ℕ, suc, _+_, _%_, _≤_, _<_}
+use Prim.Native.Nat.{ℕ, suc, _+_, _-_, _%_, _≤_, _<_}
 use mathlib.Core.Path.{_≡_}
-use mathlib.Core.Bool.{true, false, cond}
+use mathlib.Core.Bool.{Bool, true, cond, not, _&&_}
 use mathlib.Core.List.{List, [], _∷_, map}
-use lib.Dec.{leb}
+use lib.Dec.{leb, ltb}
 use lib.ListN.{length, getD}
 use Rattle.machine.specs.Protection.{privileged}
 use Rattle.run.specs.Run.{Start}
-use Rattle.monitor.specs.Uses.{putsCode}
+use Rattle.monitor.specs.Uses.{between, putsCode}
+use Rattle.monitor.specs.Out.{waitSteps}
 use Rattle.monitor.specs.Calls.{Calls, NoInterrupt, notRead, Resumes, Halts}
 
--- From a up to b stand these words, in addresses of User mode's, and none of them is zero.
-abbrev pub StringFrom : List ℕ → ℕ → List ℕ → ℕ → Type 0
-StringFrom mem a [] b = a ≡ b
-StringFrom mem a (w ∷ words) b =
-    (privileged a ≡ false) × (getD mem a 0 ≡ w) × (0 < w) × StringFrom mem (suc a) words b
+-- The words of a string. A caller in User mode has it where User mode may read; one in Supervisor mode anywhere below
+-- the device registers, but not in the words of the stack that the routine uses itself, from `low` up to x2FFF.
+abbrev pub mayRead : Bool → ℕ → ℕ → Bool
+mayRead user low a = cond user (not (privileged a)) (ltb a 0xFE00 && not (between low 0x2FFF a))
+
+-- From a up to b stand these words, at addresses that may be read, and none of them is zero.
+abbrev pub StringFrom : (ℕ → Bool) → List ℕ → ℕ → List ℕ → ℕ → Type 0
+StringFrom may mem a [] b = a ≡ b
+StringFrom may mem a (w ∷ words) b =
+    (may a ≡ true) × (getD mem a 0 ≡ w) × (0 < w) × StringFrom may mem (suc a) words b
 
 -- "The low byte of each word."
 abbrev pub lowBytes : List ℕ → List ℕ
 lowBytes words = map (λ (w : ℕ). w % 256) words
 
--- The look at the address takes five steps from x7E00 on, and eight below.
-abbrev pub lookSteps : ℕ → ℕ
-lookSteps a = cond (leb 0x7E00 a) 5 8
+-- The look at the address: in User mode five steps from x7E00 on, and eight below; in Supervisor mode LDR and BRzp.
+abbrev pub lookSteps : Bool → ℕ → ℕ
+lookSteps user a = cond user (cond (leb 0x7E00 a) 5 8) 2
 
--- The steps for these words from a on: the look, LDR, BRz, LDI, BRzp, STI, ADD, BRnzp. The display is ready each time.
-unfoldable pub wordSteps : ℕ → List ℕ → ℕ
-wordSteps a [] = 0
-wordSteps a (w ∷ words) = lookSteps a + 7 + wordSteps (suc a) words
-
--- All: the trap and four steps; the words; the look, LDR, BRz, three LDR, ADD, RTI.
-abbrev pub putsSteps : ℕ → List ℕ → ℕ → ℕ
-putsSteps a words b = 5 + wordSteps a words + (lookSteps b + 7)
-
--- Where PUTS is refused a word: the look takes eight steps, and LDR, LDR, LDR, BRnzp, LD, STI follow.
-abbrev pub refusedSteps : ℕ → List ℕ → ℕ
-refusedSteps a words = 5 + wordSteps a words + 14
+-- The steps for these words from a on, where the display's count is this at the first look: the look, LDR, BRz; the
+-- wait; STI, ADD, BRnzp, after which the count is 6. So in User mode the display is ready each time.
+unfoldable pub wordSteps : Bool → ℕ → ℕ → List ℕ → ℕ
+wordSteps user busy a [] = 0
+wordSteps user busy a (w ∷ words) =
+    lookSteps user a + (2 + (waitSteps (busy - lookSteps user a - 2) + 3)) + wordSteps user 6 (suc a) words
 
 abbrev pub r0 : Start → ℕ
 r0 s = getD (s .machine .regs) 0 0
 
+-- Up to the look that finds the end, or a privileged address: the trap and four steps, and the words.
+abbrev pub stringSteps : Bool → Start → List ℕ → ℕ
+stringSteps user s words = 5 + wordSteps user (s .machine .devices .busy - 5) (r0 s) words
+
+-- All: the look, LDR, BRz, three LDR, ADD, RTI follow.
+abbrev pub putsSteps : Bool → Start → List ℕ → ℕ → ℕ
+putsSteps user s words b = stringSteps user s words + (lookSteps user b + 7)
+
+-- Where PUTS is refused a word: the look takes eight steps, and LDR, LDR, LDR, BRnzp, LD, STI follow.
+abbrev pub refusedSteps : Start → List ℕ → ℕ
+refusedSteps s words = stringSteps true s words + 14
+
 pub record PutsShows : Type 0 where
   -- A string that ends in a word x0000: its low bytes are shown in order, and nothing else; the caller resumes with all
   -- registers as before; no word is changed but x2FFB to x2FFF.
-  pub shows : (s : Start) (n : ℕ) → Calls 0x22 putsCode true s n → (words : List ℕ) (b : ℕ)
-      → StringFrom (s .memory) (r0 s) words b → privileged b ≡ false → getD (s .memory) b 0 ≡ 0 → length words ≤ length (s .output)
-      → putsSteps (r0 s) words b ≤ n → NoInterrupt s (putsSteps (r0 s) words b)
-      → Resumes s n (putsSteps (r0 s) words b) (lowBytes words) 0x2FFB (s .machine .regs) (notRead s)
-  -- One that begins in a privileged word or runs into one: what came before is shown, and the machine halts.
+  pub shows : (user : Bool) (s : Start) (n : ℕ) → Calls 0x22 putsCode user s n → (words : List ℕ) (b : ℕ)
+      → StringFrom (mayRead user 0x2FFB) (s .memory) (r0 s) words b → mayRead user 0x2FFB b ≡ true
+      → getD (s .memory) b 0 ≡ 0 → length words ≤ length (s .output) → putsSteps user s words b ≤ n
+      → NoInterrupt s (putsSteps user s words b)
+      → Resumes s n (putsSteps user s words b) (lowBytes words) 0x2FFB (s .machine .regs) (notRead s)
+  -- One of a caller in User mode that begins in a privileged word or runs into one: what came before is shown, and the
+  -- machine halts.
   pub is-refused : (s : Start) (n : ℕ) → Calls 0x22 putsCode true s n → (words : List ℕ) (b : ℕ)
-      → StringFrom (s .memory) (r0 s) words b → privileged b ≡ true → b < 65536 → length words ≤ length (s .output)
-      → refusedSteps (r0 s) words < n → NoInterrupt s (refusedSteps (r0 s) words)
-      → Halts s n (refusedSteps (r0 s) words) (lowBytes words) 0x2FFB
+      → StringFrom (mayRead true 0x2FFB) (s .memory) (r0 s) words b → privileged b ≡ true → b < 65536
+      → length words ≤ length (s .output) → refusedSteps s words < n → NoInterrupt s (refusedSteps s words)
+      → Halts s n (refusedSteps s words) (lowBytes words) 0x2FFB
