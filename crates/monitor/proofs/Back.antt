@@ -1,18 +1,21 @@
--- BACK: the interrupt's entry, and RTI.
+-- BACK in the first two steps of a call: the interrupt's entry, and RTI.
 use Prim.Native.Nat.{ℕ, _+_, _-_, _*_, _/_, _%_, _≤_, _<_}
 use native.Mathlib.Omega.{arith}
 use mathlib.Core.Path.{_≡_, refl, sym, ap, subst, _∙_}
 use mathlib.Core.Bool.{Bool, true, false, cond, _||_, true≢false}
 use mathlib.Core.List.{List, []}
 use borrow.Author.Tests.{le-leb, lt-ltb, eq-eqb, ne-eqb}
-use lib.ListN.{getD, set}
+use lib.ListN.{length, getD, set, take}
 use lib.Seq.{set-set, set-getD, getD-set-same}
 use Rattle.word.specs.Reading.{readOf}
 use Rattle.machine.specs.declared.Machine.{Machine}
 use Rattle.machine.specs.declared.Devices.{Devices}
 use Rattle.machine.specs.declared.Plan.the-variants.{Return}
 use Rattle.machine.specs.Words.{next, before}
+use Rattle.machine.specs.Record.{timerOf}
 use Rattle.machine.specs.Psr.{inUserMode}
+use Rattle.machine.specs.Keys.{readyAfter, lastKey}
+use Rattle.machine.specs.Timer.{tickedBy}
 use Rattle.machine.specs.Outcome.{interrupt}
 use Rattle.machine.specs.Causes.{takesInterrupt}
 use Rattle.machine.specs.Interrupts.{pendingInterrupt, timerMayInterrupt, keyboardMayInterrupt, timerVector}
@@ -21,14 +24,17 @@ use Rattle.machine.specs.Entry.{interrupted}
 use Rattle.machine.specs.Plan.{planBy}
 use Rattle.machine.specs.Step.{ended, afterStart, interruptedOrObeyedBy, stepBy, stepOf}
 use Rattle.machine.proofs.InterruptRule.{interrupt-is-taken-by-rule-2}
+use Rattle.run.specs.declared.Admission.the-variants.{Accepted}
+use Rattle.run.specs.declared.Ending.the-variants.{Done}
+use Rattle.run.specs.Refusals.{admissionOf}
 use Rattle.run.specs.Run.{Start, End, arriving, nextStepBy, nextStep}
 use Rattle.run.specs.Call.{callOf}
 use Rattle.run.specs.Noninterference.{causeAt}
 use Rattle.run.proofs.Acceptance.{accepted-is-acceptable, call-is-run}
 use Rattle.monitor.specs.Vectors.{vectorWord, ours}
 use Rattle.monitor.specs.Routines.{routineWords}
-use Rattle.monitor.specs.Uses.{backUses}
-use Rattle.monitor.specs.Back.{stackOf, Interrupted, CameBack, BackReturns}
+use Rattle.monitor.specs.Uses.{HasWords, backUses}
+use Rattle.monitor.specs.Back.{stackOf}
 use Rattle.monitor.proofs.VectorLaws.{interrupt-word}
 use Rattle.monitor.proofs.Execution.{Frame, View, machineAt, At}
 use Rattle.monitor.proofs.Execution.{statusIn, started, advance-with, same-keyboard, QuietStep, here}
@@ -36,7 +42,7 @@ use Rattle.monitor.proofs.Intact.{Intact, cellsFine, wordAt, wordWith, 
 use Rattle.monitor.proofs.Instructions.{Sound, planAt, word-is}
 use Rattle.monitor.proofs.Entries.{startFrame, startView, at-start, psr-parts, enteredFrame, enteredView}
 use Rattle.monitor.proofs.Entries.{entry-gives, entry-silent, returnedFrame, returnedView, return-once}
-use Rattle.monitor.proofs.Calls.{call-stands, steps-are-made, unread}
+use Rattle.monitor.proofs.Calls.{call-stands, unread}
 
 -- The interrupt that a step takes is one of two.
 data TakenAs (m : Machine) (mem keys : List ℕ) : Type 0 where
@@ -60,9 +66,42 @@ interrupt-psr : (psr priority : ℕ)
     → psr % 256 + priority % 8 * 256 ≡ (psr % 256 + priority % 8 * 256) / 8 * 8 + psr % 8
 interrupt-psr psr priority = omega arith
 
-module _ (s : Start) (n : ℕ) (c : Interrupted s n) where
+-- The first step takes an interrupt, and the second none.
+pub record FirstInterrupted (s : Start) (n : ℕ) : Type 0 where
+  pub accepted : admissionOf s n ≡ Accepted
+  pub steps : 2 ≤ n
+  pub registers : length (s .machine .regs) ≡ 8
+  pub intact : HasWords backUses (s .memory)
+  pub mcr : s .machine .devices .mcr ≡ 0x8000
+  pub above-monitor : 0x02A7 ≤ stackOf (s .machine)
+  pub below-devices : stackOf (s .machine) ≤ 0xFE00
+  pub interrupt : takesInterrupt (causeAt s 0) ≡ true
+  pub no-other : takesInterrupt (causeAt s 1) ≡ false
+
+-- What e is after both.
+pub record FirstBack (s : Start) (e : End) : Type 0 where
+  pub steps : e .steps ≡ 2
+  pub ending : e .ending ≡ Done
+  pub shown : e .shown ≡ 0
+  pub output : e .output ≡ s .output
+  pub registers : e .machine .regs ≡ s .machine .regs
+  pub psr : e .machine .psr ≡ s .machine .psr
+  pub pc : e .machine .pc ≡ s .machine .pc
+  pub saved-ssp : e .machine .«saved_ssp» ≡ s .machine .«saved_ssp»
+  pub saved-usp : e .machine .«saved_usp»
+      ≡ cond (inUserMode (s .machine .psr)) (getD (s .machine .regs) 6 0) (s .machine .«saved_usp»)
+  pub kbsr : e .machine .devices .kbsr ≡ readyAfter (take (e .keys) (s .bytes)) (s .machine .devices .kbsr)
+  pub kbdr : e .machine .devices .kbdr ≡ lastKey (take (e .keys) (s .bytes)) (s .machine .devices .kbdr)
+  pub timer : timerOf (e .machine .devices) ≡ tickedBy 2 (timerOf (s .machine .devices))
+  pub mcr : e .machine .devices .mcr ≡ 0x8000
+  pub busy : e .machine .devices .busy ≡ s .machine .devices .busy - 1 - 1
+  pub clock : e .machine .clock ≡ s .machine .clock + 2
+  pub memory : e .memory
+      ≡ set (set (s .memory) (stackOf (s .machine) - 1) (s .machine .psr)) (stackOf (s .machine) - 2) (s .machine .pc)
+
+module _ (s : Start) (n : ℕ) (c : FirstInterrupted s n) where
   abbrev sp : ℕ
-  sp = stackOf s
+  sp = stackOf (s .machine)
 
   abbrev user : Bool
   user = inUserMode (s .machine .psr)
@@ -200,12 +239,11 @@ module _ (s : Start) (n : ℕ) (c : Interrupted s n) where
   same-ssp true e = rw e
   same-ssp false e = refl
 
-  came-back : TakenAs (here a₀ .machine) (s .memory) (arriving s (here a₀)) → CameBack s n (callOf s 2)
+  came-back : TakenAs (here a₀ .machine) (s .memory) (arriving s (here a₀)) → FirstBack s (callOf s 2)
   came-back (taken vector priority least most used e) =
       let a = at-end priority (enters vector priority least most used e) in
       let q = call-stands a n (c .accepted) (c .steps) in
       record {
-        made = steps-are-made a n (c .accepted) (c .steps);
         steps = rw q;
         ending = rw q;
         shown = rw q;
@@ -224,8 +262,8 @@ module _ (s : Start) (n : ℕ) (c : Interrupted s n) where
         memory = rw (q, two-below, one-below);
       }
 
-pub back-returns : BackReturns
+pub first-returns : (s : Start) (n : ℕ) → FirstInterrupted s n → FirstBack s (callOf s 2)
 unfolding nextStepBy
-back-returns s n c =
+first-returns s n c =
     came-back s n c
     (which (here (a₀ s n c) .machine) (s .memory) (arriving s (here (a₀ s n c))) (interrupted-here s n c))

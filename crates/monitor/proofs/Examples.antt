@@ -2,13 +2,14 @@
 use native.Mathlib.Omega.{arith}
 use Prim.Native.Nat.{ℕ, _<_}
 use mathlib.Core.Path.{_≡_, refl}
-use mathlib.Core.Bool.{Bool, true}
+use mathlib.Core.Bool.{Bool, true, false, cond}
+use mathlib.Core.List.{[], _∷_}
 use lib.ListN.{length, take}
 use Rattle.word.specs.Reading.{readOf}
 use Rattle.machine.specs.Psr.{inUserMode, definedPsr}
 use Rattle.machine.specs.Keys.{keysDue, readyAfter, lastKey, afterKeys}
 use Rattle.machine.specs.Timer.{ticked, afterTimer}
-use Rattle.machine.specs.Protection.{privileged, deniedBy}
+use Rattle.machine.specs.Protection.{privileged, deniedBy, denied}
 use Rattle.machine.specs.Interrupts.{pendingInterrupt}
 use Rattle.machine.specs.Entry.{pushed, entry, afterEntry, raised, interrupted, stackPointerOnEntry, userStackOnEntry}
 use Rattle.machine.specs.Outcome.{access, withReads, afterInstruction}
@@ -20,19 +21,23 @@ use Rattle.run.specs.Refusals.{wrongSize, undefinedTimer, undefinedDevices, und
 use Rattle.run.specs.Refusals.{unequalLists, timesAdmission, admissionOf}
 use Rattle.run.specs.Run.{begin, arriving, nextStepBy, withShown, stepMadeBy, isHalted, showsByte, isFullBy, oneMoreBy}
 use Rattle.run.specs.Run.{runBy, endedBy}
-use Rattle.run.specs.Call.{admittedBy, callBy}
+use Rattle.run.specs.Call.{admittedBy, callBy, callOf}
 use Rattle.run.specs.Noninterference.{causeAt}
 use Rattle.monitor.specs.Vectors.{vectorWord, vectorsFrom, vectorTable}
 use Rattle.monitor.specs.Routines.{routineWords, monitorWords}
 use Rattle.monitor.specs.Install.{installOf}
-use Rattle.monitor.specs.Uses.{withVector, getcCode, putsCode, inCode, putspCode, haltCode, stopCode}
+use Rattle.monitor.specs.Uses.{HasWords, withVector, getcCode, outCode, putsCode, inCode, putspCode}
+use Rattle.monitor.specs.Uses.{haltCode, stopCode, backUses}
 use Rattle.monitor.specs.Calls.{Begins, Calls, Raises, none-enabled}
+use Rattle.monitor.specs.Getc.{KeyComes}
+use Rattle.monitor.specs.In.{firstPoll}
+use Rattle.monitor.specs.Puts.{mayRead, StringFrom}
 use Rattle.monitor.specs.Back.{Interrupted}
 use Rattle.monitor.specs.Examples.{exampleMemory, example, ExamplesHold}
 use Rattle.monitor.proofs.Intact.{monitor-word}
-use Rattle.monitor.proofs.UseLaws.{getc-below, stop-below, puts-below, putsp-below, in-below, halt-below}
-use Rattle.monitor.proofs.UseLaws.{back-below, with-vector-below}
-use Rattle.monitor.proofs.Getc.{getc-reads, still-ready}
+use Rattle.monitor.proofs.UseLaws.{getc-below, out-below, stop-below, puts-below, putsp-below, in-below}
+use Rattle.monitor.proofs.UseLaws.{halt-below, back-below, with-vector-below}
+use Rattle.monitor.proofs.Getc.{still-ready}
 
 -- To unfold this is to compute what a call is handed.
 unfoldable handed : Unit {0}
@@ -45,75 +50,107 @@ whole : (word : ℕ) → take (length monitorWords) (exampleMemory word) ≡ mon
 unfolding handed
 whole word = refl
 
+allowed : (user : Bool) → denied (cond user 0x8002 0x0002) 0x3000 ≡ false
+unfolding handed
+allowed true = refl
+allowed false = refl
+
 -- A call that begins with this KBSR, where it uses no words but the monitor's.
-idle : (word : ℕ) (uses : ℕ → Bool) → ((a : ℕ) → uses a ≡ true → a < 0x02A5) → Begins uses true (example word 0) 1000
-unfolding handed
-idle word uses below = record {
-  accepted = refl;
-  registers = refl;
-  mode = refl;
-  intact = λ a used. monitor-word (exampleMemory word) (whole word) a (below a used);
-  stack = refl;
-  mcr = refl;
-}
+module _ (word : ℕ) (uses : ℕ → Bool) (below : (a : ℕ) → uses a ≡ true → a < 0x02A5) where
+  has-words : HasWords uses (exampleMemory word)
+  has-words a used = monitor-word (exampleMemory word) (whole word) a (below a used)
 
-ready : (word : ℕ) (uses : ℕ → Bool) → ((a : ℕ) → uses a ≡ true → a < 0x02A5)
-    → Begins uses true (example word 0x8000) 1000
-unfolding handed
-ready word uses below = record {
-  accepted = refl;
-  registers = refl;
-  mode = refl;
-  intact = λ a used. monitor-word (exampleMemory word) (whole word) a (below a used);
-  stack = refl;
-  mcr = refl;
-}
+  idle : (user : Bool) → Begins uses user (example user word 0) 1000
+  unfolding handed
+  idle true = record {
+    accepted = refl;
+    registers = refl;
+    mode = refl;
+    intact = has-words;
+    stack = refl;
+    mcr = refl;
+  }
+  idle false = record {
+    accepted = refl;
+    registers = refl;
+    mode = refl;
+    intact = has-words;
+    stack = refl;
+    mcr = refl;
+  }
 
-getc : Calls 0x20 getcCode true (example 0xF020 0x8000) 1000
+  ready : (user : Bool) → Begins uses user (example user word 0x8000) 1000
+  unfolding handed
+  ready true = record {
+    accepted = refl;
+    registers = refl;
+    mode = refl;
+    intact = has-words;
+    stack = refl;
+    mcr = refl;
+  }
+  ready false = record {
+    accepted = refl;
+    registers = refl;
+    mode = refl;
+    intact = has-words;
+    stack = refl;
+    mcr = refl;
+  }
+
+getc : (user : Bool) → Calls 0x20 getcCode user (example user 0xF020 0x8000) 1000
 unfolding handed
-getc = record {
-  begins = ready 0xF020 (withVector 0x20 getcCode) (with-vector-below 0x20 getcCode (omega arith) getc-below);
-  may-fetch = refl;
+getc user = record {
+  begins = ready 0xF020 (withVector 0x20 getcCode) (with-vector-below 0x20 getcCode (omega arith) getc-below) user;
+  may-fetch = allowed user;
   trap = refl;
 }
 
-puts : Calls 0x22 putsCode true (example 0xF022 0) 1000
+out : (user : Bool) → Calls 0x21 outCode user (example user 0xF021 0) 1000
 unfolding handed
-puts = record {
-  begins = idle 0xF022 (withVector 0x22 putsCode) (with-vector-below 0x22 putsCode (omega arith) puts-below);
-  may-fetch = refl;
+out user = record {
+  begins = idle 0xF021 (withVector 0x21 outCode) (with-vector-below 0x21 outCode (omega arith) out-below) user;
+  may-fetch = allowed user;
   trap = refl;
 }
 
-input : Calls 0x23 inCode true (example 0xF023 0x8000) 1000
+puts : (user : Bool) → Calls 0x22 putsCode user (example user 0xF022 0) 1000
 unfolding handed
-input = record {
-  begins = ready 0xF023 (withVector 0x23 inCode) (with-vector-below 0x23 inCode (omega arith) in-below);
-  may-fetch = refl;
+puts user = record {
+  begins = idle 0xF022 (withVector 0x22 putsCode) (with-vector-below 0x22 putsCode (omega arith) puts-below) user;
+  may-fetch = allowed user;
   trap = refl;
 }
 
-putsp : Calls 0x24 putspCode true (example 0xF024 0) 1000
+input : (user : Bool) → Calls 0x23 inCode user (example user 0xF023 0x8000) 1000
 unfolding handed
-putsp = record {
-  begins = idle 0xF024 (withVector 0x24 putspCode) (with-vector-below 0x24 putspCode (omega arith) putsp-below);
-  may-fetch = refl;
+input user = record {
+  begins = ready 0xF023 (withVector 0x23 inCode) (with-vector-below 0x23 inCode (omega arith) in-below) user;
+  may-fetch = allowed user;
   trap = refl;
 }
 
-halt : Calls 0x25 haltCode true (example 0xF025 0) 1000
+putsp : (user : Bool) → Calls 0x24 putspCode user (example user 0xF024 0) 1000
 unfolding handed
-halt = record {
-  begins = idle 0xF025 (withVector 0x25 haltCode) (with-vector-below 0x25 haltCode (omega arith) halt-below);
-  may-fetch = refl;
+putsp user = record {
+  begins = idle 0xF024 (withVector 0x24 putspCode) (with-vector-below 0x24 putspCode (omega arith) putsp-below) user;
+  may-fetch = allowed user;
   trap = refl;
 }
 
-other : Calls 0xFF stopCode true (example 0xF0FF 0) 1000
+halt : (user : Bool) → Calls 0x25 haltCode user (example user 0xF025 0) 1000
 unfolding handed
-other = record {
-  begins = idle 0xF0FF (withVector 0xFF stopCode) (with-vector-below 0xFF stopCode (omega arith) stop-below);
-  may-fetch = refl;
+halt user = record {
+  begins = idle 0xF025 (withVector 0x25 haltCode) (with-vector-below 0x25 haltCode (omega arith) halt-below) user;
+  may-fetch = allowed user;
+  trap = refl;
+}
+
+other : (user : Bool) → Calls 0xFF stopCode user (example user 0xF0FF 0) 1000
+unfolding handed
+other user = record {
+  begins = idle 0xF0FF (withVector 0xFF stopCode) (with-vector-below 0xFF stopCode (omega arith) stop-below) user;
+  may-fetch = allowed user;
   trap = refl;
 }
 
@@ -125,22 +162,24 @@ unfolding handed keysDue readyAfter lastKey afterKeys ticked afterTimer deniedBy
     stepMadeBy isHalted showsByte isFullBy oneMoreBy runBy endedBy admittedBy callBy causeAt
 stepping = tt
 
-raises : Raises access stopCode (example 0x21FE 0) 1000
+raises : Raises access stopCode (example true 0x21FE 0) 1000
 unfolding stepping
 raises = record {
-  begins = idle 0x21FE (withVector 0x0102 stopCode) (with-vector-below 0x0102 stopCode (omega arith) stop-below);
+  begins = idle 0x21FE (withVector 0x0102 stopCode) (with-vector-below 0x0102 stopCode (omega arith) stop-below) true;
   pushed-psr = 0x8002;
   pushed-pc = 0x3000;
   cause = refl;
 }
 
-is-interrupted : Interrupted (example 0x1020 0xC000) 1000
+is-interrupted : Interrupted (example true 0x1020 0xC000) 1000 0 (callOf (example true 0x1020 0xC000) 0)
 unfolding stepping
 is-interrupted = record {
   accepted = refl;
+  bytes = refl;
   steps = omega arith;
+  done = refl;
   registers = refl;
-  intact = λ a used. monitor-word (exampleMemory 0x1020) (whole 0x1020) a (back-below a used);
+  intact = has-words 0x1020 backUses back-below;
   mcr = refl;
   above-monitor = omega arith;
   below-devices = omega arith;
@@ -148,25 +187,43 @@ is-interrupted = record {
   no-other = refl;
 }
 
+-- A key that is ready at the call.
+key-ready : (user : Bool) (word first : ℕ) → KeyComes (example user word 0x8000) first 0
+unfolding example
+key-ready user word first = record {
+  none = λ j l. absurd (omega arith);
+  comes = still-ready _ 0x8000 (omega arith);
+}
+
+puts-string : (user : Bool)
+    → StringFrom (mayRead user 0x2FFB) (exampleMemory 0xF022) 0x3002 (0x0061 ∷ 0xABCD ∷ []) 0x3004
+unfolding handed
+puts-string true = (refl, refl, omega arith, (refl, refl, omega arith, refl))
+puts-string false = (refl, refl, omega arith, (refl, refl, omega arith, refl))
+
+putsp-string : (user : Bool)
+    → StringFrom (mayRead user 0x2FFA) (exampleMemory 0xF024) 0x3002 (0x0061 ∷ 0xABCD ∷ []) 0x3004
+unfolding handed
+putsp-string true = (refl, refl, omega arith, (refl, refl, omega arith, refl))
+putsp-string false = (refl, refl, omega arith, (refl, refl, omega arith, refl))
+
 pub examples-hold : ExamplesHold
 unfolding handed
 examples-hold = record {
   getc = getc;
-  getc-key = getc-reads .ready (example 0xF020 0x8000) (omega arith);
+  getc-key = λ user. key-ready user 0xF020 1;
+  out = out;
   puts = puts;
-  puts-string = (refl, refl, omega arith, (refl, refl, omega arith, refl));
+  puts-string = puts-string;
   puts-end = refl;
   input = input;
-  input-key = record {
-    none = λ j l. absurd (omega arith);
-    comes = still-ready _ 0x8000 (omega arith);
-  };
+  input-key = λ user. key-ready user 0xF023 (firstPoll (example user 0xF023 0x8000));
   putsp = putsp;
-  putsp-string = (refl, refl, omega arith, (refl, refl, omega arith, refl));
+  putsp-string = putsp-string;
   halt = halt;
   other = other;
   access-exception = raises;
-  no-interrupt = λ word k. none-enabled (record {
+  no-interrupt = λ user word k. none-enabled (record {
     keyboard = refl;
     keyboard-word = omega arith;
     timer = refl;

@@ -16,6 +16,7 @@ pub mod Out
 pub mod Stop
 pub mod Standing
 pub mod Back
+pub mod BackAnywhere
 pub mod Getc
 pub mod Halt
 pub mod Puts

@@ -113,15 +113,15 @@ module _ (user : Bool) (s : Start) (x : Eight (s .machine .regs)) where
     unfolding computing
     not-zero a w r₂ bytes busy some = elim (decLe 0x8000 w) [
       | yes h ↦ (
-          from 0x8000,
-          then (known a w r₂ 0x0219 (from w) (from 0x8000) bytes busy (negative w h))
-          (runs quiet f sound 0 (omega arith) 1 (W a w r₂ 0x0219 (from 0x8000) bytes busy) refl),
-        )
+        from 0x8000,
+        then (known a w r₂ 0x0219 (from w) (from 0x8000) bytes busy (negative w h))
+            (runs quiet f sound 0 (omega arith) 1 (W a w r₂ 0x0219 (from 0x8000) bytes busy) refl),
+      )
       | no h ↦ (
-          from 1,
-          then (known a w r₂ 0x0219 (from w) (from 1) bytes busy (positive w some (omega arith)))
-          (runs quiet f sound 0 (omega arith) 1 (W a w r₂ 0x0219 (from 1) bytes busy) refl),
-        )
+        from 1,
+        then (known a w r₂ 0x0219 (from w) (from 1) bytes busy (positive w some (omega arith)))
+            (runs quiet f sound 0 (omega arith) 1 (W a w r₂ 0x0219 (from 1) bytes busy) refl),
+      )
     ]
 
     polls : (a w r₂ : ℕ) (c : Known) (bytes : List ℕ) (busy : ℕ) → Polls f (W a w r₂ 0x021A c bytes busy) 2 0x021A

@@ -1,28 +1,29 @@
--- The premises of the theorems can be met: for each, a fresh machine in User mode at x3000 with the monitor in memory.
+-- The premises of the theorems can be met: for each, a fresh machine at x3000 with the monitor in memory.
 use Prim.Native.Nat.{ℕ}
 use mathlib.Core.Path.{_≡_}
-use mathlib.Core.Bool.{true}
+use mathlib.Core.Bool.{Bool, true, cond}
 use mathlib.Core.List.{List, [], _∷_}
 use lib.ListN.{getD, set, replicate}
 use Rattle.machine.specs.declared.Machine.{Machine}
 use Rattle.machine.specs.Record.{devicesOf, zeroTimer}
 use Rattle.machine.specs.Outcome.{access}
 use Rattle.run.specs.Run.{Start}
-use Rattle.run.specs.Call.{startOf}
+use Rattle.run.specs.Call.{startOf, callOf}
 use Rattle.monitor.specs.Install.{installOf}
-use Rattle.monitor.specs.Uses.{getcCode, putsCode, inCode, putspCode, haltCode, stopCode}
+use Rattle.monitor.specs.Uses.{getcCode, outCode, putsCode, inCode, putspCode, haltCode, stopCode}
 use Rattle.monitor.specs.Calls.{Calls, Raises, NoInterrupt}
 use Rattle.monitor.specs.Puts.{mayRead, StringFrom}
 use Rattle.monitor.specs.Getc.{KeyComes}
 use Rattle.monitor.specs.In.{firstPoll}
 use Rattle.monitor.specs.Back.{Interrupted}
 
--- R0 is x3002; this KBSR, and the key x61 in KBDR.
-abbrev pub programAt3000 : ℕ → Machine
-programAt3000 kbsr = record {
-  regs = 0x3002 ∷ 0 ∷ 0 ∷ 0 ∷ 0 ∷ 0 ∷ 0xFDFF ∷ 0 ∷ [];
+-- In User mode or in Supervisor mode, with the supervisor stack at x3000. R0 is x3002; this KBSR, and the key x61 in
+-- KBDR.
+abbrev pub programAt3000 : Bool → ℕ → Machine
+programAt3000 user kbsr = record {
+  regs = 0x3002 ∷ 0 ∷ 0 ∷ 0 ∷ 0 ∷ 0 ∷ cond user 0xFDFF 0x3000 ∷ 0 ∷ [];
   pc = 0x3000;
-  psr = 0x8002;
+  psr = cond user 0x8002 0x0002;
   «saved_ssp» = 0x3000;
   «saved_usp» = 0;
   devices = devicesOf kbsr 0x61 0x8000 0 zeroTimer;
@@ -33,24 +34,28 @@ programAt3000 kbsr = record {
 unfoldable pub exampleMemory : ℕ → List ℕ
 exampleMemory word = set (set (set (installOf (replicate 65536 0) .words) 0x3000 word) 0x3002 0x0061) 0x3003 0xABCD
 
-unfoldable pub example : ℕ → ℕ → Start
-example word kbsr = startOf (programAt3000 kbsr) (exampleMemory word) [] [] (replicate 32 0)
+unfoldable pub example : Bool → ℕ → ℕ → Start
+example user word kbsr = startOf (programAt3000 user kbsr) (exampleMemory word) [] [] (replicate 32 0)
 
 pub record ExamplesHold : Type 0 where
-  pub getc : Calls 0x20 getcCode true (example 0xF020 0x8000) 1000
-  pub getc-key : KeyComes (example 0xF020 0x8000) 1 0
-  pub puts : Calls 0x22 putsCode true (example 0xF022 0) 1000
-  pub puts-string : StringFrom (mayRead true 0x2FFB) (exampleMemory 0xF022) 0x3002 (0x0061 ∷ 0xABCD ∷ []) 0x3004
+  pub getc : (user : Bool) → Calls 0x20 getcCode user (example user 0xF020 0x8000) 1000
+  pub getc-key : (user : Bool) → KeyComes (example user 0xF020 0x8000) 1 0
+  pub out : (user : Bool) → Calls 0x21 outCode user (example user 0xF021 0) 1000
+  pub puts : (user : Bool) → Calls 0x22 putsCode user (example user 0xF022 0) 1000
+  pub puts-string : (user : Bool)
+      → StringFrom (mayRead user 0x2FFB) (exampleMemory 0xF022) 0x3002 (0x0061 ∷ 0xABCD ∷ []) 0x3004
   pub puts-end : getD (exampleMemory 0xF022) 0x3004 0 ≡ 0
-  pub input : Calls 0x23 inCode true (example 0xF023 0x8000) 1000
-  pub input-key : KeyComes (example 0xF023 0x8000) (firstPoll (example 0xF023 0x8000)) 0
-  pub putsp : Calls 0x24 putspCode true (example 0xF024 0) 1000
-  pub putsp-string : StringFrom (mayRead true 0x2FFA) (exampleMemory 0xF024) 0x3002 (0x0061 ∷ 0xABCD ∷ []) 0x3004
-  pub halt : Calls 0x25 haltCode true (example 0xF025 0) 1000
-  pub other : Calls 0xFF stopCode true (example 0xF0FF 0) 1000
+  pub input : (user : Bool) → Calls 0x23 inCode user (example user 0xF023 0x8000) 1000
+  pub input-key : (user : Bool)
+      → KeyComes (example user 0xF023 0x8000) (firstPoll (example user 0xF023 0x8000)) 0
+  pub putsp : (user : Bool) → Calls 0x24 putspCode user (example user 0xF024 0) 1000
+  pub putsp-string : (user : Bool)
+      → StringFrom (mayRead user 0x2FFA) (exampleMemory 0xF024) 0x3002 (0x0061 ∷ 0xABCD ∷ []) 0x3004
+  pub halt : (user : Bool) → Calls 0x25 haltCode user (example user 0xF025 0) 1000
+  pub other : (user : Bool) → Calls 0xFF stopCode user (example user 0xF0FF 0) 1000
   -- LD R0 from x2FFF
-  pub access-exception : Raises access stopCode (example 0x21FE 0) 1000
+  pub access-exception : Raises access stopCode (example true 0x21FE 0) 1000
   -- no device is enabled, whatever the word and the keyboard's ready bit are
-  pub no-interrupt : (word k : ℕ) → NoInterrupt (example word 0x8000) k
+  pub no-interrupt : (user : Bool) (word k : ℕ) → NoInterrupt (example user word 0x8000) k
   -- a key that is ready and may interrupt
-  pub interrupted : Interrupted (example 0x1020 0xC000) 1000
+  pub interrupted : Interrupted (example true 0x1020 0xC000) 1000 0 (callOf (example true 0x1020 0xC000) 0)
