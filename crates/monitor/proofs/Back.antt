@@ -151,8 +151,8 @@ module _ (s : Start) (n : ℕ) (c : FirstInterrupted s n) where
       → At s 1 1 (enteredFrame backUses s user (highOf priority)) entered
   unfolding interrupted nextStepBy
   enters vector priority least most used e =
-      let g = entry-gives backUses s ok user refl sp refl (interrupt vector) (s .machine .pc) (highOf priority) most used
-      fine in
+      let g = entry-gives backUses s ok user refl sp refl (interrupt vector) (s .machine .pc) (highOf priority) most
+      used fine in
       let leads : vectorWord ours vector ≡ 0x027F = sym (interrupt-word ours vector least) in
       let view : View = enteredView s sp (vectorWord ours vector) (s .machine .pc) in
       let p : (d : Devices) (t : ℕ)

@@ -2,7 +2,6 @@
 use Prim.Native.Nat.{ℕ, _+_, _-_, _≤_}
 use native.Mathlib.Omega.{arith}
 use mathlib.Core.Path.{_≡_, sym, ap, ap₂, _∙_}
-use mathlib.Core.Bool.{true, false}
 use mathlib.Core.List.{List}
 use lib.ListN.{take, drop, take-append-drop}
 use lib.Seq.{drop-drop}
@@ -11,16 +10,16 @@ use Rattle.machine.specs.Keys.{keysDue}
 use Rattle.machine.specs.Step.{stepOf}
 use Rattle.run.specs.declared.Admission.the-variants.{Accepted}
 use Rattle.run.specs.declared.Ending.the-variants.{Done}
-use Rattle.run.specs.Run.{Start, End, begin, arriving, nextStepBy, nextStep, runOf}
+use Rattle.run.specs.Run.{Start, End, arriving, nextStepBy, nextStep, runOf}
 use Rattle.run.specs.Refusals.{admissionOf}
 use Rattle.run.specs.Call.{callOf}
 use Rattle.run.specs.Continuing.{remaining, joined, Splits}
 use Rattle.run.specs.Noninterference.{causeAt}
-use Rattle.run.proofs.RunLaws.{run-of-none, done-steps-are-made}
+use Rattle.run.proofs.RunLaws.{done-steps-are-made}
 use Rattle.run.proofs.Acceptance.{accepted-with-fewer, call-is-run}
 use Rattle.run.proofs.Continuing.{run-splits}
-use Rattle.monitor.specs.Back.{Interrupted, keysBetween, CameBack, BackReturns}
-use Rattle.monitor.proofs.Back.{FirstInterrupted, FirstBack, first-returns}
+use Rattle.monitor.specs.Back.{Interrupted, CameBack, BackReturns}
+use Rattle.monitor.proofs.Back.{FirstInterrupted, first-returns}
 
 module _ (s : Start) (n k : ℕ) (c : Interrupted s n k (callOf s k)) where
   abbrev e : End

@@ -153,7 +153,8 @@ enteredView s sp to pc = record {
 module _ (uses : ℕ → Bool) (s : Start) (i : Intact uses (s .memory)) (user : Bool)
     (mode : inUserMode (s .machine .psr) ≡ user) (sp : ℕ)
     (stack : cond user (s .machine .«saved_ssp») (getD (s .machine .regs) 6 0) ≡ sp) (reason : Reason) (pc high : ℕ)
-    (vector : vectorOf reason < 0x0200) (used : uses (vectorOf reason) ≡ true) (fine : cellsFine (enteredView s sp 0 pc .cells) ≡ true) where
+    (vector : vectorOf reason < 0x0200) (used : uses (vectorOf reason) ≡ true)
+    (fine : cellsFine (enteredView s sp 0 pc .cells) ≡ true) where
   pub entry-gives : (psr : ℕ) → psr ≡ high * 8 + s .machine .psr % 8 → (d : Devices) (t : ℕ)
       → Gives (entry reason pc psr (machineAt (startFrame uses s) (startView s) d t) (s .memory)) []
       (s .machine .devices .busy) (enteredFrame uses s user high)
@@ -215,7 +216,8 @@ trap-enters uses user s n bound accepted quiet some i mode may-fetch stack going
       memory = rw (allowed, word) (g (psr % 0x8000) p d t .memory);
       shown = rw (allowed, word) (g (psr % 0x8000) p d t .shown);
     })
-    (entry-silent uses s user (s .machine .psr / 8 % 4096) 0x3000 (vectorWord ours vector) (next (s .machine .pc))) refl refl
+    (entry-silent uses s user (s .machine .psr / 8 % 4096) 0x3000 (vectorWord ours vector) (next (s .machine .pc)))
+    refl refl
 
 -- ---- an exception, or a trap, in User mode
 
@@ -230,9 +232,11 @@ exception-enters uses s n bound accepted quiet some i user stack going reason be
     let g = entry-gives uses s i true user 0x3000 stack reason pc (s .machine .psr / 8 % 4096) below used refl in
     let p : psrAt (startFrame uses s) (startView s) % 0x8000 ≡ s .machine .psr / 8 % 4096 * 8 + s .machine .psr % 8 =
     rw (← (psr-parts (s .machine .psr))) (trap-psr (s .machine .psr)) in
-    let mode : inUserMode (psrAt (startFrame uses s) (startView s)) ≡ true = rw (← (psr-parts (s .machine .psr))) user in
+    let mode : inUserMode (psrAt (startFrame uses s) (startView s)) ≡ true =
+    rw (← (psr-parts (s .machine .psr))) user in
     let same : callOf s 0 ≡ runOf s 0 = call-is-run stepOf s n 0 accepted (omega arith) in
-    advance-by a (quiet .at a some) going (calledFrame uses true s) (calledView s (vectorWord ours (vectorOf reason)) pc) []
+    advance-by a (quiet .at a some) going (calledFrame uses true s)
+    (calledView s (vectorWord ours (vectorOf reason)) pc) []
     (statusIn s 0 (startView s))
     (λ d t e kbsr kbdr.
     let r = user-raises (machineAt (startFrame uses s) (startView s) d t) (s .memory) mode reason psr pc

@@ -41,9 +41,9 @@ use Rattle.monitor.proofs.Getc.{still-ready}
 
 -- To unfold this is to compute what a call is handed.
 unfoldable handed : Unit {0}
-unfolding example exampleMemory readOf inUserMode definedPsr privileged deniedBy wrongSize undefinedTimer undefinedDevices
-    undefinedRecord tooManySteps unequalLists timesAdmission admissionOf vectorWord vectorsFrom vectorTable routineWords
-    monitorWords installOf
+unfolding example exampleMemory readOf inUserMode definedPsr privileged deniedBy wrongSize undefinedTimer
+    undefinedDevices undefinedRecord tooManySteps unequalLists timesAdmission admissionOf vectorWord vectorsFrom
+    vectorTable routineWords monitorWords installOf
 handed = tt
 
 whole : (word : ℕ) → take (length monitorWords) (exampleMemory word) ≡ monitorWords
@@ -55,29 +55,10 @@ unfolding handed
 allowed true = refl
 allowed false = refl
 
--- A call that begins with this KBSR, where it uses no words but the monitor's.
+-- A call that uses no words but the monitor's.
 module _ (word : ℕ) (uses : ℕ → Bool) (below : (a : ℕ) → uses a ≡ true → a < 0x02A5) where
   has-words : HasWords uses (exampleMemory word)
   has-words a used = monitor-word (exampleMemory word) (whole word) a (below a used)
-
-  idle : (user : Bool) → Begins uses user (example user word 0) 1000
-  unfolding handed
-  idle true = record {
-    accepted = refl;
-    registers = refl;
-    mode = refl;
-    intact = has-words;
-    stack = refl;
-    mcr = refl;
-  }
-  idle false = record {
-    accepted = refl;
-    registers = refl;
-    mode = refl;
-    intact = has-words;
-    stack = refl;
-    mcr = refl;
-  }
 
   ready : (user : Bool) → Begins uses user (example user word 0x8000) 1000
   unfolding handed
@@ -106,18 +87,18 @@ getc user = record {
   trap = refl;
 }
 
-out : (user : Bool) → Calls 0x21 outCode user (example user 0xF021 0) 1000
+out : (user : Bool) → Calls 0x21 outCode user (example user 0xF021 0x8000) 1000
 unfolding handed
 out user = record {
-  begins = idle 0xF021 (withVector 0x21 outCode) (with-vector-below 0x21 outCode (omega arith) out-below) user;
+  begins = ready 0xF021 (withVector 0x21 outCode) (with-vector-below 0x21 outCode (omega arith) out-below) user;
   may-fetch = allowed user;
   trap = refl;
 }
 
-puts : (user : Bool) → Calls 0x22 putsCode user (example user 0xF022 0) 1000
+puts : (user : Bool) → Calls 0x22 putsCode user (example user 0xF022 0x8000) 1000
 unfolding handed
 puts user = record {
-  begins = idle 0xF022 (withVector 0x22 putsCode) (with-vector-below 0x22 putsCode (omega arith) puts-below) user;
+  begins = ready 0xF022 (withVector 0x22 putsCode) (with-vector-below 0x22 putsCode (omega arith) puts-below) user;
   may-fetch = allowed user;
   trap = refl;
 }
@@ -130,26 +111,26 @@ input user = record {
   trap = refl;
 }
 
-putsp : (user : Bool) → Calls 0x24 putspCode user (example user 0xF024 0) 1000
+putsp : (user : Bool) → Calls 0x24 putspCode user (example user 0xF024 0x8000) 1000
 unfolding handed
 putsp user = record {
-  begins = idle 0xF024 (withVector 0x24 putspCode) (with-vector-below 0x24 putspCode (omega arith) putsp-below) user;
+  begins = ready 0xF024 (withVector 0x24 putspCode) (with-vector-below 0x24 putspCode (omega arith) putsp-below) user;
   may-fetch = allowed user;
   trap = refl;
 }
 
-halt : (user : Bool) → Calls 0x25 haltCode user (example user 0xF025 0) 1000
+halt : (user : Bool) → Calls 0x25 haltCode user (example user 0xF025 0x8000) 1000
 unfolding handed
 halt user = record {
-  begins = idle 0xF025 (withVector 0x25 haltCode) (with-vector-below 0x25 haltCode (omega arith) halt-below) user;
+  begins = ready 0xF025 (withVector 0x25 haltCode) (with-vector-below 0x25 haltCode (omega arith) halt-below) user;
   may-fetch = allowed user;
   trap = refl;
 }
 
-other : (user : Bool) → Calls 0xFF stopCode user (example user 0xF0FF 0) 1000
+other : (user : Bool) → Calls 0xFF stopCode user (example user 0xF0FF 0x8000) 1000
 unfolding handed
 other user = record {
-  begins = idle 0xF0FF (withVector 0xFF stopCode) (with-vector-below 0xFF stopCode (omega arith) stop-below) user;
+  begins = ready 0xF0FF (withVector 0xFF stopCode) (with-vector-below 0xFF stopCode (omega arith) stop-below) user;
   may-fetch = allowed user;
   trap = refl;
 }
@@ -158,14 +139,14 @@ other user = record {
 unfoldable stepping : Unit {0}
 unfolding handed keysDue readyAfter lastKey afterKeys ticked afterTimer deniedBy pendingInterrupt pushed entry
     afterEntry raised interrupted stackPointerOnEntry userStackOnEntry withReads afterInstruction loadToBy return popped
-    afterReturn planBy performBy obeyedBy interruptedOrObeyedBy busyAfter afterTick ended stepBy begin arriving nextStepBy withShown
-    stepMadeBy isHalted showsByte isFullBy oneMoreBy runBy endedBy admittedBy callBy causeAt
+    afterReturn planBy performBy obeyedBy interruptedOrObeyedBy busyAfter afterTick ended stepBy begin arriving
+    nextStepBy withShown stepMadeBy isHalted showsByte isFullBy oneMoreBy runBy endedBy admittedBy callBy causeAt
 stepping = tt
 
-raises : Raises access stopCode (example true 0x21FE 0) 1000
+raises : Raises access stopCode (example true 0x21FE 0x8000) 1000
 unfolding stepping
 raises = record {
-  begins = idle 0x21FE (withVector 0x0102 stopCode) (with-vector-below 0x0102 stopCode (omega arith) stop-below) true;
+  begins = ready 0x21FE (withVector 0x0102 stopCode) (with-vector-below 0x0102 stopCode (omega arith) stop-below) true;
   pushed-psr = 0x8002;
   pushed-pc = 0x3000;
   cause = refl;

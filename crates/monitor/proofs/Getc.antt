@@ -23,8 +23,8 @@ use Rattle.monitor.proofs.Calls.{is-intact, quiet-steps, Eight, eight, 
 use Rattle.monitor.proofs.Calls.{comes-back}
 use Rattle.monitor.proofs.Keyboard.{keyRead, Keys, Turned, turns, takes-key}
 
-module _ (user : Bool) (s : Start) (n t : ℕ) (c : Calls 0x20 getcCode user s n) (key : KeyComes s 1 t) (le : getcSteps t ≤ n)
-    (none : NoInterrupt s (getcSteps t)) (x : Eight (s .machine .regs)) where
+module _ (user : Bool) (s : Start) (n t : ℕ) (c : Calls 0x20 getcCode user s n) (key : KeyComes s 1 t)
+    (le : getcSteps t ≤ n) (none : NoInterrupt s (getcSteps t)) (x : Eight (s .machine .regs)) where
   abbrev uses : ℕ → Bool
   uses = withVector 0x20 getcCode
 
@@ -67,7 +67,8 @@ module _ (user : Bool) (s : Start) (n t : ℕ) (c : Calls 0x20 getcCode user s n
   unfolding vectorWord
   waited =
       turns quiet f sound view refl refl refl refl 0 0x0200 keys 1 (view .regs) (view .codes) (view .busy)
-      (routine-begins getcCode user s n (j + 1) x 0x20 0x0200 c quiet (omega arith) (omega arith) refl) t (omega arith) (key .none)
+      (routine-begins getcCode user s n (j + 1) x 0x20 0x0200 c quiet (omega arith) (omega arith) refl) t (omega arith)
+      (key .none)
 
   abbrev polled : View
   polled = within view (withRegister (waited .regs-now) 0 (statusAt s (1 + 2 * t))) 0x0202 (from 0x8000)

@@ -168,7 +168,8 @@ module _ (user : Bool) (s : Start) (n t : ℕ) (c : Calls 0x23 inCode user s n) 
       set-set (waited .regs-now) 0 (statusAt s (firstPoll s + 2 * t)) byte ∙ waited .same byte in
       let a : At s 0 (keyStep s t + 1) (f user s x) (keyRead s (keyStep s t) polled 0) =
       rw z at (takes-key quiet (f user s x) sound (waiting user s x) refl refl refl refl 0 0x0233 (keys user s x)
-      (firstPoll s + 2 * t) (omega arith) (waited .regs-now) (waited .codes) (waited .busy-now) (waited .at) (key .comes)) in
+      (firstPoll s + 2 * t) (omega arith) (waited .regs-now) (waited .codes) (waited .busy-now) (waited .at)
+      (key .comes)) in
       subst (λ (v : View). At s 0 (keyStep s t + 1) (f user s x) v)
       (λ i. record {
         regs = regs i;
@@ -212,8 +213,8 @@ module _ (user : Bool) (s : Start) (n t : ℕ) (c : Calls 0x23 inCode user s n) 
   in-resumes : Resumes s n (inSteps s t) (shownByIn s t) 0x2FFC (set (s .machine .regs) 0 byte) (readIn (keyStep s t) s)
   unfolding returning computing
   in-resumes =
-      comes-back uses user s n j returning b quiet at-rti at-return le 0x2FFC refl (set (s .machine .regs) 0 byte) same-registers
-      (readIn (keyStep s t) s) cleared
+      comes-back uses user s n j returning b quiet at-rti at-return le 0x2FFC refl (set (s .machine .regs) 0 byte)
+      same-registers (readIn (keyStep s t) s) cleared
 
 pub in-reads : InReads
 in-reads user s n t c key room le none =

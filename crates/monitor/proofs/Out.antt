@@ -125,8 +125,8 @@ module _ (user : Bool) (s : Start) (n : ℕ) (c : Calls 0x21 outCode user s n) (
 
   at-end : At s 0 (j + 1) (backFrame uses user s) (backView uses user s (returning user s x))
   at-end =
-      at-back uses user s n j (returning user s x) (c .begins) quiet at-rti (at-return user s x) enough 0x2FFD stack-only
-      (s .machine .regs) restored
+      at-back uses user s n j (returning user s x) (c .begins) quiet at-rti (at-return user s x) enough 0x2FFD
+      stack-only (s .machine .regs) restored
 
   five-left : callOf s (j + 1) .machine .devices .busy ≡ 5
   five-left = rw (call-stands at-end n (c .begins .accepted) enough) five

@@ -2,14 +2,14 @@
 use Prim.Native.Nat.{ℕ, suc, _+_, _-_, _%_, _≤_, _<_}
 use native.Mathlib.Omega.{arith}
 use native.Mathlib.Decide.{decLe}
-use mathlib.Core.Path.{_≡_, refl, sym, ap, _∙_}
+use mathlib.Core.Path.{_≡_, refl, sym}
 use mathlib.Core.Bool.{Bool, true}
 use mathlib.Core.List.{List, [], _∷_, _++_, append-nil}
 use borrow.Author.Tests.{lt-ltb, leb-true}
 use lib.ListN.{length, getD, length-append}
 use lib.Seq.{append-snoc}
 use Rattle.machine.specs.Words.{next, wrap}
-use Rattle.machine.specs.Psr.{inUserMode, codesOf}
+use Rattle.machine.specs.Psr.{inUserMode}
 use Rattle.machine.specs.Protection.{privileged}
 use Rattle.run.specs.Run.{Start}
 use Rattle.run.proofs.Acceptance.{accepted-is-acceptable}
@@ -328,35 +328,36 @@ module _ (user : Bool) (s : Start) (n : ℕ) (c : Calls 0x22 putsCode user s n) 
 module _ (s : Start) (n : ℕ) (c : Calls 0x22 putsCode true s n) (x : Eight (s .machine .regs)) (words : List ℕ) (b : ℕ)
     (string : StringFrom (mayRead true 0x2FFB) (s .memory) (r0 s) words b) (room : length words ≤ length (s .output))
     (quiet : Quiet s 0 (refusedSteps s words)) (privileged-word : privileged b ≡ true) (below : b < 65536) where
-  abbrev shown : All true s x (refusedSteps s words) quiet
-      (sound true s n c x words b string room (refusedSteps s words) (omega arith) quiet) (c .begins .mode)
+  abbrev total : ℕ
+  total = refusedSteps s words
+
+  routine-sound : Sound (f true s x)
+  routine-sound = sound true s n c x words b string room total (omega arith) quiet
+
+  abbrev shown : All true s x total quiet (sound true s n c x words b string room total (omega arith) quiet)
+      (c .begins .mode)
       (W true s x (x .r₀) (x .r₁) (x .r₂) 0x0210 (from 0x2FFB) [] (s .machine .devices .busy - 5))
       (wordSteps true (s .machine .devices .busy - 5) (r0 s) words) b (lowBytes words)
-  shown = all true s n c x words b string room (refusedSteps s words) (omega arith) quiet
+  shown = all true s n c x words b string room total (omega arith) quiet
 
-  bad : Comes s (refusedSteps s words) (f true s x) (W true s x)
-      (looking true s n c x words b string room (refusedSteps s words) (omega arith) quiet) 8 b 0x0224 (lowBytes words) 0
+  bad : Comes s total (f true s x) (W true s x)
+      (looking true s n c x words b string room total (omega arith) quiet) 8 b 0x0224 (lowBytes words) 0
   bad =
-      look-refused
-      (looks true s x (refusedSteps s words) quiet
-      (sound true s n c x words b string room (refusedSteps s words) (omega arith) quiet))
-      b (shown .comes .r₁) (shown .comes .r₂) (shown .comes .codes) (lowBytes words) (shown .busy)
+      look-refused (looks true s x total quiet routine-sound) b (shown .comes .r₁) (shown .comes .r₂)
+      (shown .comes .codes) (lowBytes words) (shown .busy)
       (unfold inUserMode in leb-true 0x8000 (s .machine .psr) (c .begins .mode)) (shown .few) below privileged-word
 
   stopped : View
   stopped = steppedBy 6 (f true s x) (W true s x b (bad .r₁) (bad .r₂) 0x0224 (bad .codes) (lowBytes words) 0)
 
-  at-stop : At s 0 (refusedSteps s words) (f true s x) stopped
+  at-stop : At s 0 total (f true s x) stopped
   unfolding stopped
   at-stop =
       then (bad .leads)
-      (stops true s x (refusedSteps s words) quiet
-      (sound true s n c x words b string room (refusedSteps s words) (omega arith) quiet) (c .begins .mode) b
-      (bad .r₁) (bad .r₂) (bad .codes) (lowBytes words))
-      .on (omega arith)
-      (at-look true s n c x words b string room (refusedSteps s words) (omega arith) quiet (omega arith))
+      (stops true s x total quiet routine-sound (c .begins .mode) b (bad .r₁) (bad .r₂) (bad .codes) (lowBytes words))
+      .on (omega arith) (at-look true s n c x words b string room total (omega arith) quiet (omega arith))
 
-  refuses : refusedSteps s words < n → Halts s n (refusedSteps s words) (lowBytes words) 0x2FFB
+  refuses : total < n → Halts s n total (lowBytes words) 0x2FFB
   unfolding stopped computing
   refuses more =
       halts at-stop n (c .begins) 0x2FFB refl refl refl refl refl more (rw (x .are)) refl refl refl refl refl

@@ -648,8 +648,8 @@ module _ (s : Start) (n : ℕ) (c : Calls 0x24 putspCode true s n) (x : Eight (s
   routine-sound = sound true s n c x words b string fit room total (omega arith) quiet
 
   abbrev shown : Pairs true s x total quiet (sound true s n c x words b string fit room total (omega arith) quiet)
-      (W true s x (x .r₃) (x .r₀) (x .r₁) (x .r₂) 0x0242 (from 0x2FFA) [] (left true s n c x words b string fit room total
-      (omega arith) quiet))
+      (W true s x (x .r₃) (x .r₀) (x .r₁) (x .r₂) 0x0242 (from 0x2FFA) []
+      (left true s n c x words b string fit room total (omega arith) quiet))
       (pairsSteps true (r0 s) words) b (pairBytes words)
   shown = all true s n c x words b string fit room total (omega arith) quiet
 
@@ -661,7 +661,8 @@ module _ (s : Start) (n : ℕ) (c : Calls 0x24 putspCode true s n) (x : Eight (s
       (shown .few) below privileged-word
 
   stopped : View
-  stopped = steppedBy 7 (f true s x) (W true s x (shown .r₃) b (bad .r₁) (bad .r₂) 0x0268 (bad .codes) (pairBytes words) 0)
+  stopped =
+      steppedBy 7 (f true s x) (W true s x (shown .r₃) b (bad .r₁) (bad .r₂) 0x0268 (bad .codes) (pairBytes words) 0)
 
   at-stop : At s 0 total (f true s x) stopped
   unfolding stopped

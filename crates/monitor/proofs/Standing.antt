@@ -1,5 +1,5 @@
 -- The claims on the words, from the law of the table and by computing.
-use Prim.Native.Nat.{ℕ, _<_}
+use Prim.Native.Nat.{ℕ}
 use native.Mathlib.Omega.{arith}
 use mathlib.Core.Path.{_≡_, refl, sym, ap, _∙_}
 use mathlib.Core.Bool.{true}
@@ -24,7 +24,8 @@ pub stands : Stands
 stands = record {
   waits = wait;
   lone-rti = λ a least most.
-      ap (λ (w : ℕ). readOf (getD monitorWords w 0)) (monitor-vector a most ∙ sym (interrupt-word ours a least)) ∙ back-word;
+      ap (λ (w : ℕ). readOf (getD monitorWords w 0)) (monitor-vector a most ∙ sym (interrupt-word ours a least))
+      ∙ back-word;
   one-routine = λ a b other-a other-b.
       monitor-vector a (omega (arith, other-a .below))
       ∙ sym (other-trap ours a (other-a .no-service) (other-a .below))

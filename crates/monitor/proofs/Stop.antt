@@ -72,7 +72,8 @@ exception-halts reason least most s n r more none =
 -- ---- the host lets the machine go on
 
 module _ (s : Start) (n k : ℕ) (bytes : List ℕ) (low : ℕ) (words : HasWords stopCode (s .memory))
-    (h : Halts s n k bytes low) (above : 0x02A5 ≤ low) (s′ : Start) (n′ : ℕ) (g : GoesOn s n s′ n′) (more : 3 < n′) (none : NoInterrupt s′ 3) where
+    (h : Halts s n k bytes low) (above : 0x02A5 ≤ low) (s′ : Start) (n′ : ℕ) (g : GoesOn s n s′ n′)
+    (more : 3 < n′) (none : NoInterrupt s′ 3) where
   still-intact : Intact stopCode (s′ .memory)
   still-intact = record {
     words = λ a used.

@@ -1,5 +1,5 @@
--- BACK: "every other word of x0100 to x01FF [leads] to a lone RTI". An interrupt, of either device, in either mode and at
--- any step of a call, on the way through a routine too, comes back at once to where it was taken.
+-- BACK: "every other word of x0100 to x01FF [leads] to a lone RTI". An interrupt, of either device, in either mode and
+-- at any step of a call, on the way through a routine too, comes back at once to where it was taken.
 use Prim.Native.Nat.{ℕ, _+_, _-_, _≤_}
 use mathlib.Core.Path.{_≡_}
 use mathlib.Core.Bool.{true, false, cond}

@@ -40,21 +40,21 @@ example user word kbsr = startOf (programAt3000 user kbsr) (exampleMemory word) 
 pub record ExamplesHold : Type 0 where
   pub getc : (user : Bool) → Calls 0x20 getcCode user (example user 0xF020 0x8000) 1000
   pub getc-key : (user : Bool) → KeyComes (example user 0xF020 0x8000) 1 0
-  pub out : (user : Bool) → Calls 0x21 outCode user (example user 0xF021 0) 1000
-  pub puts : (user : Bool) → Calls 0x22 putsCode user (example user 0xF022 0) 1000
+  pub out : (user : Bool) → Calls 0x21 outCode user (example user 0xF021 0x8000) 1000
+  pub puts : (user : Bool) → Calls 0x22 putsCode user (example user 0xF022 0x8000) 1000
   pub puts-string : (user : Bool)
       → StringFrom (mayRead user 0x2FFB) (exampleMemory 0xF022) 0x3002 (0x0061 ∷ 0xABCD ∷ []) 0x3004
   pub puts-end : getD (exampleMemory 0xF022) 0x3004 0 ≡ 0
   pub input : (user : Bool) → Calls 0x23 inCode user (example user 0xF023 0x8000) 1000
   pub input-key : (user : Bool)
       → KeyComes (example user 0xF023 0x8000) (firstPoll (example user 0xF023 0x8000)) 0
-  pub putsp : (user : Bool) → Calls 0x24 putspCode user (example user 0xF024 0) 1000
+  pub putsp : (user : Bool) → Calls 0x24 putspCode user (example user 0xF024 0x8000) 1000
   pub putsp-string : (user : Bool)
       → StringFrom (mayRead user 0x2FFA) (exampleMemory 0xF024) 0x3002 (0x0061 ∷ 0xABCD ∷ []) 0x3004
-  pub halt : (user : Bool) → Calls 0x25 haltCode user (example user 0xF025 0) 1000
-  pub other : (user : Bool) → Calls 0xFF stopCode user (example user 0xF0FF 0) 1000
+  pub halt : (user : Bool) → Calls 0x25 haltCode user (example user 0xF025 0x8000) 1000
+  pub other : (user : Bool) → Calls 0xFF stopCode user (example user 0xF0FF 0x8000) 1000
   -- LD R0 from x2FFF
-  pub access-exception : Raises access stopCode (example true 0x21FE 0) 1000
+  pub access-exception : Raises access stopCode (example true 0x21FE 0x8000) 1000
   -- no device is enabled, whatever the word and the keyboard's ready bit are
   pub no-interrupt : (user : Bool) (word k : ℕ) → NoInterrupt (example user word 0x8000) k
   -- a key that is ready and may interrupt

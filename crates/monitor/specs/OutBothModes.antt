@@ -1,4 +1,5 @@
--- OUT called from either mode, where no more than the words that it uses are intact, in the terms of the other routines.
+-- OUT called from either mode, where no more than the words that it uses are intact, in the terms of the other
+-- routines.
 use Prim.Native.Nat.{ℕ, _%_, _≤_, _<_}
 use mathlib.Core.Bool.{Bool}
 use mathlib.Core.List.{[], _∷_}

@@ -50,4 +50,5 @@ pub record StopHalts : Type 0 where
       → Halts s n 3 [] 0x2FFE
   -- "and it halts again": after STOP, after HALT, and after PUTS or PUTSP that was refused a word
   pub again : (s : Start) (n k : ℕ) (bytes : List ℕ) (low : ℕ) → length (s .machine .regs) ≡ 8
-      → HasWords stopCode (s .memory) → Halts s n k bytes low → 0x02A5 ≤ low → (s′ : Start) (n′ : ℕ) → GoesOn s n s′ n′ → 3 < n′ → NoInterrupt s′ 3 → HaltsAgain s′ n′
+      → HasWords stopCode (s .memory) → Halts s n k bytes low → 0x02A5 ≤ low → (s′ : Start) (n′ : ℕ)
+      → GoesOn s n s′ n′ → 3 < n′ → NoInterrupt s′ 3 → HaltsAgain s′ n′
