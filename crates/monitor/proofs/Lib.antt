@@ -14,7 +14,7 @@ pub mod Strings
 pub mod Keyboard
 pub mod Out
 pub mod Stop
-pub mod Standing
+pub mod Words
 pub mod Back
 pub mod BackAnywhere
 pub mod Getc

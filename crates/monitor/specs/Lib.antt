@@ -9,7 +9,7 @@ pub mod Calls
 pub mod OutBothModes
 pub mod Stop
 pub mod Beside
-pub mod Standing
+pub mod Words
 pub mod Back
 pub mod Getc
 pub mod Halt

@@ -43,7 +43,7 @@ unfoldable pub waitFrom : ℕ → ℕ → Bool
 waitFrom a zero = true
 waitFrom a (suc n) = waitsAt a && waitFrom (suc a) n
 
-pub record Stands : Type 0 where
+pub record WordsHold : Type 0 where
   -- "Each routine waits until DSR is ready before it shows a byte": the words x0200 to x027F
   pub waits : waitFrom 0x0200 128 ≡ true
   -- "every other word of x0100 to x01FF [leads] to a lone RTI"

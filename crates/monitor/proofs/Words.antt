@@ -8,7 +8,7 @@ use Rattle.word.specs.Reading.{readOf}
 use Rattle.word.specs.declared.Instruction.the-variants.{Rti}
 use Rattle.monitor.specs.Vectors.{vectorWord, vectorsFrom, vectorTable, ours}
 use Rattle.monitor.specs.Routines.{routineWords, monitorWords}
-use Rattle.monitor.specs.Standing.{waitFrom, Stands}
+use Rattle.monitor.specs.Words.{waitFrom, WordsHold}
 use Rattle.monitor.proofs.VectorLaws.{other-trap, interrupt-word}
 use Rattle.monitor.proofs.Intact.{monitor-length, monitor-vector}
 
@@ -20,8 +20,8 @@ wait : waitFrom 0x0200 128 ≡ true
 unfolding waitFrom routineWords
 wait = refl
 
-pub stands : Stands
-stands = record {
+pub words-hold : WordsHold
+words-hold = record {
   waits = wait;
   lone-rti = λ a least most.
       ap (λ (w : ℕ). readOf (getD monitorWords w 0)) (monitor-vector a most ∙ sym (interrupt-word ours a least))
