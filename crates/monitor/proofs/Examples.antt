@@ -1,12 +1,13 @@
 -- The premises can be met, by computing.
 use native.Mathlib.Omega.{arith}
 use Prim.Native.Nat.{ℕ, _<_}
-use mathlib.Core.Path.{_≡_, refl}
+use mathlib.Core.Path.{_≡_, refl, _∙_}
 use mathlib.Core.Bool.{Bool, true, false, cond}
 use mathlib.Core.List.{[], _∷_}
-use lib.ListN.{length, take}
+use lib.ListN.{length, set, take}
+use lib.Seq.{getD-set-other}
 use Rattle.word.specs.Reading.{readOf}
-use Rattle.machine.specs.Psr.{inUserMode, definedPsr}
+use Rattle.machine.specs.Psr.{inUserMode, definedPsr, codesOf, recoded}
 use Rattle.machine.specs.Keys.{keysDue, readyAfter, lastKey, afterKeys}
 use Rattle.machine.specs.Timer.{ticked, afterTimer}
 use Rattle.machine.specs.Protection.{privileged, deniedBy, denied}
@@ -18,7 +19,7 @@ use Rattle.machine.specs.Return.{return, popped, afterReturn}
 use Rattle.machine.specs.Plan.{planBy}
 use Rattle.machine.specs.Step.{performBy, obeyedBy, interruptedOrObeyedBy, busyAfter, afterTick, ended, stepBy}
 use Rattle.run.specs.Refusals.{wrongSize, undefinedTimer, undefinedDevices, undefinedRecord, tooManySteps}
-use Rattle.run.specs.Refusals.{unequalLists, timesAdmission, admissionOf}
+use Rattle.run.specs.Refusals.{unequalLists, firstRefusal, entryAdmission, timesAdmission, admissionOf}
 use Rattle.run.specs.Run.{begin, arriving, nextStepBy, withShown, stepMadeBy, isHalted, showsByte, isFullBy, oneMoreBy}
 use Rattle.run.specs.Run.{runBy, endedBy}
 use Rattle.run.specs.Call.{admittedBy, callBy, callOf}
@@ -32,8 +33,8 @@ use Rattle.monitor.specs.Calls.{Begins, Calls, Raises, none-enabled}
 use Rattle.monitor.specs.Getc.{KeyComes}
 use Rattle.monitor.specs.In.{firstPoll}
 use Rattle.monitor.specs.Puts.{mayRead, StringFrom}
-use Rattle.monitor.specs.Back.{Interrupted}
-use Rattle.monitor.specs.Examples.{exampleMemory, example, ExamplesHold}
+use Rattle.monitor.specs.Back.{stackOf, Interrupted}
+use Rattle.monitor.specs.Examples.{exampleMemory, example, keyOnTheWay, ExamplesHold}
 use Rattle.monitor.proofs.Intact.{monitor-word}
 use Rattle.monitor.proofs.UseLaws.{getc-below, out-below, stop-below, puts-below, putsp-below, in-below}
 use Rattle.monitor.proofs.UseLaws.{halt-below, back-below, with-vector-below}
@@ -42,8 +43,8 @@ use Rattle.monitor.proofs.Getc.{still-ready}
 -- To unfold this is to compute what a call is handed.
 unfoldable handed : Unit {0}
 unfolding example exampleMemory readOf inUserMode definedPsr privileged deniedBy wrongSize undefinedTimer
-    undefinedDevices undefinedRecord tooManySteps unequalLists timesAdmission admissionOf vectorWord vectorsFrom
-    vectorTable routineWords monitorWords installOf
+    undefinedDevices undefinedRecord tooManySteps unequalLists firstRefusal entryAdmission timesAdmission admissionOf
+    vectorWord vectorsFrom vectorTable routineWords monitorWords installOf
 handed = tt
 
 whole : (word : ℕ) → take (length monitorWords) (exampleMemory word) ≡ monitorWords
@@ -137,9 +138,9 @@ other user = record {
 
 -- The first step, and the second, by computing.
 unfoldable stepping : Unit {0}
-unfolding handed keysDue readyAfter lastKey afterKeys ticked afterTimer deniedBy pendingInterrupt pushed entry
-    afterEntry raised interrupted stackPointerOnEntry userStackOnEntry withReads afterInstruction loadToBy return popped
-    afterReturn planBy performBy obeyedBy interruptedOrObeyedBy busyAfter afterTick ended stepBy begin arriving
+unfolding handed codesOf recoded keysDue readyAfter lastKey afterKeys ticked afterTimer deniedBy pendingInterrupt pushed
+    entry afterEntry raised interrupted stackPointerOnEntry userStackOnEntry withReads afterInstruction loadToBy return
+    popped afterReturn planBy performBy obeyedBy interruptedOrObeyedBy busyAfter afterTick ended stepBy begin arriving
     nextStepBy withShown stepMadeBy isHalted showsByte isFullBy oneMoreBy runBy endedBy admittedBy callBy causeAt
 stepping = tt
 
@@ -164,6 +165,39 @@ is-interrupted = record {
   mcr = refl;
   above-monitor = omega arith;
   below-devices = omega arith;
+  interrupt = refl;
+  no-other = refl;
+}
+
+-- After TRAP and ADD: the trap has pushed PSR and PC.
+pushed-only : callOf keyOnTheWay 2 .memory ≡ set (set (exampleMemory 0xF021) 0x2FFF 0x8002) 0x2FFE 0x3001
+unfolding stepping keyOnTheWay
+pushed-only = refl
+
+still-there : HasWords backUses (callOf keyOnTheWay 2 .memory)
+still-there a used =
+    let l : a < 0x02A5 = back-below a used in
+    rw pushed-only
+    (getD-set-other (set (exampleMemory 0xF021) 0x2FFF 0x8002) 0x2FFE a 0x3001 0 (λ e. omega arith)
+    ∙ getD-set-other (exampleMemory 0xF021) 0x2FFF a 0x8002 0 (λ e. omega arith)
+    ∙ has-words 0xF021 backUses back-below a used)
+
+stack-now : stackOf (callOf keyOnTheWay 2 .machine) ≡ 0x2FFD
+unfolding stepping keyOnTheWay
+stack-now = refl
+
+on-the-way : Interrupted keyOnTheWay 1000 2 (callOf keyOnTheWay 2)
+unfolding stepping keyOnTheWay
+on-the-way = record {
+  accepted = refl;
+  bytes = refl;
+  steps = omega arith;
+  done = refl;
+  registers = refl;
+  intact = still-there;
+  mcr = refl;
+  above-monitor = rw stack-now (omega arith);
+  below-devices = rw stack-now (omega arith);
   interrupt = refl;
   no-other = refl;
 }
@@ -211,4 +245,5 @@ examples-hold = record {
     timer-word = omega arith;
   });
   interrupted = is-interrupted;
+  on-the-way = on-the-way;
 }

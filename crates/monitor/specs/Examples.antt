@@ -37,6 +37,11 @@ exampleMemory word = set (set (set (installOf (replicate 65536 0) .words) 0x3000
 unfoldable pub example : Bool → ℕ → ℕ → Start
 example user word kbsr = startOf (programAt3000 user kbsr) (exampleMemory word) [] [] (replicate 32 0)
 
+-- OUT is called in User mode; the keyboard may interrupt, and a key comes in the third step, on the way through OUT.
+unfoldable pub keyOnTheWay : Start
+keyOnTheWay =
+    startOf (programAt3000 true 0x4000) (exampleMemory 0xF021) (2 ∷ []) (0x61 ∷ []) (replicate 32 0)
+
 pub record ExamplesHold : Type 0 where
   pub getc : (user : Bool) → Calls 0x20 getcCode user (example user 0xF020 0x8000) 1000
   pub getc-key : (user : Bool) → KeyComes (example user 0xF020 0x8000) 1 0
@@ -57,5 +62,6 @@ pub record ExamplesHold : Type 0 where
   pub access-exception : Raises access stopCode (example true 0x21FE 0x8000) 1000
   -- no device is enabled, whatever the word and the keyboard's ready bit are
   pub no-interrupt : (user : Bool) (word k : ℕ) → NoInterrupt (example user word 0x8000) k
-  -- a key that is ready and may interrupt
+  -- a key that is ready and may interrupt, and one that comes on the way through a routine
   pub interrupted : Interrupted (example true 0x1020 0xC000) 1000 0 (callOf (example true 0x1020 0xC000) 0)
+  pub on-the-way : Interrupted keyOnTheWay 1000 2 (callOf keyOnTheWay 2)
