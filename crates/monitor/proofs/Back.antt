@@ -5,6 +5,7 @@ use mathlib.Core.Path.{_≡_, refl, sym, ap, subst, _∙_}
 use mathlib.Core.Bool.{Bool, true, false, cond, _||_, true≢false}
 use mathlib.Core.List.{List, []}
 use borrow.Author.Tests.{le-leb, lt-ltb, eq-eqb, ne-eqb}
+use lib.Dec.{ltb}
 use lib.ListN.{length, getD, set, take}
 use lib.Seq.{set-set, set-getD, getD-set-same}
 use Rattle.word.specs.Reading.{readOf}
@@ -12,10 +13,10 @@ use Rattle.machine.specs.declared.Machine.{Machine}
 use Rattle.machine.specs.declared.Devices.{Devices}
 use Rattle.machine.specs.declared.Plan.the-variants.{Return}
 use Rattle.machine.specs.Words.{next, before}
-use Rattle.machine.specs.Record.{timerOf}
-use Rattle.machine.specs.Psr.{inUserMode}
-use Rattle.machine.specs.Keys.{readyAfter, lastKey}
-use Rattle.machine.specs.Timer.{tickedBy}
+use Rattle.machine.specs.Record.{Timer, timerOf}
+use Rattle.machine.specs.Psr.{inUserMode, priorityOf}
+use Rattle.machine.specs.Keys.{readyAfter, lastKey, afterKeys}
+use Rattle.machine.specs.Timer.{ticked, afterTimer, tickedBy}
 use Rattle.machine.specs.Outcome.{interrupt}
 use Rattle.machine.specs.Causes.{takesInterrupt}
 use Rattle.machine.specs.Interrupts.{pendingInterrupt, timerMayInterrupt, keyboardMayInterrupt, timerVector}
@@ -34,15 +35,17 @@ use Rattle.run.proofs.Acceptance.{accepted-is-acceptable, call-is-run}
 use Rattle.monitor.specs.Vectors.{vectorWord, ours}
 use Rattle.monitor.specs.Routines.{routineWords}
 use Rattle.monitor.specs.Uses.{HasWords, backUses}
+use Rattle.monitor.specs.Keys.{arrivedBy}
 use Rattle.monitor.specs.Back.{stackOf}
 use Rattle.monitor.proofs.VectorLaws.{interrupt-word}
 use Rattle.monitor.proofs.Execution.{Frame, View, machineAt, At}
-use Rattle.monitor.proofs.Execution.{statusIn, started, advance-with, same-keyboard, QuietStep, here}
+use Rattle.monitor.proofs.Execution.{statusIn, started, advance-with, same-keyboard, QuietStep, here, kbsr-is}
 use Rattle.monitor.proofs.Intact.{Intact, cellsFine, wordAt, wordWith, low-word, routine-word}
 use Rattle.monitor.proofs.Instructions.{Sound, planAt, word-is}
 use Rattle.monitor.proofs.Entries.{startFrame, startView, at-start, psr-parts, enteredFrame, enteredView}
 use Rattle.monitor.proofs.Entries.{entry-gives, entry-silent, returnedFrame, returnedView, return-once}
 use Rattle.monitor.proofs.Calls.{call-stands, unread}
+use Rattle.monitor.proofs.Again.{Due, tick-keeps, tick-fits, keys-fit, no-fewer, more-keys, still-due}
 
 -- The interrupt that a step takes is one of two.
 data TakenAs (m : Machine) (mem keys : List ℕ) : Type 0 where
@@ -261,6 +264,73 @@ module _ (s : Start) (n : ℕ) (c : FirstInterrupted s n) where
         clock = rw q (a .ticks);
         memory = rw (q, two-below, one-below);
       }
+
+  -- ---- and again
+
+  abbrev timer₀ : Timer
+  timer₀ = timerOf (a₀ .devices)
+
+  was-due : (timerMayInterrupt (afterStart (arriving s (here a₀)) (here a₀ .machine))
+      || keyboardMayInterrupt (afterStart (arriving s (here a₀)) (here a₀ .machine)))
+      ≡ true
+  unfolding nextStepBy
+  was-due =
+      sym (interrupt-is-taken-by-rule-2 (arriving s (here a₀)) (here a₀ .machine) (s .memory)) ∙ interrupted-here
+
+  timer-fits : s .machine .devices .«timer_status» < 65536 → ticked timer₀ .status < 65536
+  unfolding tickedBy
+  timer-fits word =
+      subst (λ (t : Timer). ticked t .status < 65536) (sym (a₀ .timer)) (tick-fits (timerOf (s .machine .devices)) word)
+
+  keyboard-fits : s .machine .devices .kbsr < 65536
+      → readyAfter (arriving s (here a₀)) (a₀ .devices .kbsr) < 65536
+  keyboard-fits word =
+      rw (kbsr-is a₀) (keys-fit (take (arrivedBy s 1 - 0) (s .bytes)) (s .machine .devices .kbsr) word)
+
+  module _ (priority : ℕ)
+      (a : At s 1 2 (returnedFrame (f priority) user (before (before sp)) (s .machine .psr))
+      (returnedView (f priority) entered user (before (before sp)) (s .machine .psr) (s .machine .pc))) where
+    timer-still : Due (ticked timer₀ .status) → Due (ticked (timerOf (a .devices)) .status)
+    unfolding tickedBy
+    timer-still d =
+        let t : Timer = timerOf (s .machine .devices) in
+        let d₀ : Due (ticked t .status) = subst (λ (t : Timer). Due (ticked t .status)) (a₀ .timer) d in
+        subst (λ (t : Timer). Due (ticked t .status)) (sym (a .timer))
+        (tick-keeps (ticked (ticked t)) (tick-keeps (ticked t) d₀))
+
+    keyboard-still : Due (readyAfter (arriving s (here a₀)) (a₀ .devices .kbsr))
+        → Due (readyAfter (arriving s (here a)) (a .devices .kbsr))
+    keyboard-still d =
+        let later = no-fewer (s .machine .clock + 1) (s .machine .clock + 3) (s .times) (omega arith) in
+        rw (kbsr-is a)
+        (more-keys (arrivedBy s 1 - 0) (arrivedBy s 3 - 0) (s .bytes) (s .machine .devices .kbsr) (omega arith)
+        (rw (kbsr-is a₀) at d))
+
+    is-due : s .machine .devices .kbsr < 65536 → s .machine .devices .«timer_status» < 65536
+        → takesInterrupt (nextStep s (here a) .cause) ≡ true
+    unfolding nextStepBy afterKeys afterTimer
+    is-due kbsr-word timer-word =
+        interrupt-is-taken-by-rule-2 (arriving s (here a)) (here a .machine) (here a .memory)
+        ∙ still-due (ticked timer₀ .status) (ticked (timerOf (a .devices)) .status)
+        (readyAfter (arriving s (here a₀)) (a₀ .devices .kbsr)) (readyAfter (arriving s (here a)) (a .devices .kbsr))
+        (ltb (priorityOf (here a .machine .psr)) timerPriority)
+        (ltb (priorityOf (here a .machine .psr)) keyboardPriority) (timer-fits timer-word) (keyboard-fits kbsr-word)
+        timer-still keyboard-still was-due
+
+  interrupts-again : s .machine .devices .kbsr < 65536 → s .machine .devices .«timer_status» < 65536
+      → TakenAs (here a₀ .machine) (s .memory) (arriving s (here a₀)) → takesInterrupt (causeAt s 2) ≡ true
+  unfolding causeAt
+  interrupts-again kbsr-word timer-word (taken vector priority least most used e) =
+      let a = at-end priority (enters vector priority least most used e) in
+      subst (λ (x : End). takesInterrupt (nextStep s x .cause) ≡ true)
+      (sym (call-stands a n (c .accepted) (c .steps))) (is-due priority a kbsr-word timer-word)
+
+pub first-again : (s : Start) (n : ℕ) → FirstInterrupted s n → s .machine .devices .kbsr < 65536
+    → s .machine .devices .«timer_status» < 65536 → takesInterrupt (causeAt s 2) ≡ true
+unfolding nextStepBy
+first-again s n c kbsr-word timer-word =
+    interrupts-again s n c kbsr-word timer-word
+    (which (here (a₀ s n c) .machine) (s .memory) (arriving s (here (a₀ s n c))) (interrupted-here s n c))
 
 pub first-returns : (s : Start) (n : ℕ) → FirstInterrupted s n → FirstBack s (callOf s 2)
 unfolding nextStepBy

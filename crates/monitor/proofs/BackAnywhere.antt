@@ -1,12 +1,14 @@
 -- BACK at any step of a call: the call is split there, and the rest begins with the interrupt.
-use Prim.Native.Nat.{ℕ, _+_, _-_, _≤_}
+use Prim.Native.Nat.{ℕ, _+_, _-_, _≤_, _<_}
 use native.Mathlib.Omega.{arith}
 use mathlib.Core.Path.{_≡_, sym, ap, ap₂, _∙_}
+use mathlib.Core.Bool.{true}
 use mathlib.Core.List.{List}
 use lib.ListN.{take, drop, take-append-drop}
 use lib.Seq.{drop-drop}
 use Rattle.machine.specs.Edition.{third}
 use Rattle.machine.specs.Keys.{keysDue}
+use Rattle.machine.specs.Causes.{takesInterrupt}
 use Rattle.machine.specs.Step.{stepOf}
 use Rattle.run.specs.declared.Admission.the-variants.{Accepted}
 use Rattle.run.specs.declared.Ending.the-variants.{Done}
@@ -19,7 +21,7 @@ use Rattle.run.proofs.RunLaws.{done-steps-are-made}
 use Rattle.run.proofs.Acceptance.{accepted-with-fewer, call-is-run}
 use Rattle.run.proofs.Continuing.{run-splits}
 use Rattle.monitor.specs.Back.{Interrupted, CameBack, BackReturns}
-use Rattle.monitor.proofs.Back.{FirstInterrupted, first-returns}
+use Rattle.monitor.proofs.Back.{FirstInterrupted, first-returns, first-again}
 
 module _ (s : Start) (n k : ℕ) (c : Interrupted s n k (callOf s k)) where
   abbrev e : End
@@ -101,5 +103,9 @@ module _ (s : Start) (n k : ℕ) (c : Interrupted s n k (callOf s k)) where
       rw (call-is-run stepOf s n n (c .accepted) (omega arith))
       (done-steps-are-made stepOf s n (k + 2) (c .steps) d)
 
+  again : e .machine .devices .kbsr < 65536 → e .machine .devices .«timer_status» < 65536
+      → takesInterrupt (causeAt s (k + 2)) ≡ true
+  again kbsr-word timer-word = rw (same-cause 2 (c .steps)) (first-again rest 2 first kbsr-word timer-word)
+
 pub back-returns : BackReturns
-back-returns = record { made = made; returns = came-back }
+back-returns = record { made = made; returns = came-back; again = again }

@@ -217,7 +217,7 @@ module _ {s : Start} {since k : ℕ} {f : Frame} {v : View} (a : At s since k f 
       rw (z, a .ticks, a .arrived-by)
       (one-step-more (s .machine .clock) (s .machine .clock + k) (s .times) (s .bytes) (a .order) (a .equal))
 
-  kbsr-is : readyAfter (arriving s here) (a .devices .kbsr) ≡ statusIn s k v
+  pub kbsr-is : readyAfter (arriving s here) (a .devices .kbsr) ≡ statusIn s k v
   unfolding arriving
   kbsr-is =
       rw (a .kbsr, ← keys-are, arrived s here (v .read) (a .read-before))

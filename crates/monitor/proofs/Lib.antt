@@ -15,6 +15,7 @@ pub mod Keyboard
 pub mod Out
 pub mod Stop
 pub mod Words
+pub mod Again
 pub mod Back
 pub mod BackAnywhere
 pub mod Getc
