@@ -18,6 +18,7 @@ pub mod Words
 pub mod Again
 pub mod Back
 pub mod BackAnywhere
+pub mod Standstill
 pub mod Getc
 pub mod Halt
 pub mod Puts

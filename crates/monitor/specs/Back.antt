@@ -1,6 +1,6 @@
 -- BACK: "every other word of x0100 to x01FF [leads] to a lone RTI". An interrupt, of either device, in either mode and
 -- at any step of a call, on the way through a routine too, comes back at once to where it was taken.
-use Prim.Native.Nat.{ℕ, _+_, _-_, _≤_, _<_}
+use Prim.Native.Nat.{ℕ, _+_, _-_, _*_, _≤_, _<_}
 use mathlib.Core.Path.{_≡_}
 use mathlib.Core.Bool.{true, false, cond}
 use mathlib.Core.List.{List}
@@ -70,6 +70,22 @@ pub record CameBack (s : Start) (e e′ : End) : Type 0 where
 pub record BackReturns : Type 0 where
   pub made : (s : Start) (n k : ℕ) → Interrupted s n k (callOf s k) → k + 2 ≤ callOf s n .steps
   pub returns : (s : Start) (n k : ℕ) → Interrupted s n k (callOf s k) → CameBack s (callOf s k) (callOf s (k + 2))
-  -- A device that stays ready and enabled interrupts again at once: with BACK alone nothing else is ever done.
+  -- BACK leaves the device ready and enabled: it interrupts again at once.
   pub again : (s : Start) (n k : ℕ) → Interrupted s n k (callOf s k) → callOf s k .machine .devices .kbsr < 65536
       → callOf s k .machine .devices .«timer_status» < 65536 → takesInterrupt (causeAt s (k + 2)) ≡ true
+
+-- The machine is where it was.
+pub record StaysAt (e e′ : End) : Type 0 where
+  pub registers : e′ .machine .regs ≡ e .machine .regs
+  pub psr : e′ .machine .psr ≡ e .machine .psr
+  pub pc : e′ .machine .pc ≡ e .machine .pc
+  pub shown : e′ .shown ≡ e .shown
+  pub output : e′ .output ≡ e .output
+
+-- So program and routine make no further step: after any number of interrupts, none of whose RTIs is interrupted in its
+-- turn, the machine is where it was at the first.
+abbrev pub Standstill : Type 0
+Standstill = (s : Start) (n k : ℕ) → Interrupted s n k (callOf s k) → callOf s k .machine .devices .kbsr < 65536
+    → callOf s k .machine .devices .«timer_status» < 65536 → (i : ℕ) → k + 2 * i ≤ n
+    → ((j : ℕ) → j < i → takesInterrupt (causeAt s (k + 2 * j + 1)) ≡ false)
+    → StaysAt (callOf s k) (callOf s (k + 2 * i))
