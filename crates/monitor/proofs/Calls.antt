@@ -223,6 +223,11 @@ eight (a ∷ b ∷ c ∷ d ∷ e ∷ f ∷ g ∷ i ∷ []) h = record {
 }
 eight (a ∷ b ∷ c ∷ d ∷ e ∷ f ∷ g ∷ i ∷ j ∷ l) h = absurd (omega arith)
 
+-- With the caller's R6 in its place they are as before.
+pub as-before : (regs : List ℕ) (x : Eight regs)
+    → set (x .r₀ ∷ x .r₁ ∷ x .r₂ ∷ x .r₃ ∷ x .r₄ ∷ x .r₅ ∷ 0x2FFE ∷ x .r₇ ∷ []) 6 (getD regs 6 0) ≡ regs
+as-before regs x = rw (x .are)
+
 -- Where the routine at `to` stands when it begins.
 abbrev pub begun : (s : Start) → Eight (s .machine .regs) → ℕ → ℕ → View
 begun s x to pc = record {

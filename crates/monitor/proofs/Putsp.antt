@@ -9,7 +9,7 @@ use mathlib.Core.List.{List, [], _∷_, _++_, append-nil, append-assoc}
 use borrow.Author.Tests.{lt-ltb, leb-true, ne-eqb}
 use lib.Dec.{leb}
 use lib.Bits.{and-mask, and-zero-r}
-use lib.ListN.{length, getD, length-append}
+use lib.ListN.{length, getD, set, length-append}
 use Rattle.machine.specs.Words.{next, wrap, wordAnd}
 use Rattle.machine.specs.Psr.{inUserMode, codesOf}
 use Rattle.machine.specs.Protection.{privileged}
@@ -27,7 +27,7 @@ use Rattle.monitor.proofs.Execution.{then, no-step}
 use Rattle.monitor.proofs.Instructions.{Sound, steppedBy, runs, computing}
 use Rattle.monitor.proofs.Entries.{calledFrame, called-sound, recoded}
 use Rattle.monitor.proofs.Calls.{is-intact, quiet-steps, Eight, eight, begun, routine-begins, halts}
-use Rattle.monitor.proofs.Calls.{AtReturn, comes-back, none-read}
+use Rattle.monitor.proofs.Calls.{as-before, AtReturn, comes-back, none-read}
 use Rattle.monitor.proofs.Strings.{readable, negative, positive, Looks, Comes, look-at, look-refused}
 use Rattle.monitor.proofs.Strings.{below-two, gets-word}
 
@@ -616,6 +616,14 @@ module _ (user : Bool) (s : Start) (n : ℕ) (c : Calls 0x24 putspCode user s n)
     unfolding returning computing
     at-return = record { plan = refl; six = refl; pc = refl; psr = refl; fine = refl; going = refl }
 
+    restored : returning .regs ≡ x .r₀ ∷ x .r₁ ∷ x .r₂ ∷ x .r₃ ∷ x .r₄ ∷ x .r₅ ∷ 0x2FFE ∷ x .r₇ ∷ []
+    unfolding returning computing
+    restored = refl
+
+    same-registers : set (returning .regs) 6 (getD (s .machine .regs) 6 0) ≡ s .machine .regs
+    same-registers =
+        ap (λ (l : List ℕ). set l 6 (getD (s .machine .regs) 6 0)) restored ∙ as-before (s .machine .regs) x
+
     abbrev j : ℕ
     j = 6 + pairsSteps user (r0 s) words + (lookSteps user b + 7)
 
@@ -633,7 +641,7 @@ module _ (user : Bool) (s : Start) (n : ℕ) (c : Calls 0x24 putspCode user s n)
     unfolding returning computing
     comes e le =
         comes-back uses user s n j returning (c .begins) (rw e at quiet) (at-rti (omega arith)) at-return le 0x2FFA refl
-        (s .machine .regs) (rw (x .are)) (notRead s) (none-read s returning refl refl)
+        (s .machine .regs) same-registers (notRead s) (none-read s returning refl refl)
 
 -- ---- one that does not
 

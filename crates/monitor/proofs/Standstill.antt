@@ -3,7 +3,7 @@ use Prim.Native.Nat.{ℕ, zero, suc, _+_, _-_, _*_, _≤_, _<_}
 use native.Mathlib.Omega.{arith}
 use mathlib.Core.Path.{_≡_, refl, sym, subst, _∙_}
 use mathlib.Core.Bool.{true, false}
-use lib.ListN.{length, getD, set}
+use lib.ListN.{length, set}
 use lib.Pow.{areBytes}
 use lib.Seq.{getD-set-other}
 use Rattle.machine.specs.Record.{Timer, timerOf}
@@ -34,7 +34,8 @@ record Round (s : Start) (e₀ : End) (k : ℕ) (e : End) : Type 0 where
   timer-word : e .machine .devices .«timer_status» < 65536
   same : StaysAt e₀ e
 
-module _ (s : Start) (n : ℕ) (accepted : admissionOf s n ≡ Accepted) (bytes : areBytes (s .bytes) ≡ true) (e₀ : End) where
+module _ (s : Start) (n : ℕ) (accepted : admissionOf s n ≡ Accepted) (bytes : areBytes (s .bytes) ≡ true)
+    (e₀ : End) where
   interrupted : (k : ℕ) → Round s e₀ k (callOf s k) → k + 2 ≤ n → takesInterrupt (causeAt s (k + 1)) ≡ false
       → Interrupted s n k (callOf s k)
   interrupted k r le no-other = record {
