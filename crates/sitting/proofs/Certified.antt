@@ -45,7 +45,8 @@ cannot-interrupt : (status : ℕ) → isEnabled status ≡ false → CannotInter
 unfolding isEnabled
 cannot-interrupt status h = go (eqb status 0) refl (eqb status 0x8000) refl h
   where
-    go : (x : Bool) → eqb status 0 ≡ x → (y : Bool) → eqb status 0x8000 ≡ y → not (x || y) ≡ false → CannotInterrupt status
+    go : (x : Bool) → eqb status 0 ≡ x → (y : Bool) → eqb status 0x8000 ≡ y → not (x || y) ≡ false
+        → CannotInterrupt status
     go true e y f h = let z : status ≡ 0 = eqb-true status 0 e in (omega arith, omega arith)
     go false e true f h = let z : status ≡ 0x8000 = eqb-true status 0x8000 f in (omega arith, omega arith)
     go false e false f h = absurd (true≢false h)
@@ -66,7 +67,8 @@ module _ (g : Setting) where
   abbrev StandsAfter : List ℕ → Logged → Type 0
   StandsAfter before a = Kept (secret g) (Invariant g) before (a .run)
 
-  call-stands : (c : Call) (m : Machine) (memory : List ℕ) → Invariant g m memory → StandsAfter memory (answerTo c m memory)
+  call-stands : (c : Call) (m : Machine) (memory : List ℕ) → Invariant g m memory
+      → StandsAfter memory (answerTo c m memory)
   unfolding answerTo startAt
   call-stands c m memory i =
       let j : Invariant g (startAt c m memory .machine) memory = start-stands c m memory i in
@@ -113,7 +115,8 @@ module _ (g : Setting) where
         full = refl;
       })
     where
-      go : (logged : Bool) {a₁ b₁ a₂ b₂ : Logged} → Alike a₁ a₂ → Alike b₁ b₂ → Alike (cond logged a₁ b₁) (cond logged a₂ b₂)
+      go : (logged : Bool) {a₁ b₁ a₂ b₂ : Logged} → Alike a₁ a₂ → Alike b₁ b₂
+          → Alike (cond logged a₁ b₁) (cond logged a₂ b₂)
       go true a b = a
       go false a b = b
 

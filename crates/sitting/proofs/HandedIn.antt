@@ -249,7 +249,8 @@ monitor-still-there memory₁ memory₂ size m g =
     (λ a h. sym (g .words a (monitor-word-is-open _ a h)) ∙ monitor-word memory₁ m a h)
 
 pub files-prepare : (memory : List ℕ) (files₁ files₂ : List (List ℕ)) → length memory ≡ 65536
-    → AllLieInMarkingWords files₁ → AllLieInMarkingWords files₂ → Prepared (preparedOf memory files₁) (preparedOf memory files₂)
+    → AllLieInMarkingWords files₁ → AllLieInMarkingWords files₂
+    → Prepared (preparedOf memory files₁) (preparedOf memory files₂)
 files-prepare memory files₁ files₂ size there₁ there₂ =
     let installed : List ℕ = installOf memory .words in
     let g₁ = marking-files-loaded installed files₁ there₁ in

@@ -32,7 +32,8 @@ use Rattle.sitting.proofs.Table.{listed, own-is-open, SoundAt, sound-at
 use Rattle.sitting.proofs.Table.{keyboard-leads, timer-leads}
 use Rattle.sitting.proofs.Invariant.{Words, word-stored, Core, coreOf, InRoutine, Stands, in-user-mode}
 use Rattle.sitting.proofs.Invariant.{in-routine, interrupted-once, interrupted-twice, popped, InReturn}
-use Rattle.sitting.proofs.Invariant.{CannotInterrupt, InterruptedOnce, Enabled, both-devices, lowestPriority, pushedIn, Setting}
+use Rattle.sitting.proofs.Invariant.{CannotInterrupt, InterruptedOnce, Enabled, both-devices, lowestPriority}
+use Rattle.sitting.proofs.Invariant.{pushedIn, Setting}
 use Rattle.sitting.proofs.Invariant.{cellsOf, Disabled, Invariant, Changeable, unlisted-changes, started, lowest}
 use Rattle.sitting.proofs.Invariant.{OutcomeKeeps, keeps-ended, keeps-reads, bounds, fixed-word-is-open}
 use Rattle.sitting.proofs.Invariant.{stack-word-is-open}
@@ -123,8 +124,8 @@ module _ (g : Setting) where
         };
       }
 
-  return-stays : (enabled : Enabled) {c : Core} {mem : List ℕ} → InterruptedOnce (g .claim) enabled c mem → (psr a x b y : ℕ)
-      → psr < 0x8000
+  return-stays : (enabled : Enabled) {c : Core} {mem : List ℕ} → InterruptedOnce (g .claim) enabled c mem
+      → (psr a x b y : ℕ) → psr < 0x8000
       → priorityOf psr ≡ priorityOf (c .psr) → deepest ≤ a → a < getD (c .regs) 6 0 → deepest ≤ b
       → b < getD (c .regs) 6 0
       → InterruptedOnce (g .claim) enabled (withPsr psr c) (set (set mem a x) b y)
@@ -141,7 +142,8 @@ module _ (g : Setting) where
       let up : getD (popped c mem .regs) 6 0 ≡ next (next (getD (c .regs) 6 0)) =
       getD-set-same (c .regs) 6 (next (next sp)) 0 (omega (arith, r .eight)) in
       let u : InRoutine (g .claim) (popped c mem) (set (set mem a x) b y) =
-      routine-stays (r .under) (popped c mem .psr) a x b y (r .back-in-supervisor) refl ha (omega arith) hb (omega arith)
+      routine-stays (r .under) (popped c mem .psr) a x b y (r .back-in-supervisor) refl ha (omega arith) hb
+      (omega arith)
       in
       record {
         memory = word-stored (word-stored (r .memory) a x (deep-word-changes a ha)) b y (deep-word-changes b hb);
@@ -158,7 +160,8 @@ module _ (g : Setting) where
 -- ---- an interrupt in Supervisor mode
 
 module _ (g : Setting) (m : Machine) (mem : List ℕ) (words : Words (g .claim) mem) (eight : length (m .regs) ≡ 8)
-    (sup : m .psr < 0x8000) (from : g .claim .lowest - 2 ≤ getD (m .regs) 6 0) (below : getD (m .regs) 6 0 ≤ 0x2FFE) where
+    (sup : m .psr < 0x8000) (from : g .claim .lowest - 2 ≤ getD (m .regs) 6 0)
+    (below : getD (m .regs) 6 0 ≤ 0x2FFE) where
   abbrev sp : ℕ
   sp = getD (m .regs) 6 0
 

@@ -114,7 +114,8 @@ popped c mem =
     }
 
 -- In the lone RTI, on an interrupt of this priority or a higher one, with R6 from `low` on.
-pub record InReturn (k : Claim) (priority low : ℕ) (Under : Core → List ℕ → Type 0) (c : Core) (mem : List ℕ) : Type 0 where
+pub record InReturn (k : Claim) (priority low : ℕ) (Under : Core → List ℕ → Type 0) (c : Core) (mem : List ℕ)
+    : Type 0 where
   pub memory : Words k mem
   pub eight : length (c .regs) ≡ 8
   pub supervisor : c .psr < 0x8000
@@ -173,7 +174,8 @@ CannotInterrupt status = (status % 0x8000 ≡ 0) × (status ≤ 0x8000)
 
 -- The other devices never do.
 abbrev pub Disabled : Enabled → Devices → Type 0
-Disabled e d = (e .keyboard ≡ false → CannotInterrupt (d .kbsr)) × (e .timer ≡ false → CannotInterrupt (d .«timer_status»))
+Disabled e d = (e .keyboard ≡ false → CannotInterrupt (d .kbsr))
+    × (e .timer ≡ false → CannotInterrupt (d .«timer_status»))
 
 pub record Invariant (g : Setting) (m : Machine) (mem : List ℕ) : Type 0 where
   pub disabled : Disabled (g .enabled) (m .devices)

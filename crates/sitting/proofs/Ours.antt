@@ -118,10 +118,10 @@ tableFor ws =
 
 -- To unfold this is to compute the test of a claim.
 unfoldable pub testing : Unit {0}
-unfolding readOf codesOf isDeviceBy andBits forget kindOf numberOf same implies allImply sumWith sumOf andWith andOf notOf
-    taking besides allBesides isHidden isOwn covers oneCovers accepts isStack isFreeStack isLoadable held fromCell
-    loadedFrom storedIn remember isFirst moved put loadsAt loadsBy storesAt storesBy loadsThrough storesThrough refinedIf
-    isAbove isBelow whereTaken whereNotTaken eitherWay branches jumpsBy calling callsFrom
+unfolding readOf codesOf isDeviceBy andBits forget kindOf numberOf same implies allImply sumWith sumOf andWith andOf
+    notOf taking besides allBesides isHidden isOwn covers oneCovers accepts isStack isFreeStack isLoadable held fromCell
+    loadedFrom storedIn remember isFirst moved put loadsAt loadsBy storesAt storesBy loadsThrough storesThrough
+    refinedIf isAbove isBelow whereTaken whereNotTaken eitherWay branches jumpsBy calling callsFrom
     callsBy returning returnsBy harmless isKept allKept sound
     allHarmless isEmpty rowHolds rowsHold leadsIn allLeadIn isReturn leadsBack vectorsHold roomHolds passes
 testing = tt
@@ -158,7 +158,11 @@ same-secrets stack a l = elim (decLe 0x02A5 a) [
   | yes h ↦ elim (decLe stack a) [
     | yes k ↦ rw (le-ltb a stack k, le-leb 0x02A5 a h)
     | no k ↦
-        rw (lt-ltb a stack (omega arith), le-leb 0x02A5 a h, cell-unlisted monitorWords a (omega (arith, monitor-length)))
+        rw (
+          lt-ltb a stack (omega arith),
+          le-leb 0x02A5 a h,
+          cell-unlisted monitorWords a (omega (arith, monitor-length)),
+        )
   ]
   | no h ↦
       rw (
@@ -230,7 +234,8 @@ guarded d before after t = record {
 same-answers : (d : Devices) (a₁ a₂ : Logged) → SameAnswers (isSecretBeside claimOfOurs d) a₁ a₂
     → SameAnswers (isSecret d) a₁ a₂
 same-answers d a₁ a₂ s = record {
-  run = wider-ends (isSecretBeside claimOfOurs d) (isSecret d) (a₁ .run) (a₂ .run) (λ a z. same-secret d a ∙ z) (s .run);
+  run = wider-ends (isSecretBeside claimOfOurs d) (isSecret d) (a₁ .run) (a₂ .run) (λ a z. same-secret d a ∙ z)
+      (s .run);
   log = s .log;
   words = s .words;
   full = s .full;
@@ -241,7 +246,8 @@ sitting-tells-nothing m memory₁ memory₂ b v earlier call =
     let t = certified-tells-nothing claimOfOurs ours-passes m memory₁ memory₂ (begins-beside m memory₁ b)
     (record { size = v .size; words = λ a z. v .words a (sym (same-secret (m .devices) a) ∙ z) }) earlier call in
     record {
-      same = same-answers (m .devices) (answerAfter earlier call m memory₁) (answerAfter earlier call m memory₂) (t .same);
+      same = same-answers (m .devices) (answerAfter earlier call m memory₁) (answerAfter earlier call m memory₂)
+          (t .same);
       guarded₁ = guarded (m .devices) memory₁ (answerAfter earlier call m memory₁ .run .memory) (t .guarded₁);
       guarded₂ = guarded (m .devices) memory₂ (answerAfter earlier call m memory₂ .run .memory) (t .guarded₂);
     }

@@ -1,5 +1,5 @@
--- A step of a routine, by the kind of instruction: where the test finds it harmless, it touches no secret word and keeps
--- the invariant.
+-- A step of a routine, by the kind of instruction: where the test finds it harmless, it touches no secret word and
+-- keeps the invariant.
 use Prim.Native.Nat.{ℕ, _+_, _-_, _*_, _/_, _%_, _≤_, _<_}
 use native.Mathlib.Omega.{arith}
 use mathlib.Core.Path.{_≡_, refl, sym, ap, subst, _∙_}
@@ -333,7 +333,8 @@ module _ (g : Setting) (σ : State) (m : Machine) (mem : List ℕ) (q : Disabled
         caller = rw (getD-set-other mem a 0x2FFF x 0 (λ z. absurd (omega arith))) (k .caller);
         registers = k .registers;
         codes = k .codes;
-        words = kept-holds c first (r .sp) a x mem (λ w y z. apart w f y z) (c .watched) (σ .words) (r .kept) (k .words);
+        words = kept-holds c first (r .sp) a x mem (λ w y z. apart w f y z) (c .watched) (σ .words) (r .kept)
+            (k .words);
       }) t
     where
       apart : (w : ℕ) → 0x3000 ≤ a → Keepable c (sound-at c (valueIn (σ .regs) 6) (σ .words) s .sp) w → w ≡ a → ⊥
@@ -756,7 +757,8 @@ module _ (g : Setting) (σ : State) (m : Machine) (mem : List ℕ) (q : Disabled
   by-pointer-keeps a w data-access e o =
       rw (all-allowed (m .psr) (k .supervisor) a, fixed-value g σ m mem q k a w e)
       (keeps-reads g (lentWord a) (data-access w (afterLoad a m) mem)
-      (plain-word-read g σ m mem q k a (omega (arith, fixed-is-low g σ m mem q k a w e)) (fixed-word-is-open g a w e)) o)
+      (plain-word-read g σ m mem q k a (omega (arith, fixed-is-low g σ m mem q k a w e))
+      (fixed-word-is-open g a w e)) o)
 
   pc-after-load : (a : ℕ) → afterLoad a m .pc ≡ m .pc
   unfolding afterLoad

@@ -99,7 +99,8 @@ module _ (secret : ℕ → Bool) (Invariant : Machine → List ℕ → Type 0) w
     pub invariant : Invariant (e .machine) (e .memory)
     pub kept : (a : ℕ) → secret a ≡ true → SameWordAt (e .memory) before a
 
-  module _ (step : (keys : List ℕ) (m : Machine) (mem : List ℕ) → Invariant m mem → KeepsSecrets (stepOf keys m mem)) where
+  module _
+      (step : (keys : List ℕ) (m : Machine) (mem : List ℕ) → Invariant m mem → KeepsSecrets (stepOf keys m mem)) where
     -- ---- one run
 
     secret-is-not-among : (a : ℕ) (addresses : List ℕ) → secret a ≡ true → NoneAltered secret addresses
@@ -198,7 +199,8 @@ module _ (secret : ℕ → Bool) (Invariant : Machine → List ℕ → Type 0) w
         entries-alike : entryOf s₁ e₁ ≡ entryOf s₂ e₂
         unfolding entryOf nextRule
         entries-alike =
-            let rule : ruleOf (nextStep s₁ e₁ .cause) ≡ ruleOf (nextStep s₂ e₂ .cause) = ap ruleOf (next-alike .cause) in
+            let rule : ruleOf (nextStep s₁ e₁ .cause) ≡ ruleOf (nextStep s₂ e₂ .cause) =
+            ap ruleOf (next-alike .cause) in
             let word = fetched-alike in
             let m : e₁ .machine ≡ e₂ .machine = a .machine in
             cc
@@ -239,7 +241,8 @@ module _ (secret : ℕ → Bool) (Invariant : Machine → List ℕ → Type 0) w
             (a .run .machine))
             (λ h. stopped-alike Halted)
             (λ h.
-            same-test-same-branch (SameAnswers secret) (lacksRoom (l₁ .log) (l₁ .words)) (lacksRoom (l₂ .log) (l₂ .words))
+            same-test-same-branch (SameAnswers secret) (lacksRoom (l₁ .log) (l₁ .words))
+            (lacksRoom (l₂ .log) (l₂ .words))
             (cc (a .log, a .words)) (λ r. log-full-alike)
             (λ r.
             same-test-same-branch (SameAnswers secret) (isFull s₁ (l₁ .run)) (isFull s₂ (l₂ .run))

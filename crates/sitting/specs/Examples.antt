@@ -99,7 +99,8 @@ supervisor = freshOf 0x3000 false 0xFDFF
 
 unfoldable pub showing : ℕ → List ℕ
 showing answer =
-    withWord (withWord (withWord (withWord (withWord monitored 0x3000 0xA002) 0x3001 0xB002) 0x3003 0x0400) 0x3004 0xFE06)
+    withWord
+    (withWord (withWord (withWord (withWord monitored 0x3000 0xA002) 0x3001 0xB002) 0x3003 0x0400) 0x3004 0xFE06)
     0x0400 answer
 
 -- Which of the words x2FF5 to x2FFA are secret where the devices' status registers hold this.

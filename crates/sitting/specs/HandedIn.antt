@@ -1,6 +1,6 @@
 -- What a candidate can do by the file that is handed in. Our monitor and the examiner's words are in memory; the host
--- starts the file by `start_user` and runs it, in one call or many. No program, whatever the file's bytes are, learns or
--- changes one of the examiner's words.
+-- starts the file by `start_user` and runs it, in one call or many. No program, whatever the file's bytes are, learns
+-- or changes one of the examiner's words.
 use Prim.Native.Nat.{ℕ, _+_, _≤_, _<_}
 use mathlib.Core.Path.{_≡_}
 use mathlib.Core.Bool.{Bool, true, false}
