@@ -503,8 +503,6 @@ than two: an object file is an origin and words, of two bytes each
             end = self._end(steps)
             self._begin()
             counts = self._counts()
-            # So it is where a handler raises.
-            self.stop, self._run_past = Stop.INTERRUPTED, None
             self.stop = self._go(end)
             return self._report(*counts)
 
@@ -558,7 +556,6 @@ PSR x8001 -> x0001, Saved_USP x0000 -> xFDFF, x2FFE x0000 -> x3002, x2FFF x0000 
         with self._use:
             end = self._end(steps)
             self._begin()
-            self.stop, self._run_past = Stop.INTERRUPTED, None
             self.stop = self._trace_to(end, told)
             self._run_past = self._past()
         return told
@@ -640,6 +637,8 @@ PSR x8001 -> x0001, Saved_USP x0000 -> xFDFF, x2FFE x0000 -> x3002, x2FFF x0000 
         signals are called now."""
         if SIGINT in self._use.caught:
             return True
+        # So the run has ended where one of them raises.
+        self.stop, self._run_past = Stop.INTERRUPTED, self._past()
         self._use.hand_on()
         return False
 

@@ -294,7 +294,11 @@ class Handlers(unittest.TestCase):
             sitting.run()
         self.assertIs(sitting.stop, Stop.INTERRUPTED)
         self.assertIn(sitting["R0"] - sitting.memory[0x3004], (0, 1))
-        self.assertEqual(sitting.ending.kind, lc3.EndKind.INTERRUPTED)
+        self.assertIs(sitting.ending.kind, lc3.EndKind.INTERRUPTED)
+        self.armed = False
+        in_the_middle(sitting, lambda: signal.raise_signal(signal.SIGUSR1))
+        self.assertIs(sitting.run(3 * lc3.MAX_STEPS).ending.kind, lc3.EndKind.STEPS)
+        self.assertIs(sitting.ending.kind, lc3.EndKind.STEPS)
 
     def test_each_handler_is_called_once_and_put_back(self) -> None:
         sitting = Sitting(STORING)
