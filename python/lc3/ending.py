@@ -97,9 +97,8 @@ class Ending:
 
     @property
     def finished(self) -> bool:
-        """Whether the program has ended of its own will: by HALT, or by a store to MCR that it made
-        itself, which only Supervisor mode can by the third edition's rules."""
-        return self.kind is EndKind.HALTED or (self.kind is EndKind.MCR and not self.served)
+        """Whether the program was halted by HALT."""
+        return self.kind is EndKind.HALTED
 
     def __str__(self) -> str:
         """The ending in one line.

@@ -172,7 +172,7 @@ class Running(Folder):
         store = object_file(0x3000, "AND R0, R0, #0", "STI R0, #0", 0xFFFE)
         code, _, err = ran("run", "--supervisor", self.file("store.obj", store))
         said = "lc3: halted by a store to MCR; 2 steps; PC x3001: STI R0, #0\n"
-        self.assertEqual((code, err), (0, said))
+        self.assertEqual((code, err), (1, said))
 
     def test_a_program_without_a_monitor_ends(self) -> None:
         ends: tuple[tuple[str | int, int, str], ...] = (

@@ -117,7 +117,7 @@ class Kinds(unittest.TestCase):
         for monitor in (True, False):
             ending = ended(*store, mode=Mode.SUPERVISOR, monitor=monitor)
             self.assertEqual((ending.kind, ending.pc), (EndKind.MCR, 0x3001))
-            self.assertEqual((ending.line, ending.finished), ("STI R0, #0", True))
+            self.assertEqual((ending.line, ending.finished), ("STI R0, #0", False))
             self.assertEqual(ending.text, "halted by a store to MCR")
         # User mode can't; but by the second edition's rules it can.
         self.assertEqual(ended(*store).reason, Reason.ACCESS)

@@ -15,8 +15,9 @@ VERSIONS = f"lc3 {__version__}, interface {VERSION}"
 
 EXIT_CODES = """\
 exit codes:
-  0  the program was halted by HALT, or by a store to MCR of its own
-  1  it was not: the steps were made, Ctrl-C, a wait where no more keys come, or a loop
+  0  the program was halted by HALT
+  1  it was not: the steps were made, Ctrl-C, a wait where no more keys come, a loop, or a store
+     to MCR
   2  wrong use of the command
   3  a file was refused, or could not be read or written
   4  the program crashed: an exception, a trap without a service, a string refused
