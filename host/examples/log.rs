@@ -18,8 +18,8 @@ const PROGRAM: [u16; 8] = [
 ];
 
 fn main() -> Result<(), lc3::Error> {
-    let mut memory = vec![0; lc3::WORDS];
-    lc3::install_monitor(&mut memory)?;
+    let mut memory = lc3::memory();
+    lc3::install_monitor(&mut memory);
     let file: Vec<u8> = PROGRAM.into_iter().flat_map(u16::to_be_bytes).collect();
     let record = start(&file, &mut memory, Mode::User, 0xFDFF)?.record;
 

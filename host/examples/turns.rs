@@ -13,7 +13,7 @@
 //! cargo run --manifest-path host/Cargo.toml --example turns
 //! ```
 
-use lc3::{Keys, Mode, Record, WORDS};
+use lc3::{Keys, Memory, Mode, Record};
 use std::fmt::Write;
 
 /// Where the routines below stand, among them that of the timer's interrupt, word x0181.
@@ -87,7 +87,7 @@ fn file(origin: u16, words: &[u16]) -> Vec<u8> {
 /// Puts a task into memory, and on its supervisor stack what SWITCH would have left there: R0 to R5
 /// and R7, and PC and PSR of a start in User mode. Answers R6.
 fn install(
-    memory: &mut [u16],
+    memory: &mut Memory,
     task: &[u16],
     at: u16,
     supervisor_stack: u16,
@@ -101,9 +101,9 @@ fn install(
 
 /// The memory of the whole: monitor, both tasks, and routines. These are started last, and theirs is
 /// the record to begin with.
-fn machine() -> Result<(Record, Vec<u16>), lc3::Error> {
-    let mut memory = vec![0; WORDS];
-    lc3::install_monitor(&mut memory)?;
+fn machine() -> Result<(Record, Box<Memory>), lc3::Error> {
+    let mut memory = lc3::memory();
+    lc3::install_monitor(&mut memory);
     memory[TIMER_VECTOR] = SWITCH;
     let mut digits = TASK;
     (digits[7], digits[8]) = (u16::from(b'0'), u16::from(b'9' + 1).wrapping_neg());

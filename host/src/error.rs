@@ -1,16 +1,18 @@
-//! Refusals of every call as one type.
+//! Why a call was refused: one type for every call.
 
-use crate::ffi::LC3_ACCEPTED;
-use crate::{LineRefusal, MonitorRefusal, ObjectRefusal, PageRefusal, Refusal, WriteRefusal};
+use crate::ffi;
 use std::fmt;
 
-/// Why a call was refused, whichever call it was: every refusal converts into it.
+/// Why a call was refused. Where several apply, the first that the call's rules name is answered.
+///
+/// The library's refusal 11, a memory of another length, is none of them: memory is lent as a
+/// [`Memory`](crate::Memory), which has its length by its type.
 ///
 /// ```
-/// use lc3::Mode;
+/// use lc3::{Error, Mode};
 ///
-/// fn first_line(file: &[u8]) -> Result<String, lc3::Error> {
-///     let mut memory = vec![0; lc3::WORDS];
+/// fn first_line(file: &[u8]) -> Result<String, Error> {
+///     let mut memory = lc3::memory();
 ///     let started = lc3::start(file, &mut memory, Mode::User, 0xFDFF)?;
 ///     let mut output = [0; lc3::LINE_LIMIT];
 ///     let count = lc3::line(memory[usize::from(started.record.pc)], &mut output)?;
@@ -19,96 +21,116 @@ use std::fmt;
 ///
 /// assert_eq!(first_line(&[0x30, 0x00, 0xF0, 0x25]).as_deref(), Ok("TRAP x25\n"));
 /// let refused = first_line(&[0x30]).unwrap_err();
-/// assert_eq!(refused.code(), 17);
+/// assert_eq!((refused, refused.code()), (Error::File, 17));
 /// assert_eq!(refused.to_string(), "the file has an odd number of bytes, or fewer than two");
 /// ```
 #[derive(Clone, Copy, Debug, PartialEq, Eq, Hash)]
 #[non_exhaustive]
 pub enum Error {
-    /// An instruction was not written.
-    Write(WriteRefusal),
-    /// A run or a single step was not made.
-    Run(Refusal),
-    /// A line was not written.
-    Line(LineRefusal),
-    /// A page was not written.
-    Page(PageRefusal),
-    /// An object file was not started or not written.
-    Object(ObjectRefusal),
-    /// The monitor was not put into memory.
-    Monitor(MonitorRefusal),
+    /// 1: a register is above 7.
+    Register,
+    /// 2: a signed field, trap vector or reserved field is out of range.
+    Value,
+    /// 3: the mask of BR is above 7.
+    Mask,
+    /// 12: the record has an undefined bit, a busy count above 8, a timer count above the interval,
+    /// or 0 with an interval set, or a clock above [`CLOCK_LIMIT`](crate::CLOCK_LIMIT).
+    Record,
+    /// 13: more than [`STEP_LIMIT`](crate::STEP_LIMIT) steps, or a clock that would pass
+    /// [`CLOCK_LIMIT`](crate::CLOCK_LIMIT).
+    Steps,
+    /// 14: the key lists differ in length.
+    KeyLists,
+    /// 15: the time of the key with this index, from 0, is below the clock.
+    KeyTime(usize),
+    /// 16: the line, the page or the file does not fit the output.
+    Output,
+    /// 17: the file has an odd number of bytes, or fewer than two.
+    File,
+    /// 18: the range of an object file goes beyond the last word of memory.
+    Range,
+    /// 19: the time of the key with this index, from 0, is below the one before it, and not below
+    /// the clock.
+    KeyOrder(usize),
+    /// 20: the page goes beyond the last word of memory.
+    Page,
+    /// 21: the origin or a word of the file lies outside x3000 to xFDFF: of
+    /// [`start_user`](crate::start_user()) alone.
+    User,
 }
 
 impl Error {
+    /// The refusal that a number stands for, if any; those of a key with this index.
+    fn from_code(number: u32, index: usize) -> Option<Error> {
+        use Error::{File, KeyLists, KeyOrder, KeyTime, Mask, Output, Page, Range, Record};
+        use Error::{Register, Steps, User, Value};
+        let words = [Register, Value, Mask];
+        let runs = [Record, Steps, KeyLists, KeyTime(index), KeyOrder(index)];
+        let files = [Output, File, Range, Page, User];
+        let mut all = words.into_iter().chain(runs).chain(files);
+        all.find(|refusal| refusal.code() == number)
+    }
+
     /// The refusal's number.
+    ///
+    /// ```
+    /// assert_eq!(lc3::Error::KeyOrder(3).code(), 19);
+    /// ```
     pub fn code(self) -> u32 {
         match self {
-            Error::Write(refusal) => refusal.code(),
-            Error::Run(refusal) => refusal.code(),
-            Error::Line(refusal) => refusal.code(),
-            Error::Page(refusal) => refusal.code(),
-            Error::Object(refusal) => refusal.code(),
-            Error::Monitor(refusal) => refusal.code(),
+            Error::Register => ffi::LC3_REFUSED_REGISTER,
+            Error::Value => ffi::LC3_REFUSED_FIELD,
+            Error::Mask => ffi::LC3_REFUSED_MASK,
+            Error::Record => ffi::LC3_REFUSED_RECORD,
+            Error::Steps => ffi::LC3_REFUSED_STEPS,
+            Error::KeyLists => ffi::LC3_REFUSED_LISTS,
+            Error::KeyTime(_) => ffi::LC3_REFUSED_TIME,
+            Error::Output => ffi::LC3_REFUSED_OUTPUT,
+            Error::File => ffi::LC3_REFUSED_FILE,
+            Error::Range => ffi::LC3_REFUSED_RANGE,
+            Error::KeyOrder(_) => ffi::LC3_REFUSED_ORDER,
+            Error::Page => ffi::LC3_REFUSED_PAGE,
+            Error::User => ffi::LC3_REFUSED_USER,
         }
     }
 }
 
 impl fmt::Display for Error {
     fn fmt(&self, f: &mut fmt::Formatter<'_>) -> fmt::Result {
-        match self {
-            Error::Write(refusal) => refusal.fmt(f),
-            Error::Run(refusal) => refusal.fmt(f),
-            Error::Line(refusal) => refusal.fmt(f),
-            Error::Page(refusal) => refusal.fmt(f),
-            Error::Object(refusal) => refusal.fmt(f),
-            Error::Monitor(refusal) => refusal.fmt(f),
-        }
+        f.write_str(match self {
+            Error::Register => "a register is above 7",
+            Error::Value => "a field's value is out of range",
+            Error::Mask => "the mask of BR is above 7",
+            Error::Record => {
+                "the record has an undefined bit, a busy or timer count out of range, or a clock above \
+                 2^48"
+            }
+            Error::Steps => "more than 1,048,576 steps, or a clock that would pass 2^48",
+            Error::KeyLists => "the lists of key times and key bytes differ in length",
+            Error::KeyTime(i) => return write!(f, "times[{i}] is below the clock"),
+            Error::Output => "the text or the file does not fit the output",
+            Error::File => "the file has an odd number of bytes, or fewer than two",
+            Error::Range => "the range goes beyond the last word of memory",
+            Error::KeyOrder(i) => return write!(f, "times[{i}] is below the time before it"),
+            Error::Page => "the page goes beyond the last word of memory",
+            Error::User => "the file does not lie in x3000 to xFDFF",
+        })
     }
 }
 
 impl std::error::Error for Error {}
 
-impl From<WriteRefusal> for Error {
-    fn from(refusal: WriteRefusal) -> Error {
-        Error::Write(refusal)
-    }
+/// Nothing if the library accepted the call, or else the refusal that it answered.
+pub(crate) fn accepted(number: u32) -> Result<(), Error> {
+    accepted_keys(number, 0)
 }
 
-impl From<Refusal> for Error {
-    fn from(refusal: Refusal) -> Error {
-        Error::Run(refusal)
-    }
-}
-
-impl From<LineRefusal> for Error {
-    fn from(refusal: LineRefusal) -> Error {
-        Error::Line(refusal)
-    }
-}
-
-impl From<PageRefusal> for Error {
-    fn from(refusal: PageRefusal) -> Error {
-        Error::Page(refusal)
-    }
-}
-
-impl From<ObjectRefusal> for Error {
-    fn from(refusal: ObjectRefusal) -> Error {
-        Error::Object(refusal)
-    }
-}
-
-impl From<MonitorRefusal> for Error {
-    fn from(refusal: MonitorRefusal) -> Error {
-        Error::Monitor(refusal)
-    }
-}
-
-/// Nothing if the library accepted the call, or else the one of its refusals that has the number.
-pub(crate) fn accepted<R: Copy>(number: u32, refusals: &[R], code: fn(R) -> u32) -> Result<(), R> {
-    if number == LC3_ACCEPTED {
+/// The same of a call that is lent keys, and names the first one at fault.
+pub(crate) fn accepted_keys(number: u32, index: u64) -> Result<(), Error> {
+    if number == ffi::LC3_ACCEPTED {
         return Ok(());
     }
-    let refusal = refusals.iter().find(|refusal| code(**refusal) == number);
-    Err(*refusal.unwrap_or_else(|| unreachable!("the library answered refusal {number}")))
+    let index = usize::try_from(index).expect("an index into a slice");
+    let refusal = Error::from_code(number, index);
+    Err(refusal.unwrap_or_else(|| unreachable!("the library answered refusal {number}")))
 }

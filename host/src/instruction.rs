@@ -2,7 +2,7 @@
 
 use crate::error::accepted;
 use crate::ffi::{self, Fields};
-use std::fmt;
+use crate::Error;
 
 /// An instruction, with its operands in the order of the assembler.
 ///
@@ -141,48 +141,6 @@ pub enum Instruction {
     },
 }
 
-/// Why an instruction has no word. Where several apply, the first is answered.
-#[derive(Clone, Copy, Debug, PartialEq, Eq, Hash)]
-#[non_exhaustive]
-pub enum WriteRefusal {
-    /// A register is above 7.
-    Register,
-    /// A signed field, trap vector or reserved field is out of range.
-    Value,
-    /// The mask of BR is above 7.
-    Mask,
-}
-
-impl WriteRefusal {
-    const ALL: [WriteRefusal; 3] =
-        [WriteRefusal::Register, WriteRefusal::Value, WriteRefusal::Mask];
-
-    /// The refusal's number, 1 to 3.
-    ///
-    /// ```
-    /// assert_eq!(lc3::WriteRefusal::Mask.code(), 3);
-    /// ```
-    pub fn code(self) -> u32 {
-        match self {
-            WriteRefusal::Register => ffi::LC3_REFUSED_REGISTER,
-            WriteRefusal::Value => ffi::LC3_REFUSED_FIELD,
-            WriteRefusal::Mask => ffi::LC3_REFUSED_MASK,
-        }
-    }
-}
-
-impl fmt::Display for WriteRefusal {
-    fn fmt(&self, f: &mut fmt::Formatter<'_>) -> fmt::Result {
-        f.write_str(match self {
-            WriteRefusal::Register => "a register is above 7",
-            WriteRefusal::Value => "a field's value is out of range",
-            WriteRefusal::Mask => "the mask of BR is above 7",
-        })
-    }
-}
-
-impl std::error::Error for WriteRefusal {}
-
 /// Fields with up to three registers, or a mask in place of the first, and a value.
 fn fields(kind: u8, [a, b, c]: [u8; 3], value: i32) -> Fields {
     Fields { kind, a, b, c, value }
@@ -286,13 +244,13 @@ pub fn read(word: u16) -> Reading {
 /// Writes an instruction as a word, with the fixed bits as the encoding has them.
 ///
 /// ```
-/// use lc3::{Instruction, WriteRefusal};
+/// use lc3::{Error, Instruction};
 ///
 /// assert_eq!(lc3::write(&Instruction::Trap { vector: 0x25 }), Ok(0xF025));
-/// assert_eq!(lc3::write(&Instruction::Trap { vector: 256 }), Err(WriteRefusal::Value));
+/// assert_eq!(lc3::write(&Instruction::Trap { vector: 256 }), Err(Error::Value));
 /// ```
-pub fn write(instruction: &Instruction) -> Result<u16, WriteRefusal> {
+pub fn write(instruction: &Instruction) -> Result<u16, Error> {
     let written = ffi::lc3_write((*instruction).into());
-    accepted(written.refusal, &WriteRefusal::ALL, WriteRefusal::code)?;
+    accepted(written.refusal)?;
     Ok(written.word)
 }

@@ -22,9 +22,9 @@
 //!
 //! - [`reach`](reach()) for a run that tells how far one altered word of memory can reach.
 //!
-//! Nothing is kept between calls. A call that cannot be obeyed is refused and alters nothing; each
-//! kind of refusal converts into [`Error`]. The C interface itself, with the constants of `lc3.h`
-//! under their names, is in [`ffi`].
+//! Memory is lent as a [`Memory`], which has its length by its type; [`memory()`] makes one. Nothing is
+//! kept between calls. A call that cannot be obeyed is refused with an [`Error`] and alters nothing.
+//! The C interface itself, with the constants of `lc3.h` under their names, is in [`ffi`].
 //!
 //! The archive is taken from the directory in the environment variable `LC3_LIB_DIR` when the
 //! crate is built, or else from `../build`.
@@ -44,7 +44,7 @@
 //!     0xFE, 0x06, // DDR
 //!     0xFF, 0xFE, // MCR
 //! ];
-//! let mut memory = vec![0; lc3::WORDS];
+//! let mut memory = lc3::memory();
 //! let mut output = [0; 8];
 //! let record = lc3::start(&file, &mut memory, Mode::Supervisor, 0xFDFF)?.record;
 //! let run = lc3::run(record, &mut memory, Keys::NONE, &mut output, 1000)?;
@@ -61,6 +61,7 @@ pub mod ffi;
 mod instruction;
 mod line;
 mod log;
+mod memory;
 mod monitor;
 mod object;
 mod reach;
@@ -68,18 +69,16 @@ mod record;
 mod run;
 
 pub use error::Error;
-pub use instruction::{read, write, Instruction, Reading, WriteRefusal};
-pub use line::{line, line_length, line_string, page, LineRefusal, PageRefusal, LINE_LIMIT};
+pub use instruction::{read, write, Instruction, Reading};
+pub use line::{line, line_length, line_string, page, LINE_LIMIT};
 pub use log::{logged_steps, run_logged, LoggedRun, LoggedStep, Reason, LOG_WORDS};
-pub use monitor::{
-    install_monitor, vectors, MonitorRefusal, Routines, MONITOR_WORDS, VECTOR_WORDS,
-};
-pub use object::{save, start, start_user, ObjectRefusal, Started};
+pub use memory::{memory, Memory, WORDS};
+pub use monitor::{install_monitor, vectors, Routines, MONITOR_WORDS, VECTOR_WORDS};
+pub use object::{save, start, start_user, Started};
 pub use reach::{reach, Fate, Reach, Replacing, Taking};
 pub use record::{Mode, Record};
 pub use run::{run, run_long, run_second, step, step_second};
-pub use run::{Keys, Refusal, Run, StepReport, Stop};
-pub use run::{CLOCK_LIMIT, STEP_LIMIT, WORDS};
+pub use run::{Keys, Run, StepReport, Stop, CLOCK_LIMIT, STEP_LIMIT};
 
 /// The version of the interface that the library was built for.
 ///

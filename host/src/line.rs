@@ -1,42 +1,10 @@
 //! Words as lines of text, and ranges of memory as pages of lines.
 
 use crate::error::accepted;
-use crate::ffi;
-use std::fmt;
+use crate::{ffi, Error, Memory};
 
 /// The bytes of the longest line, its line feed included.
 pub const LINE_LIMIT: usize = ffi::LC3_MAX_LINE;
-
-/// Why a line was not written.
-#[derive(Clone, Copy, Debug, PartialEq, Eq, Hash)]
-#[non_exhaustive]
-pub enum LineRefusal {
-    /// The line does not fit the output.
-    Output,
-}
-
-impl LineRefusal {
-    /// The refusal's number, 16.
-    ///
-    /// ```
-    /// assert_eq!(lc3::LineRefusal::Output.code(), 16);
-    /// ```
-    pub fn code(self) -> u32 {
-        match self {
-            LineRefusal::Output => ffi::LC3_REFUSED_OUTPUT,
-        }
-    }
-}
-
-impl fmt::Display for LineRefusal {
-    fn fmt(&self, f: &mut fmt::Formatter<'_>) -> fmt::Result {
-        f.write_str(match self {
-            LineRefusal::Output => "the line does not fit the output",
-        })
-    }
-}
-
-impl std::error::Error for LineRefusal {}
 
 /// Writes a word as a line of text to the start of `output`, and answers its length.
 ///
@@ -49,13 +17,13 @@ impl std::error::Error for LineRefusal {}
 /// let mut output = [0; lc3::LINE_LIMIT];
 /// let count = lc3::line(0x14E7, &mut output)?;
 /// assert_eq!(&output[..count], b"ADD R2, R3, #7\n");
-/// assert_eq!(lc3::line(0x14E7, &mut output[..14]), Err(lc3::LineRefusal::Output));
-/// # Ok::<(), lc3::LineRefusal>(())
+/// assert_eq!(lc3::line(0x14E7, &mut output[..14]), Err(lc3::Error::Output));
+/// # Ok::<(), lc3::Error>(())
 /// ```
-pub fn line(word: u16, output: &mut [u8]) -> Result<usize, LineRefusal> {
+pub fn line(word: u16, output: &mut [u8]) -> Result<usize, Error> {
     // SAFETY: the slice is valid for writing its length.
     let counted = unsafe { ffi::lc3_line(word, output.as_mut_ptr(), output.len()) };
-    accepted(counted.refusal, &[LineRefusal::Output], LineRefusal::code)?;
+    accepted(counted.refusal)?;
     Ok(counted.count as usize)
 }
 
@@ -80,73 +48,27 @@ pub fn line_string(word: u16) -> String {
     output[..count].iter().copied().map(char::from).collect()
 }
 
-/// Why a page was not written. Where several apply, the first is answered, in this order.
-#[derive(Clone, Copy, Debug, PartialEq, Eq, Hash)]
-#[non_exhaustive]
-pub enum PageRefusal {
-    /// Memory is not [`WORDS`](crate::WORDS) words.
-    Memory,
-    /// The page goes beyond the last word of memory.
-    Range,
-    /// The whole page does not fit the output.
-    Output,
-}
-
-impl PageRefusal {
-    const ALL: [PageRefusal; 3] = [PageRefusal::Memory, PageRefusal::Range, PageRefusal::Output];
-
-    /// The refusal's number: 11, 20 or 16.
-    ///
-    /// ```
-    /// assert_eq!(lc3::PageRefusal::Range.code(), 20);
-    /// ```
-    pub fn code(self) -> u32 {
-        match self {
-            PageRefusal::Memory => ffi::LC3_REFUSED_MEMORY,
-            PageRefusal::Range => ffi::LC3_REFUSED_PAGE,
-            PageRefusal::Output => ffi::LC3_REFUSED_OUTPUT,
-        }
-    }
-}
-
-impl fmt::Display for PageRefusal {
-    fn fmt(&self, f: &mut fmt::Formatter<'_>) -> fmt::Result {
-        f.write_str(match self {
-            PageRefusal::Memory => "memory is not 65,536 words",
-            PageRefusal::Range => "the page goes beyond the last word of memory",
-            PageRefusal::Output => "the page does not fit the output",
-        })
-    }
-}
-
-impl std::error::Error for PageRefusal {}
-
 /// Writes the lines of `count` words from `first` on, one after the other, to the start of
 /// `output`, and answers their length: at most `count` times [`LINE_LIMIT`].
 ///
 /// What lies after the page is left as it was; where the page is refused, all of `output` is.
 ///
 /// ```
-/// let mut memory = vec![0; lc3::WORDS];
+/// let mut memory = lc3::memory();
 /// memory[0x3000..0x3002].copy_from_slice(&[0x1021, 0x0FFE]);
 /// let mut output = [0; 2 * lc3::LINE_LIMIT];
 /// let count = lc3::page(&memory, 0x3000, 2, &mut output)?;
 /// assert_eq!(&output[..count], b"ADD R0, R0, #1\nBRnzp #-2\n");
-/// assert_eq!(lc3::page(&memory, 0xFFFF, 2, &mut output), Err(lc3::PageRefusal::Range));
-/// # Ok::<(), lc3::PageRefusal>(())
+/// assert_eq!(lc3::page(&memory, 0xFFFF, 2, &mut output), Err(lc3::Error::Page));
+/// # Ok::<(), lc3::Error>(())
 /// ```
-pub fn page(
-    memory: &[u16],
-    first: u16,
-    count: usize,
-    output: &mut [u8],
-) -> Result<usize, PageRefusal> {
+pub fn page(memory: &Memory, first: u16, count: usize, output: &mut [u8]) -> Result<usize, Error> {
     // SAFETY: each pointer and length come from one slice, and the borrow keeps the output apart
     // from memory.
     let counted = unsafe {
         let (text, room) = (output.as_mut_ptr(), output.len());
         ffi::lc3_page(memory.as_ptr(), memory.len(), first, count, text, room)
     };
-    accepted(counted.refusal, &PageRefusal::ALL, PageRefusal::code)?;
+    accepted(counted.refusal)?;
     Ok(counted.count as usize)
 }

@@ -1,8 +1,8 @@
 //! Logged runs: what each step did, and by which rule.
 
-use crate::error::accepted;
+use crate::error::accepted_keys;
 use crate::run::count;
-use crate::{ffi, line_string, Keys, Record, Refusal, Run, Stop};
+use crate::{ffi, line_string, Error, Keys, Memory, Record, Run, Stop};
 use std::fmt;
 
 /// The words of one step in a log.
@@ -158,7 +158,7 @@ pub struct LoggedRun {
 /// ```
 /// use lc3::{logged_steps, Keys, Mode, Reason, Stop};
 ///
-/// let mut memory = vec![0; lc3::WORDS];
+/// let mut memory = lc3::memory();
 /// // At x3000: ADD R0, R0, #1, and the reserved opcode.
 /// let file = [0x30, 0x00, 0x10, 0x21, 0xD0, 0x00];
 /// let record = lc3::start(&file, &mut memory, Mode::User, 0xFDFF)?.record;
@@ -172,12 +172,12 @@ pub struct LoggedRun {
 /// ```
 pub fn run_logged(
     record: Record,
-    memory: &mut [u16],
+    memory: &mut Memory,
     keys: Keys<'_>,
     output: &mut [u8],
     log: &mut [u16],
     n: u64,
-) -> Result<LoggedRun, Refusal> {
+) -> Result<LoggedRun, Error> {
     // SAFETY: each pointer and length come from one slice, and the borrows keep the slices that
     // are written apart from all others.
     let answer = unsafe {
@@ -196,7 +196,7 @@ pub fn run_logged(
             n,
         )
     };
-    accepted(answer.refusal, &Refusal::all(count(answer.index)), Refusal::code)?;
+    accepted_keys(answer.refusal, answer.index)?;
     let run = Run {
         record: answer.record,
         steps: answer.steps,

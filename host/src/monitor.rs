@@ -1,8 +1,6 @@
 //! The ready-made monitor, and the vector words of any other.
 
-use crate::error::accepted;
-use crate::ffi;
-use std::fmt;
+use crate::{ffi, Memory};
 
 /// The vector words: x0000 to x01FF.
 pub const VECTOR_WORDS: usize = ffi::LC3_VECTOR_WORDS;
@@ -24,50 +22,17 @@ impl Routines {
     }
 }
 
-/// Why the monitor was not put into memory.
-#[derive(Clone, Copy, Debug, PartialEq, Eq, Hash)]
-#[non_exhaustive]
-pub enum MonitorRefusal {
-    /// Memory is not [`WORDS`](crate::WORDS) words.
-    Memory,
-}
-
-impl MonitorRefusal {
-    /// The refusal's number, 11.
-    ///
-    /// ```
-    /// assert_eq!(lc3::MonitorRefusal::Memory.code(), 11);
-    /// ```
-    pub fn code(self) -> u32 {
-        match self {
-            MonitorRefusal::Memory => ffi::LC3_REFUSED_MEMORY,
-        }
-    }
-}
-
-impl fmt::Display for MonitorRefusal {
-    fn fmt(&self, f: &mut fmt::Formatter<'_>) -> fmt::Result {
-        f.write_str(match self {
-            MonitorRefusal::Memory => "memory is not 65,536 words",
-        })
-    }
-}
-
-impl std::error::Error for MonitorRefusal {}
-
 /// Puts the ready-made monitor into memory: words x0000 to x02A4, and no other.
 ///
 /// Its routines are GETC, OUT, PUTS, IN, PUTSP and HALT of the book's Table A.3; every other trap
 /// and the three exceptions halt and show nothing; interrupts return at once. The program that it
 /// serves starts in User mode; a candidate's is started by [`start_user`](crate::start_user).
 ///
-/// A refused call alters nothing.
-///
 /// ```
 /// use lc3::{Keys, Stop};
 ///
-/// let mut memory = vec![0; lc3::WORDS];
-/// lc3::install_monitor(&mut memory)?;
+/// let mut memory = lc3::memory();
+/// lc3::install_monitor(&mut memory);
 /// let file = [0x30, 0x00, 0xF0, 0x25]; // at x3000, TRAP x25: HALT
 /// let record = lc3::start_user(&file, &mut memory, 0xFDFF)?.record;
 /// let mut output = [0; 80];
@@ -76,10 +41,10 @@ impl std::error::Error for MonitorRefusal {}
 /// assert_eq!(&output[..run.shown], b"Halted\n");
 /// # Ok::<(), lc3::Error>(())
 /// ```
-pub fn install_monitor(memory: &mut [u16]) -> Result<(), MonitorRefusal> {
-    // SAFETY: pointer and length come from one slice.
+pub fn install_monitor(memory: &mut Memory) {
+    // SAFETY: pointer and length come from one array.
     let refusal = unsafe { ffi::lc3_monitor(memory.as_mut_ptr(), memory.len()) };
-    accepted(refusal, &[MonitorRefusal::Memory], MonitorRefusal::code)
+    assert_eq!(refusal, ffi::LC3_ACCEPTED, "a memory has its length by its type");
 }
 
 /// The vector words, x0000 to x01FF, of a monitor with these routines.

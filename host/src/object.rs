@@ -1,8 +1,7 @@
 //! Object files.
 
 use crate::error::accepted;
-use crate::{ffi, Mode, Record};
-use std::fmt;
+use crate::{ffi, Error, Memory, Mode, Record};
 
 /// What starting a file answers.
 #[derive(Clone, Copy, Debug, PartialEq, Eq)]
@@ -12,62 +11,6 @@ pub struct Started {
     /// The words loaded, from the origin on.
     pub words: usize,
 }
-
-/// Why an object file was not started or not written. Where several apply, the first is answered,
-/// in the order memory, file, range, user for the starts and memory, range, output for [`save`].
-#[derive(Clone, Copy, Debug, PartialEq, Eq, Hash)]
-#[non_exhaustive]
-pub enum ObjectRefusal {
-    /// Memory is not [`WORDS`](crate::WORDS) words.
-    Memory,
-    /// The output is too short for the file.
-    Output,
-    /// The file has an odd number of bytes, or fewer than two.
-    File,
-    /// The range goes beyond the last word of memory.
-    Range,
-    /// The origin or a word of the file lies outside x3000 to xFDFF: of [`start_user`] alone.
-    User,
-}
-
-impl ObjectRefusal {
-    const ALL: [ObjectRefusal; 5] = [
-        ObjectRefusal::Memory,
-        ObjectRefusal::Output,
-        ObjectRefusal::File,
-        ObjectRefusal::Range,
-        ObjectRefusal::User,
-    ];
-
-    /// The refusal's number: 11, 16 to 18, or 21.
-    ///
-    /// ```
-    /// assert_eq!(lc3::ObjectRefusal::Range.code(), 18);
-    /// ```
-    pub fn code(self) -> u32 {
-        match self {
-            ObjectRefusal::Memory => ffi::LC3_REFUSED_MEMORY,
-            ObjectRefusal::Output => ffi::LC3_REFUSED_OUTPUT,
-            ObjectRefusal::File => ffi::LC3_REFUSED_FILE,
-            ObjectRefusal::Range => ffi::LC3_REFUSED_RANGE,
-            ObjectRefusal::User => ffi::LC3_REFUSED_USER,
-        }
-    }
-}
-
-impl fmt::Display for ObjectRefusal {
-    fn fmt(&self, f: &mut fmt::Formatter<'_>) -> fmt::Result {
-        f.write_str(match self {
-            ObjectRefusal::Memory => "memory is not 65,536 words",
-            ObjectRefusal::Output => "the output is too short for the file",
-            ObjectRefusal::File => "the file has an odd number of bytes, or fewer than two",
-            ObjectRefusal::Range => "the range goes beyond the last word of memory",
-            ObjectRefusal::User => "the file does not lie in x3000 to xFDFF",
-        })
-    }
-}
-
-impl std::error::Error for ObjectRefusal {}
 
 /// Loads an object file into memory, and answers the record of a machine that is to run it.
 ///
@@ -92,9 +35,9 @@ impl std::error::Error for ObjectRefusal {}
 /// [`start_user`].
 ///
 /// ```
-/// use lc3::{Mode, ObjectRefusal};
+/// use lc3::{Error, Mode};
 ///
-/// let mut memory = vec![0; lc3::WORDS];
+/// let mut memory = lc3::memory();
 /// let file = [0x30, 0x00, 0x14, 0xE7, 0xF0, 0x25];
 /// let started = lc3::start(&file, &mut memory, Mode::User, 0xFDFF)?;
 /// assert_eq!(memory[0x3000..0x3003], [0x14E7, 0xF025, 0]);
@@ -106,15 +49,15 @@ impl std::error::Error for ObjectRefusal {}
 /// assert_eq!(record.mode(), Mode::User);
 ///
 /// let refused = lc3::start(&file[..5], &mut memory, Mode::User, 0xFDFF);
-/// assert_eq!(refused, Err(ObjectRefusal::File));
+/// assert_eq!(refused, Err(Error::File));
 /// # Ok::<(), lc3::Error>(())
 /// ```
 pub fn start(
     file: &[u8],
-    memory: &mut [u16],
+    memory: &mut Memory,
     mode: Mode,
     user_stack: u16,
-) -> Result<Started, ObjectRefusal> {
+) -> Result<Started, Error> {
     // SAFETY: each pointer and length come from one slice, and the borrow keeps memory apart from
     // the file.
     let answer = unsafe {
@@ -127,7 +70,7 @@ pub fn start(
             user_stack,
         )
     };
-    accepted(answer.refusal, &ObjectRefusal::ALL, ObjectRefusal::code)?;
+    accepted(answer.refusal)?;
     Ok(Started { record: answer.record, words: answer.words as usize })
 }
 
@@ -144,22 +87,18 @@ pub fn start(
 /// A refused call alters nothing.
 ///
 /// ```
-/// use lc3::ObjectRefusal;
+/// use lc3::Error;
 ///
-/// let mut memory = vec![0; lc3::WORDS];
+/// let mut memory = lc3::memory();
 /// let started = lc3::start_user(&[0x30, 0x00, 0xF0, 0x25], &mut memory, 0xFDFF)?;
 /// assert_eq!((started.record.pc, memory[0x3000]), (0x3000, 0xF025));
 ///
 /// // The word that says where an access exception leads.
 /// let refused = lc3::start_user(&[0x01, 0x02, 0x01, 0x03], &mut memory, 0xFDFF);
-/// assert_eq!(refused, Err(ObjectRefusal::User));
+/// assert_eq!(refused, Err(Error::User));
 /// # Ok::<(), lc3::Error>(())
 /// ```
-pub fn start_user(
-    file: &[u8],
-    memory: &mut [u16],
-    user_stack: u16,
-) -> Result<Started, ObjectRefusal> {
+pub fn start_user(file: &[u8], memory: &mut Memory, user_stack: u16) -> Result<Started, Error> {
     // SAFETY: each pointer and length come from one slice, and the borrow keeps memory apart from
     // the file.
     let answer = unsafe {
@@ -171,7 +110,7 @@ pub fn start_user(
             user_stack,
         )
     };
-    accepted(answer.refusal, &ObjectRefusal::ALL, ObjectRefusal::code)?;
+    accepted(answer.refusal)?;
     Ok(Started { record: answer.record, words: answer.words as usize })
 }
 
@@ -182,22 +121,17 @@ pub fn start_user(
 /// A refused call alters nothing.
 ///
 /// ```
-/// use lc3::ObjectRefusal;
+/// use lc3::Error;
 ///
-/// let mut memory = vec![0; lc3::WORDS];
+/// let mut memory = lc3::memory();
 /// memory[0x3000] = 0xF025;
 /// let mut output = [0xAA; 5];
 /// assert_eq!(lc3::save(&memory, 0x3000, 1, &mut output), Ok(4));
 /// assert_eq!(output, [0x30, 0x00, 0xF0, 0x25, 0xAA]);
 ///
-/// assert_eq!(lc3::save(&memory, 0x3000, 2, &mut output), Err(ObjectRefusal::Output));
+/// assert_eq!(lc3::save(&memory, 0x3000, 2, &mut output), Err(Error::Output));
 /// ```
-pub fn save(
-    memory: &[u16],
-    origin: u16,
-    words: usize,
-    output: &mut [u8],
-) -> Result<usize, ObjectRefusal> {
+pub fn save(memory: &Memory, origin: u16, words: usize, output: &mut [u8]) -> Result<usize, Error> {
     // SAFETY: each pointer and length come from one slice, and the borrow keeps the output apart
     // from memory.
     let answer = unsafe {
@@ -210,6 +144,6 @@ pub fn save(
             output.len(),
         )
     };
-    accepted(answer.refusal, &ObjectRefusal::ALL, ObjectRefusal::code)?;
+    accepted(answer.refusal)?;
     Ok(usize::try_from(answer.count).expect("a count within a slice"))
 }

@@ -5,8 +5,8 @@ use crate::ffi::{
     LC3_ADDRESS_PSR, LC3_ADDRESS_TIR, LC3_ADDRESS_TSR, LC3_MCR_CLOCK,
 };
 use crate::{
-    logged_steps, read, run, run_logged, step, write, Instruction, Keys, LoggedStep, Mode, Reason,
-    Record, Refusal, Run, Stop, LOG_WORDS, WORDS,
+    logged_steps, memory, read, run, run_logged, step, write, Error, Instruction, Keys, LoggedStep,
+    Memory, Mode, Reason, Record, Run, Stop, LOG_WORDS,
 };
 use std::fmt;
 
@@ -221,7 +221,7 @@ fn is_of_lent_word(&(at, used): &(u16, Use)) -> bool {
 
 /// The run under way.
 struct Course<'a> {
-    memory: &'a mut [u16],
+    memory: &'a mut Memory,
     keys: Keys<'a>,
     output: &'a mut [u8],
     /// What the steps made so far come to.
@@ -330,7 +330,7 @@ impl<'a> Course<'a> {
         // What a device's register holds depends on the keys and the timer of the step. An LD in
         // the place of the instruction loads it in the same step, made on words of its own.
         let load = Instruction::Ld { dr: 0, offset9 };
-        let mut words = vec![0; WORDS];
+        let mut words = memory();
         let mut record = self.run.record;
         words[usize::from(record.pc)] = write(&load).expect("the offset of an instruction");
         step(&mut record, &mut words, self.due(), &mut [])
@@ -402,7 +402,7 @@ fn vector(step: &LoggedStep) -> Option<u16> {
 /// // At x3000: LD R0, x3003; ST R0, x3004; LD R1, x3004.
 /// let file = [0x30, 0x00, 0x20, 0x02, 0x30, 0x02, 0x22, 0x01, 0x00, 0x07, 0x00, 0x08, 0x00, 0x09];
 /// let fate = |address| {
-///     let mut memory = vec![0; lc3::WORDS];
+///     let mut memory = lc3::memory();
 ///     let record = lc3::start(&file, &mut memory, Mode::User, 0xFDFF)?.record;
 ///     let reach = lc3::reach(record, &mut memory, Keys::NONE, &mut [], 3, address)?;
 ///     assert_eq!((reach.run.steps, reach.run.record.regs[1]), (3, 7));
@@ -418,12 +418,12 @@ fn vector(step: &LoggedStep) -> Option<u16> {
 /// ```
 pub fn reach(
     record: Record,
-    memory: &mut [u16],
+    memory: &mut Memory,
     keys: Keys<'_>,
     output: &mut [u8],
     n: u64,
     address: u16,
-) -> Result<Reach, Refusal> {
+) -> Result<Reach, Error> {
     // The call with the clock enable cleared is refused for the same reasons, since none looks at
     // that bit; where it is accepted it makes no step and alters nothing.
     let halted = Record { mcr: record.mcr & !LC3_MCR_CLOCK, ..record };

@@ -66,7 +66,7 @@ impl Record {
     /// ```
     /// use lc3::{Keys, Mode, Stop};
     ///
-    /// let mut memory = vec![0; lc3::WORDS];
+    /// let mut memory = lc3::memory();
     /// let file = [0x30, 0x00, 0xB0, 0x01, 0x00, 0x00, 0xFF, 0xFE]; // STI R0, x3002; x3002 is xFFFE
     /// let record = lc3::start(&file, &mut memory, Mode::Supervisor, 0xFDFF)?.record;
     /// let run = lc3::run(record, &mut memory, Keys::NONE, &mut [], 1)?;

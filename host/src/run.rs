@@ -1,11 +1,8 @@
 //! Runs and single steps.
 
-use crate::error::accepted;
-use crate::{ffi, Record};
+use crate::error::accepted_keys;
+use crate::{ffi, Error, Memory, Record};
 use std::fmt;
-
-/// The number of words of memory that a run needs.
-pub const WORDS: usize = ffi::LC3_MEMORY_WORDS;
 
 /// The most steps that one run may be asked for.
 pub const STEP_LIMIT: u64 = ffi::LC3_MAX_STEPS;
@@ -99,72 +96,6 @@ impl fmt::Display for Stop {
     }
 }
 
-/// Why a run was turned down. Where several apply, the first is answered.
-#[derive(Clone, Copy, Debug, PartialEq, Eq, Hash)]
-#[non_exhaustive]
-pub enum Refusal {
-    /// Memory is not [`WORDS`] words.
-    Memory,
-    /// The record has an undefined bit, a busy count above 8, a timer count above the interval, or
-    /// 0 with an interval set, or a clock above [`CLOCK_LIMIT`].
-    Record,
-    /// More than [`STEP_LIMIT`] steps, or a clock that would pass [`CLOCK_LIMIT`].
-    Steps,
-    /// The key lists differ in length.
-    KeyLists,
-    /// The time of the key with this index, from 0, is below the clock.
-    KeyTime(usize),
-    /// The time of the key with this index, from 0, is below the one before it, and not below the
-    /// clock.
-    KeyOrder(usize),
-}
-
-impl Refusal {
-    /// Every refusal, those of a key with this index.
-    pub(crate) fn all(index: usize) -> [Refusal; 6] {
-        use Refusal::{KeyLists, KeyOrder, KeyTime, Memory, Record, Steps};
-        [Memory, Record, Steps, KeyLists, KeyTime(index), KeyOrder(index)]
-    }
-
-    /// The refusal's number: 11 to 15, or 19.
-    ///
-    /// ```
-    /// assert_eq!(lc3::Refusal::KeyOrder(3).code(), 19);
-    /// ```
-    pub fn code(self) -> u32 {
-        match self {
-            Refusal::Memory => ffi::LC3_REFUSED_MEMORY,
-            Refusal::Record => ffi::LC3_REFUSED_RECORD,
-            Refusal::Steps => ffi::LC3_REFUSED_STEPS,
-            Refusal::KeyLists => ffi::LC3_REFUSED_LISTS,
-            Refusal::KeyTime(_) => ffi::LC3_REFUSED_TIME,
-            Refusal::KeyOrder(_) => ffi::LC3_REFUSED_ORDER,
-        }
-    }
-}
-
-impl fmt::Display for Refusal {
-    fn fmt(&self, f: &mut fmt::Formatter<'_>) -> fmt::Result {
-        match self {
-            Refusal::Memory => f.write_str("memory is not 65,536 words"),
-            Refusal::Record => f.write_str(
-                "the record has an undefined bit, a busy or timer count out of range, or a clock above \
-                 2^48",
-            ),
-            Refusal::Steps => {
-                f.write_str("more than 1,048,576 steps, or a clock that would pass 2^48")
-            }
-            Refusal::KeyLists => {
-                f.write_str("the lists of key times and key bytes differ in length")
-            }
-            Refusal::KeyTime(i) => write!(f, "times[{i}] is below the clock"),
-            Refusal::KeyOrder(i) => write!(f, "times[{i}] is below the time before it"),
-        }
-    }
-}
-
-impl std::error::Error for Refusal {}
-
 /// What a run did.
 #[derive(Clone, Copy, Debug, PartialEq, Eq)]
 pub struct Run {
@@ -193,14 +124,14 @@ pub struct StepReport {
     pub stop: Stop,
 }
 
-/// A count of elements of a lent slice, or an index into one: at most the slice's length.
+/// A count of elements of a lent slice: at most the slice's length.
 pub(crate) fn count(number: u64) -> usize {
     usize::try_from(number).expect("a count within a slice")
 }
 
 /// What an answer says, or why the run was turned down.
-fn made(answer: &ffi::Answer) -> Result<Run, Refusal> {
-    accepted(answer.refusal, &Refusal::all(count(answer.index)), Refusal::code)?;
+fn made(answer: &ffi::Answer) -> Result<Run, Error> {
+    accepted_keys(answer.refusal, answer.index)?;
     Ok(Run {
         record: answer.record,
         steps: answer.steps,
@@ -211,8 +142,8 @@ fn made(answer: &ffi::Answer) -> Result<Run, Refusal> {
 }
 
 /// The same of a single step.
-fn reported(report: &ffi::Report) -> Result<StepReport, Refusal> {
-    accepted(report.refusal, &Refusal::all(count(report.index)), Refusal::code)?;
+fn reported(report: &ffi::Report) -> Result<StepReport, Error> {
+    accepted_keys(report.refusal, report.index)?;
     Ok(StepReport {
         steps: report.steps,
         keys: count(report.keys),
@@ -226,30 +157,27 @@ fn reported(report: &ffi::Report) -> Result<StepReport, Refusal> {
 /// A refused run alters no buffer.
 ///
 /// ```
-/// use lc3::{Keys, Mode, Refusal, Stop};
+/// use lc3::{Error, Keys, Mode, Stop};
 ///
-/// let mut memory = vec![0; lc3::WORDS];
+/// let mut memory = lc3::memory();
 /// let file = [0x30, 0x00, 0x10, 0x21]; // at x3000, ADD R0, R0, #1
 /// let record = lc3::start(&file, &mut memory, Mode::User, 0xFDFF)?.record;
 /// let run = lc3::run(record, &mut memory, Keys::NONE, &mut [], 1)?;
 /// assert_eq!((run.stop, run.record.regs[0], run.record.pc), (Stop::Done, 1, 0x3001));
 ///
-/// let refused = lc3::run(record, &mut memory[1..], Keys::NONE, &mut [], 1);
-/// assert_eq!(refused, Err(Refusal::Memory));
-///
 /// let keys = Keys { times: &[3, 9, 5], bytes: b"abc" };
 /// let refused = lc3::run(record, &mut memory, keys, &mut [], 1).unwrap_err();
-/// assert_eq!((refused, refused.code()), (Refusal::KeyOrder(2), 19));
+/// assert_eq!((refused, refused.code()), (Error::KeyOrder(2), 19));
 /// assert_eq!(refused.to_string(), "times[2] is below the time before it");
 /// # Ok::<(), lc3::Error>(())
 /// ```
 pub fn run(
     record: Record,
-    memory: &mut [u16],
+    memory: &mut Memory,
     keys: Keys<'_>,
     output: &mut [u8],
     n: u64,
-) -> Result<Run, Refusal> {
+) -> Result<Run, Error> {
     run_by(ffi::lc3_run, record, memory, keys, output, n)
 }
 
@@ -262,7 +190,7 @@ pub fn run(
 /// ```
 /// use lc3::{Keys, Mode};
 ///
-/// let mut memory = vec![0; lc3::WORDS];
+/// let mut memory = lc3::memory();
 /// let file = [0x30, 0x00, 0x10, 0x21, 0x0F, 0xFE]; // at x3000: ADD R0, R0, #1; BRnzp #-2
 /// let record = lc3::start(&file, &mut memory, Mode::User, 0xFDFF)?.record;
 /// let long = lc3::run_long(record, &mut memory, Keys::NONE, &mut [], lc3::STEP_LIMIT)?;
@@ -271,11 +199,11 @@ pub fn run(
 /// ```
 pub fn run_long(
     record: Record,
-    memory: &mut [u16],
+    memory: &mut Memory,
     keys: Keys<'_>,
     output: &mut [u8],
     n: u64,
-) -> Result<Run, Refusal> {
+) -> Result<Run, Error> {
     run_by(ffi::lc3_run_long, record, memory, keys, output, n)
 }
 
@@ -286,7 +214,7 @@ pub fn run_long(
 /// ```
 /// use lc3::{Keys, Mode};
 ///
-/// let mut memory = vec![0; lc3::WORDS];
+/// let mut memory = lc3::memory();
 /// memory[0x0025] = 0x0400; // where TRAP x25 goes
 /// let file = [0x30, 0x00, 0xF0, 0x25]; // at x3000, TRAP x25
 /// let mut record = lc3::start(&file, &mut memory, Mode::User, 0xFDFF)?.record;
@@ -298,10 +226,10 @@ pub fn run_long(
 /// ```
 pub fn step(
     record: &mut Record,
-    memory: &mut [u16],
+    memory: &mut Memory,
     keys: Keys<'_>,
     output: &mut [u8],
-) -> Result<StepReport, Refusal> {
+) -> Result<StepReport, Error> {
     step_by(ffi::lc3_step, record, memory, keys, output)
 }
 
@@ -315,7 +243,7 @@ pub fn step(
 /// ```
 /// use lc3::{Keys, Mode};
 ///
-/// let mut memory = vec![0; lc3::WORDS];
+/// let mut memory = lc3::memory();
 /// memory[0x0025] = 0x0400; // where TRAP x25 goes
 /// let file = [0x30, 0x00, 0xF0, 0x25]; // at x3000, TRAP x25
 /// let record = lc3::start(&file, &mut memory, Mode::User, 0xFDFF)?.record;
@@ -325,11 +253,11 @@ pub fn step(
 /// ```
 pub fn run_second(
     record: Record,
-    memory: &mut [u16],
+    memory: &mut Memory,
     keys: Keys<'_>,
     output: &mut [u8],
     n: u64,
-) -> Result<Run, Refusal> {
+) -> Result<Run, Error> {
     run_by(ffi::lc3_run_second, record, memory, keys, output, n)
 }
 
@@ -339,7 +267,7 @@ pub fn run_second(
 /// ```
 /// use lc3::{Keys, Mode};
 ///
-/// let mut memory = vec![0; lc3::WORDS];
+/// let mut memory = lc3::memory();
 /// let file = [0x30, 0x00, 0xE1, 0xFF]; // at x3000, LEA R0, #-1
 /// let mut record = lc3::start(&file, &mut memory, Mode::User, 0xFDFF)?.record;
 /// lc3::step_second(&mut record, &mut memory, Keys::NONE, &mut [])?;
@@ -348,10 +276,10 @@ pub fn run_second(
 /// ```
 pub fn step_second(
     record: &mut Record,
-    memory: &mut [u16],
+    memory: &mut Memory,
     keys: Keys<'_>,
     output: &mut [u8],
-) -> Result<StepReport, Refusal> {
+) -> Result<StepReport, Error> {
     step_by(ffi::lc3_step_second, record, memory, keys, output)
 }
 
@@ -359,11 +287,11 @@ pub fn step_second(
 fn run_by(
     call: ffi::RunCall,
     record: Record,
-    memory: &mut [u16],
+    memory: &mut Memory,
     keys: Keys<'_>,
     output: &mut [u8],
     n: u64,
-) -> Result<Run, Refusal> {
+) -> Result<Run, Error> {
     // SAFETY: each pointer and length come from one slice, and the borrows keep the slices that
     // are written apart from all others.
     let answer = unsafe {
@@ -387,10 +315,10 @@ fn run_by(
 fn step_by(
     call: ffi::StepCall,
     record: &mut Record,
-    memory: &mut [u16],
+    memory: &mut Memory,
     keys: Keys<'_>,
     output: &mut [u8],
-) -> Result<StepReport, Refusal> {
+) -> Result<StepReport, Error> {
     // SAFETY: each pointer and length come from one slice, `record` is a reference, and the
     // borrows keep what is written apart from all else.
     let report = unsafe {

@@ -3,7 +3,7 @@
 mod reference;
 
 use lc3::ffi::Answer;
-use lc3::{Instruction, Keys, Record};
+use lc3::{Instruction, Keys, Memory, Record};
 use reference::figure::{self, Fields, Kind};
 use reference::machine::{self, Call};
 
@@ -12,7 +12,7 @@ const WHERE: u16 = 0x3000;
 /// One step of an example: what differs from the usual record, and the words to stand in memory.
 struct Example {
     record: Record,
-    memory: Vec<u16>,
+    memory: Box<Memory>,
 }
 
 /// The words that the vectors hold, so that PC tells which one was taken.
@@ -23,7 +23,7 @@ const TRAP_X25: u16 = 0x1025;
 
 /// A User record at x3000 with the given word there.
 fn user(word: u16) -> Example {
-    let mut memory = vec![0; lc3::WORDS];
+    let mut memory = lc3::memory();
     memory[usize::from(WHERE)] = word;
     memory[0x0025] = TRAP_X25;
     memory[0x0100] = PRIVILEGE;
@@ -59,12 +59,12 @@ impl Example {
     }
 
     /// The record and memory after one step, in which library and reference agree.
-    fn step(self) -> (Record, Vec<u16>) {
+    fn step(self) -> (Record, Box<Memory>) {
         let (mut ours, mut theirs) = (self.memory.clone(), self.memory);
         let run = lc3::run(self.record, &mut ours, Keys::NONE, &mut [], 1).expect("accepted");
         let call = Call {
             record: self.record,
-            memory: &mut theirs,
+            memory: &mut theirs[..],
             times: &[],
             bytes: &[],
             output: &mut [],

@@ -1,7 +1,7 @@
 //! Key lists that are refused: every list of up to five times near the clock, and the entry that
 //! the library names.
 
-use lc3::{Keys, Mode, Record, Refusal, Stop, WORDS};
+use lc3::{Error, Keys, Memory, Mode, Record, Stop};
 
 const CLOCK: u64 = 2;
 
@@ -12,13 +12,13 @@ const LONGEST: u32 = 5;
 
 /// What is to be answered, by two searches of their own: the first time below the clock, and the
 /// first that is below the one before it.
-fn expected(times: &[u64]) -> Option<Refusal> {
+fn expected(times: &[u64]) -> Option<Error> {
     let below_clock = times.iter().position(|&time| time < CLOCK);
     let out_of_order = times.windows(2).position(|pair| pair[1] < pair[0]).map(|i| i + 1);
     match (below_clock, out_of_order) {
-        (Some(early), Some(late)) if late < early => Some(Refusal::KeyOrder(late)),
-        (Some(early), _) => Some(Refusal::KeyTime(early)),
-        (None, late) => late.map(Refusal::KeyOrder),
+        (Some(early), Some(late)) if late < early => Some(Error::KeyOrder(late)),
+        (Some(early), _) => Some(Error::KeyTime(early)),
+        (None, late) => late.map(Error::KeyOrder),
     }
 }
 
@@ -34,13 +34,13 @@ fn for_lists(mut check: impl FnMut(&[u64])) {
 }
 
 /// A machine at x3000 with nothing loaded.
-fn start(memory: &mut [u16]) -> Record {
+fn start(memory: &mut Memory) -> Record {
     lc3::start(&[0x30, 0x00], memory, Mode::User, 0xFDFF).expect("accepted").record
 }
 
 #[test]
 fn the_first_entry_at_fault_is_named_in_every_list() {
-    let mut memory = vec![0; WORDS];
+    let mut memory = lc3::memory();
     // A halted machine, so that an accepted call alters nothing.
     let mut record = start(&mut memory);
     (record.clock, record.mcr) = (CLOCK, 0);
@@ -57,8 +57,8 @@ fn the_first_entry_at_fault_is_named_in_every_list() {
         assert_eq!(step.map(|step| step.stop), wanted, "{times:?}");
         assert_eq!(stepped, record, "{times:?}");
         lists += 1;
-        below_clock += u32::from(matches!(refusal, Some(Refusal::KeyTime(_))));
-        out_of_order += u32::from(matches!(refusal, Some(Refusal::KeyOrder(_))));
+        below_clock += u32::from(matches!(refusal, Some(Error::KeyTime(_))));
+        out_of_order += u32::from(matches!(refusal, Some(Error::KeyOrder(_))));
     });
     println!("{lists} lists: {below_clock} refused under 15, {out_of_order} under 19");
     assert_eq!(lists, 3906);
@@ -68,15 +68,15 @@ fn the_first_entry_at_fault_is_named_in_every_list() {
 #[test]
 fn an_entry_far_into_a_list_is_named() {
     const KEYS: usize = 10_000;
-    let mut memory = vec![0; WORDS];
+    let mut memory = lc3::memory();
     let mut record = start(&mut memory);
     record.clock = CLOCK;
     let bytes = vec![0; KEYS];
     for at in [1, 2, 4095, 4096, KEYS - 1] {
         let mut times: Vec<u64> = (0..KEYS as u64).map(|i| CLOCK + i).collect();
         for (time, refusal) in [
-            (CLOCK - 1, Refusal::KeyTime(at)),
-            (times[at - 1] - 1, if at > 1 { Refusal::KeyOrder(at) } else { Refusal::KeyTime(at) }),
+            (CLOCK - 1, Error::KeyTime(at)),
+            (times[at - 1] - 1, if at > 1 { Error::KeyOrder(at) } else { Error::KeyTime(at) }),
         ] {
             times[at] = time;
             let keys = Keys { times: &times, bytes: &bytes };

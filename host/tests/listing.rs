@@ -1,7 +1,7 @@
 //! docs/monitor.lst against the monitor's words, and the comments of the sources against both; the
 //! words of the example `turns` against their comments.
 
-use lc3::{MONITOR_WORDS, VECTOR_WORDS, WORDS};
+use lc3::{Memory, MONITOR_WORDS, VECTOR_WORDS};
 use std::collections::HashMap;
 use std::fs;
 use std::path::Path;
@@ -51,9 +51,9 @@ fn listing() -> Vec<Line> {
     lines
 }
 
-fn monitor() -> Vec<u16> {
-    let mut memory = vec![0; WORDS];
-    lc3::install_monitor(&mut memory).expect("a whole memory");
+fn monitor() -> Box<Memory> {
+    let mut memory = lc3::memory();
+    lc3::install_monitor(&mut memory);
     memory
 }
 

@@ -4,7 +4,7 @@ mod reference;
 mod support;
 
 use lc3::ffi::{Answer, LoggedAnswer};
-use lc3::{logged_steps, Keys, LoggedStep, Mode, Reason, Record, Stop, WORDS};
+use lc3::{logged_steps, Keys, LoggedStep, Memory, Mode, Reason, Record, Stop};
 use reference::machine::{self, Event, CAUSES, LOG_FULL};
 use support::cases::Case;
 use support::{assert_same_buffers, for_cases, Buffers, Lent};
@@ -19,7 +19,7 @@ fn without_log(answer: &LoggedAnswer) -> Answer {
 }
 
 /// A machine at x3000: that of a file with nothing else in it.
-fn at_x3000(memory: &mut [u16], mode: Mode) -> Record {
+fn at_x3000(memory: &mut Memory, mode: Mode) -> Record {
     lc3::start(&[0x30, 0x00], memory, mode, 0xFDFF).expect("accepted").record
 }
 
@@ -116,8 +116,8 @@ fn random_logged_runs_agree_with_the_reference_and_with_the_run() {
 /// A program that never stops by itself in its first nineteen steps. Timer and keyboard interrupt
 /// before it begins; TRAP x40 and its way back, the illegal opcode, RTI in User mode and a fetch
 /// below x3000 lead to routines that go on; the last routine halts.
-fn every_reason() -> (Record, Vec<u16>) {
-    let mut memory = vec![0; WORDS];
+fn every_reason() -> (Record, Box<Memory>) {
+    let mut memory = lc3::memory();
     memory[0x0040] = 0x0200; // TRAP x40: RTI at x0200
     memory[0x0101] = 0x0210; // the illegal opcode: to x3002
     memory[0x0100] = 0x0220; // RTI in User mode: to x1000, which is privileged
@@ -206,7 +206,7 @@ fn every_log_length_is_filled_from_the_start_and_no_further() {
 
 #[test]
 fn the_stops_come_in_their_order() {
-    let mut memory = vec![0; WORDS];
+    let mut memory = lc3::memory();
     memory[0x3000] = 0xB001; // STI R0, x3002
     memory[0x3002] = 0xFE06; // DDR
     let record = at_x3000(&mut memory, Mode::Supervisor);
@@ -227,7 +227,7 @@ fn the_stops_come_in_their_order() {
 
 #[test]
 fn the_word_logged_is_the_one_fetched() {
-    let mut memory = vec![0; WORDS];
+    let mut memory = lc3::memory();
     memory[0x0102] = 0x0400;
     memory[0x0180] = 0x0500;
     memory[0x3000..0x3003].copy_from_slice(&[

@@ -4,7 +4,7 @@
 mod reference;
 mod support;
 
-use lc3::{Keys, Mode, MonitorRefusal, Record, Routines, Stop};
+use lc3::{Keys, Memory, Mode, Record, Routines, Stop};
 use lc3::{MONITOR_WORDS, VECTOR_WORDS, WORDS};
 use reference::machine::{self, Call};
 use std::ops::{Range, RangeInclusive};
@@ -33,7 +33,7 @@ const MODES: [Mode; 2] = [Mode::User, Mode::Supervisor];
 /// A program that calls a routine in its first step.
 struct Caller {
     record: Record,
-    memory: Vec<u16>,
+    memory: Box<Memory>,
     times: Vec<u64>,
     bytes: Vec<u8>,
 }
@@ -41,7 +41,7 @@ struct Caller {
 /// What came of the call: the caller goes on, or the machine has stopped.
 struct Called {
     record: Record,
-    memory: Vec<u16>,
+    memory: Box<Memory>,
     shown: Vec<u8>,
     steps: u64,
     /// The steps made when the last byte had been shown.
@@ -57,8 +57,9 @@ impl Caller {
             Mode::User => rng.between(0x3000, 0xFDFE),
             Mode::Supervisor => rng.between(0x0400, 0x23FF),
         } as u16;
-        let mut memory: Vec<u16> = (0..WORDS).map(|_| rng.word()).collect();
-        lc3::install_monitor(&mut memory).expect("a whole memory");
+        let mut memory = lc3::memory();
+        memory.fill_with(|| rng.word());
+        lc3::install_monitor(&mut memory);
         let file = [pc.to_be_bytes(), word.to_be_bytes()].concat();
         let mut record = lc3::start(&file, &mut memory, mode, rng.word()).expect("accepted").record;
         for number in [0, 1, 2, 3, 4, 5, 7] {
@@ -146,7 +147,7 @@ impl Caller {
         let answer = machine::run(
             Call {
                 record: self.record,
-                memory: &mut theirs,
+                memory: &mut theirs[..],
                 times: &self.times,
                 bytes: &self.bytes,
                 output: &mut their_output,
@@ -172,7 +173,7 @@ impl Caller {
     }
 }
 
-fn assert_only_the_stack_changed(before: &[u16], after: &[u16]) {
+fn assert_only_the_stack_changed(before: &Memory, after: &Memory) {
     for (at, (old, new)) in before.iter().zip(after).enumerate() {
         assert!(old == new || STACK.contains(&at), "x{at:04X} was changed");
     }
@@ -299,7 +300,7 @@ fn the_monitor_is_its_vector_words_and_routines() {
     let before: Vec<u16> = (0..WORDS).map(|_| rng.word()).collect();
     let mut lent = Lent::new(0x6A6A);
     lent.set(&before);
-    assert_eq!(lc3::install_monitor(lent.get_mut()), Ok(()));
+    lc3::install_monitor(lent.get_array().expect("a whole memory"));
     assert!(lent.guards_intact());
     assert_eq!(lent.get()[..VECTOR_WORDS], lc3::vectors(Routines::of_monitor()));
     assert_eq!(lent.get()[MONITOR_WORDS..], before[MONITOR_WORDS..]);
@@ -311,7 +312,10 @@ fn other_sizes_of_memory_are_refused() {
     for length in [0, 1, VECTOR_WORDS, MONITOR_WORDS, WORDS - 1, WORDS + 1, 2 * WORDS] {
         let mut lent = Lent::new(0x6A6A);
         lent.set(&vec![0x1234; length]);
-        assert_eq!(lc3::install_monitor(lent.get_mut()), Err(MonitorRefusal::Memory));
+        let words = lent.get_mut();
+        // SAFETY: pointer and length are of one slice.
+        let refusal = unsafe { lc3::ffi::lc3_monitor(words.as_mut_ptr(), words.len()) };
+        assert_eq!(refusal, lc3::ffi::LC3_REFUSED_MEMORY);
         assert!(lent.get().iter().all(|&word| word == 0x1234) && lent.guards_intact());
     }
 }

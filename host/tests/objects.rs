@@ -6,7 +6,7 @@ mod reference;
 mod support;
 
 use lc3::ffi::{self, Counted, Started};
-use lc3::{Keys, Mode, Record, Stop, STEP_LIMIT, WORDS};
+use lc3::{Keys, Memory, Mode, Record, Stop, STEP_LIMIT, WORDS};
 use reference::machine;
 use std::collections::BTreeMap;
 use std::fs;
@@ -180,6 +180,12 @@ fn random_words(rng: &mut Rng, count: usize) -> Vec<u16> {
     (0..count).map(|_| rng.word()).collect()
 }
 
+fn random_memory(rng: &mut Rng) -> Box<Memory> {
+    let mut memory = lc3::memory();
+    memory.fill_with(|| rng.word());
+    memory
+}
+
 fn random_bytes(rng: &mut Rng, count: usize) -> Vec<u8> {
     (0..count).map(|_| rng.next() as u8).collect()
 }
@@ -259,7 +265,7 @@ fn the_end_of_memory() {
         }
     }
     let whole = check_save(&memory, 0, WORDS, 131_074).expect("a whole memory fits a file");
-    assert_eq!(check_start(&whole, &vec![0; WORDS]).words, 65_536);
+    assert_eq!(check_start(&whole, &lc3::memory()[..]).words, 65_536);
 }
 
 #[test]
@@ -288,7 +294,7 @@ fn refusals_in_their_order() {
 fn random_files() {
     for number in 0..600 {
         let mut rng = Rng::of_case(6, number);
-        let memory = random_words(&mut rng, WORDS);
+        let memory = random_memory(&mut rng);
         let length = random_length(&mut rng);
         let mut file = random_bytes(&mut rng, length);
         // Half of the files are given an origin near the last one that they may have.
@@ -297,13 +303,13 @@ fn random_files() {
             let origin = (last + rng.below(3) as usize).saturating_sub(1).min(0xFFFF);
             file[..2].copy_from_slice(&(origin as u16).to_be_bytes());
         }
-        if check_start(&file, &memory).refusal != 0 {
+        if check_start(&file, &memory[..]).refusal != 0 {
             continue;
         }
         // What was loaded is written again, from the memory that it was loaded into.
         let mut lent = memory.clone();
         let started = lc3::start(&file, &mut lent, Mode::User, rng.word()).expect("accepted");
-        let again = check_save(&lent, started.record.pc, started.words, file.len() + 3);
+        let again = check_save(&lent[..], started.record.pc, started.words, file.len() + 3);
         assert_eq!(again, Some(file));
         // And no run is refused for what it was started with.
         let halted = Record { mcr: 0, ..started.record };
@@ -422,7 +428,7 @@ fn random_ranges() {
         let room = (2 + 2 * words + rng.below(5) as usize).saturating_sub(2);
         let Some(file) = check_save(&memory, origin, words, room) else { continue };
         // The file, read into another memory, reproduces the range there and nothing else.
-        let mut other = random_words(&mut rng, WORDS);
+        let mut other = random_memory(&mut rng);
         let mut wanted = other.clone();
         let range = usize::from(origin)..usize::from(origin) + words;
         wanted[range.clone()].copy_from_slice(&memory[range]);
@@ -434,7 +440,7 @@ fn random_ranges() {
 
 #[test]
 fn records_are_fresh_at_every_origin_and_stack() {
-    let mut memory = random_words(&mut Rng::of_case(8, 0), WORDS);
+    let mut memory = random_memory(&mut Rng::of_case(8, 0));
     let before = memory.clone();
     for origin in 0..=u16::MAX {
         for (mode, user) in [(Mode::Supervisor, false), (Mode::User, true)] {
@@ -451,7 +457,7 @@ fn records_are_fresh_at_every_origin_and_stack() {
 #[test]
 fn a_started_program_runs_to_the_limit() {
     for mode in [Mode::Supervisor, Mode::User] {
-        let mut memory = vec![0; WORDS];
+        let mut memory = lc3::memory();
         // At x3000, BRnzp #-1.
         let started = lc3::start(&[0x30, 0x00, 0x0F, 0xFF], &mut memory, mode, 0xFDFF);
         let record = started.expect("accepted").record;
@@ -465,7 +471,7 @@ fn of_several_files_the_last_one_runs() {
     let answers = [0x20, 0x00, 0x12, 0x34];
     let candidate = [0x30, 0x00, 0x10, 0x21];
     for files in [[&answers, &candidate], [&candidate, &answers]] {
-        let mut memory = vec![0; WORDS];
+        let mut memory = lc3::memory();
         let mut start = |file| lc3::start(file, &mut memory, Mode::Supervisor, 0xFDFF);
         let [first, last] = files.map(|file| start(file).expect("accepted").record.pc);
         assert_eq!([first, last], files.map(|file| u16::from_be_bytes([file[0], file[1]])));
@@ -491,7 +497,7 @@ fn the_demonstration_has_the_words_of_its_listings() {
         let listing = fs::read_to_string(data.join(name).with_extension("lst")).expect("a listing");
         let listed = listed(&listing);
         assert_eq!(listed.len(), words, "{name}");
-        let (mut memory, mut wanted) = (vec![0; WORDS], vec![0; WORDS]);
+        let (mut memory, mut wanted) = (lc3::memory(), lc3::memory());
         lc3::start(&file, &mut memory, Mode::User, 0xFDFF).expect("an accepted file");
         for (address, word) in listed {
             wanted[address] = word;

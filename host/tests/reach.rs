@@ -5,7 +5,7 @@ mod reference;
 mod support;
 
 use lc3::ffi::{Answer, Report};
-use lc3::{Fate, Keys, Mode, Record, Refusal, Replacing, Taking, CLOCK_LIMIT, STEP_LIMIT};
+use lc3::{Error, Fate, Keys, Mode, Record, Replacing, Taking, CLOCK_LIMIT, STEP_LIMIT};
 use reference::bus::{self, Use, Used};
 use reference::machine::{self, OUTPUT_FULL};
 use std::collections::BTreeMap;
@@ -152,10 +152,12 @@ fn random_words_meet_the_fate_of_the_reference_and_the_run_is_the_run() {
         let address = account.hostile_address(rng, &case.record);
         let keys = Keys { times: &case.times, bytes: &case.bytes };
         plain.set(case, template);
-        let (memory, output) = (plain.memory.get_mut(), plain.output.get_mut());
+        let output = plain.output.get_mut();
+        let Some(memory) = plain.memory.get_array() else { return };
         let expected = lc3::run(case.record, memory, keys, output, case.n);
         ours.set(case, template);
-        let (memory, output) = (ours.memory.get_mut(), ours.output.get_mut());
+        let output = ours.output.get_mut();
+        let memory = ours.memory.get_array().expect("a whole memory");
         let reach = lc3::reach(case.record, memory, keys, output, case.n, address);
         assert_eq!(reach.map(|reach| reach.run), expected);
         ours.check(case);
@@ -531,8 +533,8 @@ fn all_steps_asked_for_are_accepted_or_none_is_made() {
     last.record.regs[0] = 7;
     let (record, lent) = (last.record, last.memory.clone());
     let mut reach = |n| lc3::reach(record, &mut last.memory, Keys::NONE, &mut [], n, 0x3003);
-    assert_eq!(reach(2), Err(Refusal::Steps));
-    assert_eq!(reach(STEP_LIMIT + 1), Err(Refusal::Steps));
+    assert_eq!(reach(2), Err(Error::Steps));
+    assert_eq!(reach(STEP_LIMIT + 1), Err(Error::Steps));
     assert!(last.memory == lent, "a refused run altered memory");
     expect(&last, Keys::NONE, 1, &[(0x3003, replaced(0, Replacing::Store))]);
 }

@@ -4,7 +4,7 @@ mod reference;
 mod support;
 
 use lc3::ffi::{Answer, Report};
-use lc3::{Keys, Record, Refusal};
+use lc3::{Error, Keys, Record};
 use reference::machine::{self, Cause, Entry, Event, CAUSES};
 use support::cases::{self, accepted, Case, Family};
 use support::{assert_same_buffers, for_cases, for_cases_by, joined, Buffers, Rng};
@@ -82,14 +82,13 @@ fn a_single_step_equals_a_run_of_one_refusals_included() {
 }
 
 /// The wrapper's refusal of a number and an index.
-fn wrapped(refusal: u32, index: u64) -> Refusal {
+fn wrapped(refusal: u32, index: u64) -> Error {
     match refusal {
-        11 => Refusal::Memory,
-        12 => Refusal::Record,
-        13 => Refusal::Steps,
-        14 => Refusal::KeyLists,
-        15 => Refusal::KeyTime(index as usize),
-        19 => Refusal::KeyOrder(index as usize),
+        12 => Error::Record,
+        13 => Error::Steps,
+        14 => Error::KeyLists,
+        15 => Error::KeyTime(index as usize),
+        19 => Error::KeyOrder(index as usize),
         _ => panic!("refusal {refusal}"),
     }
 }
@@ -102,7 +101,10 @@ fn the_wrapper_answers_what_the_library_answers() {
         let expected = raw.run(case.record, 0, 0, case.n);
         safe.set(case, template);
         let keys = Keys { times: &case.times, bytes: &case.bytes };
-        let (memory, output) = (safe.memory.get_mut(), safe.output.get_mut());
+        let output = safe.output.get_mut();
+        let Some(memory) = safe.memory.get_array() else {
+            return assert_eq!(expected.refusal, 11);
+        };
         match lc3::run(case.record, memory, keys, output, case.n) {
             Err(refusal) => assert_eq!(refusal, wrapped(expected.refusal, expected.index)),
             Ok(run) => {
@@ -125,7 +127,10 @@ fn the_wrapper_steps_as_the_library_does() {
         safe.set(case, template);
         let mut record = case.record;
         let keys = Keys { times: &case.times, bytes: &case.bytes };
-        let (memory, output) = (safe.memory.get_mut(), safe.output.get_mut());
+        let output = safe.output.get_mut();
+        let Some(memory) = safe.memory.get_array() else {
+            return assert_eq!(expected.refusal, 11);
+        };
         match lc3::step(&mut record, memory, keys, output) {
             Err(refusal) => assert_eq!(refusal, wrapped(expected.refusal, expected.index)),
             Ok(report) => {
@@ -137,15 +142,6 @@ fn the_wrapper_steps_as_the_library_does() {
         assert_eq!(record, expected_record);
         assert_same_buffers(&safe, &raw);
     });
-}
-
-#[test]
-fn the_refusals_bear_their_numbers() {
-    use Refusal::{KeyLists, KeyOrder, KeyTime, Memory, Record, Steps};
-    assert_eq!(
-        [Memory, Record, Steps, KeyLists, KeyTime(3), KeyOrder(3)].map(Refusal::code),
-        [11, 12, 13, 14, 15, 19]
-    );
 }
 
 /// What a User program may reach.

@@ -5,7 +5,7 @@ mod reference;
 mod support;
 
 use lc3::ffi::{Answer, Report};
-use lc3::{Keys, Mode, Record, WORDS};
+use lc3::{Keys, Memory, Mode, Record};
 use reference::machine::{self, Difference, Edition, DIFFERENCES};
 use support::cases::Case;
 use support::{assert_same_buffers, for_cases, Buffers};
@@ -97,11 +97,18 @@ fn random_runs_agree_with_the_reference_and_common_ones_with_the_third_edition()
 }
 
 /// One step of a word at x3000 in a mode, with R1 and R7 and one word more, by both editions.
-fn both(mode: Mode, word: u16, r1: u16, r7: u16, at: u16, holds: u16) -> [(Record, Vec<u16>); 2] {
-    let mut record = lc3::start(&[0x30, 0x00], &mut vec![0; WORDS], mode, 0xFDFF).unwrap().record;
+fn both(
+    mode: Mode,
+    word: u16,
+    r1: u16,
+    r7: u16,
+    at: u16,
+    holds: u16,
+) -> [(Record, Box<Memory>); 2] {
+    let mut record = lc3::start(&[0x30, 0x00], &mut lc3::memory(), mode, 0xFDFF).unwrap().record;
     (record.regs[1], record.regs[7]) = (r1, r7);
     let memory = || {
-        let mut memory = vec![0; WORDS];
+        let mut memory = lc3::memory();
         memory[0x3000] = word;
         memory[usize::from(at)] = holds;
         memory

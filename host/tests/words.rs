@@ -3,7 +3,7 @@
 mod reference;
 
 use lc3::ffi::{self, Written};
-use lc3::{Instruction, WriteRefusal};
+use lc3::{Error, Instruction};
 use reference::figure::{self, FIGURE};
 
 /// An instruction of the C interface.
@@ -111,12 +111,12 @@ fn every_unknown_kind_is_refused() {
 fn a_register_is_refused_before_a_value_and_a_value_before_a_mask() {
     let refusal = |instruction| lc3::write(&instruction).unwrap_err();
     let load = |dr, offset9| Instruction::Ld { dr, offset9 };
-    assert_eq!(refusal(load(8, 256)), WriteRefusal::Register);
-    assert_eq!(refusal(load(7, 256)), WriteRefusal::Value);
+    assert_eq!(refusal(load(8, 256)), Error::Register);
+    assert_eq!(refusal(load(7, 256)), Error::Value);
     let branch = |mask, offset9| Instruction::Br { mask, offset9 };
-    assert_eq!(refusal(branch(8, -257)), WriteRefusal::Value);
-    assert_eq!(refusal(branch(8, -256)), WriteRefusal::Mask);
-    assert_eq!([WriteRefusal::Register.code(), WriteRefusal::Mask.code()], [1, 3]);
+    assert_eq!(refusal(branch(8, -257)), Error::Value);
+    assert_eq!(refusal(branch(8, -256)), Error::Mask);
+    assert_eq!([Error::Register.code(), Error::Mask.code()], [1, 3]);
 }
 
 #[test]

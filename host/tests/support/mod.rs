@@ -110,6 +110,11 @@ impl<T: Copy + PartialEq> Lent<T> {
         &mut self.cells[GUARDS..end]
     }
 
+    /// The buffer as an array of its own length, or none where its length is another.
+    pub fn get_array<const N: usize>(&mut self) -> Option<&mut [T; N]> {
+        self.get_mut().try_into().ok()
+    }
+
     pub fn guards_intact(&self) -> bool {
         let (before, after) = (&self.cells[..GUARDS], &self.cells[self.cells.len() - GUARDS..]);
         before.iter().chain(after).all(|cell| *cell == self.guard)

@@ -2,7 +2,7 @@
 //! simulator too.
 
 use crate::reference::machine::{self, Call};
-use lc3::{Keys, Mode, Record, Run, WORDS};
+use lc3::{Keys, Memory, Mode, Record, Run};
 
 /// Where the program stands.
 pub const START: u16 = 0x3000;
@@ -18,7 +18,7 @@ pub const STORE_TIR: u16 = 0x714A; // STR R0, R5, #10
 #[derive(Clone)]
 pub struct Program {
     pub record: Record,
-    pub memory: Vec<u16>,
+    pub memory: Box<Memory>,
     pub output: Vec<u8>,
     pub shown: usize,
 }
@@ -32,7 +32,7 @@ impl Program {
     pub fn in_mode(mode: Mode, words: &[u16], room: usize) -> Program {
         let file: Vec<u8> =
             [&[START], words].concat().into_iter().flat_map(u16::to_be_bytes).collect();
-        let mut memory = vec![0; WORDS];
+        let mut memory = lc3::memory();
         let mut record = lc3::start(&file, &mut memory, mode, 0xFDFF).expect("accepted").record;
         record.regs[5] = 0xFE00;
         Program { record, memory, output: vec![0; room], shown: 0 }
