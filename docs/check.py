@@ -25,8 +25,8 @@ FENCE = re.compile(r"^```.*?^```$", re.MULTILINE | re.DOTALL)
 CITING = (
     "crates/*/src/**/*.rt",
     "crates/*/*/**/*.antt",
-    "include/*.h",
-    "host/src/*.rs",
+    "include/**/*.h",
+    "host/**/src/*.rs",
     "python/*/*.py",
 )
 

@@ -26,8 +26,8 @@
 //! kept between calls. A call that cannot be obeyed is refused with an [`Error`] and alters nothing.
 //! The C interface itself, with the constants of `lc3.h` under their names, is in [`ffi`].
 //!
-//! The archive is taken from the directory in the environment variable `LC3_LIB_DIR` when the
-//! crate is built, or else from `../build`.
+//! When the crate is built, the archive is taken from the folder in the environment variable
+//! `LC3_LIB_DIR`, or else from `build` of the source tree, or else from where pkg-config finds it.
 //!
 //! A program in Supervisor mode that shows one byte and then clears bit 15 of MCR:
 //!
@@ -57,7 +57,6 @@
 #![warn(missing_docs)]
 
 mod error;
-pub mod ffi;
 mod instruction;
 mod line;
 mod log;
@@ -65,10 +64,11 @@ mod memory;
 mod monitor;
 mod object;
 mod reach;
-mod record;
 mod run;
 
 pub use error::Error;
+pub use fanthrig_sys as ffi;
+pub use fanthrig_sys::{Mode, Record};
 pub use instruction::{read, write, Instruction, Reading};
 pub use line::{line, line_length, line_string, page, LINE_LIMIT};
 pub use log::{logged_steps, run_logged, LoggedRun, LoggedStep, Reason, LOG_WORDS};
@@ -76,7 +76,6 @@ pub use memory::{memory, Memory, WORDS};
 pub use monitor::{install_monitor, vectors, Routines, MONITOR_WORDS, VECTOR_WORDS};
 pub use object::{save, start, start_user, Started};
 pub use reach::{reach, Fate, Reach, Replacing, Taking};
-pub use record::{Mode, Record};
 pub use run::{run, run_long, run_second, step, step_second};
 pub use run::{Keys, Run, StepReport, Stop, CLOCK_LIMIT, STEP_LIMIT};
 
@@ -89,7 +88,8 @@ pub fn version() -> u32 {
     ffi::lc3_version()
 }
 
-// The README's examples are tests.
+// The examples of both READMEs are tests.
 #[cfg(doctest)]
 #[doc = include_str!("../../README.md")]
+#[doc = include_str!("../README.md")]
 struct Readme;

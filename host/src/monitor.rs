@@ -10,18 +10,6 @@ pub const MONITOR_WORDS: usize = ffi::LC3_MONITOR_WORDS;
 
 pub use ffi::Routines;
 
-impl Routines {
-    /// Where the ready-made monitor's routines are.
-    ///
-    /// ```
-    /// let ours = lc3::Routines::of_monitor();
-    /// assert_eq!((ours.getc, ours.out), (0x0200, 0x0204));
-    /// ```
-    pub fn of_monitor() -> Routines {
-        ffi::lc3_monitor_routines()
-    }
-}
-
 /// Puts the ready-made monitor into memory: words x0000 to x02A4, and no other.
 ///
 /// Its routines are GETC, OUT, PUTS, IN, PUTSP and HALT of the book's Table A.3; every other trap

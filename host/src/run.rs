@@ -48,6 +48,18 @@ impl<'a> Keys<'a> {
 pub enum Stop {
     /// All steps asked for were made. The last of them may have halted the machine:
     /// [`Record::is_halted`] tells.
+    ///
+    /// ```
+    /// use lc3::{Keys, Mode, Stop};
+    ///
+    /// let mut memory = lc3::memory();
+    /// let file = [0x30, 0x00, 0xB0, 0x01, 0x00, 0x00, 0xFF, 0xFE]; // STI R0, x3002; x3002 is xFFFE
+    /// let record = lc3::start(&file, &mut memory, Mode::Supervisor, 0xFDFF)?.record;
+    /// let run = lc3::run(record, &mut memory, Keys::NONE, &mut [], 1)?;
+    /// assert_eq!(run.stop, Stop::Done);
+    /// assert!(run.record.is_halted() && !record.is_halted());
+    /// # Ok::<(), lc3::Error>(())
+    /// ```
     Done,
     /// Bit 15 of MCR is clear.
     Halted,
@@ -188,13 +200,13 @@ pub fn run(
 /// advance.
 ///
 /// ```
-/// use lc3::{Keys, Mode};
+/// use lc3::{Keys, Mode, STEP_LIMIT};
 ///
 /// let mut memory = lc3::memory();
 /// let file = [0x30, 0x00, 0x10, 0x21, 0x0F, 0xFE]; // at x3000: ADD R0, R0, #1; BRnzp #-2
 /// let record = lc3::start(&file, &mut memory, Mode::User, 0xFDFF)?.record;
-/// let long = lc3::run_long(record, &mut memory, Keys::NONE, &mut [], lc3::STEP_LIMIT)?;
-/// assert_eq!(long, lc3::run(record, &mut memory, Keys::NONE, &mut [], lc3::STEP_LIMIT)?);
+/// let long = lc3::run_long(record, &mut memory, Keys::NONE, &mut [], STEP_LIMIT)?;
+/// assert_eq!(long, lc3::run(record, &mut memory, Keys::NONE, &mut [], STEP_LIMIT)?);
 /// # Ok::<(), lc3::Error>(())
 /// ```
 pub fn run_long(

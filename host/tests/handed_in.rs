@@ -5,7 +5,7 @@
 mod reference;
 mod support;
 
-use lc3::{Keys, Mode, ObjectRefusal, Record, Stop, WORDS};
+use lc3::{Error, Keys, Memory, Mode, Record, Stop, WORDS};
 use std::collections::BTreeMap;
 use std::ops::Range;
 use support::candidates::{candidate, Candidate, USER};
@@ -14,20 +14,22 @@ use support::Rng;
 
 /// A memory with the monitor, and the words as they were lent.
 struct Room {
-    memory: Vec<u16>,
-    lent: Vec<u16>,
+    memory: Box<Memory>,
+    lent: Box<Memory>,
 }
 
 impl Room {
-    fn new(mut lent: Vec<u16>) -> Room {
-        lc3::install_monitor(&mut lent).expect("a whole memory");
+    fn new(words: &[u16]) -> Room {
+        let mut lent = lc3::memory();
+        lent.copy_from_slice(words);
+        lc3::install_monitor(&mut lent);
         Room { memory: lent.clone(), lent }
     }
 
     /// Starts a file in the memory as lent, and panics if a privileged word is altered, or any word
     /// where the file is refused.
-    fn start(&mut self, file: &[u8], user_stack: u16) -> Result<Record, ObjectRefusal> {
-        self.memory.copy_from_slice(&self.lent);
+    fn start(&mut self, file: &[u8], user_stack: u16) -> Result<Record, Error> {
+        self.memory.copy_from_slice(&self.lent[..]);
         let started = lc3::start_user(file, &mut self.memory, user_stack);
         self.assert_as_lent(0..USER.start, file);
         self.assert_as_lent(USER.end..WORDS, file);
@@ -94,7 +96,7 @@ fn run(rng: &mut Rng, room: &mut Room, record: Record, file: &[u8]) {
 #[test]
 fn no_file_alters_a_word_outside_user_modes() {
     let seed = support::seed();
-    let mut room = Room::new(template(&mut Rng::of_case(!seed, 0)));
+    let mut room = Room::new(&template(&mut Rng::of_case(!seed, 0)));
     let mut answers = BTreeMap::new();
     for number in 0..support::runs(10_000) {
         let mut rng = Rng::of_case(seed, number);
@@ -103,7 +105,7 @@ fn no_file_alters_a_word_outside_user_modes() {
         if let Ok(record) = started {
             run(&mut rng, &mut room, record, &file);
         }
-        let refusal = started.map_or_else(ObjectRefusal::code, |_| 0);
+        let refusal = started.map_or_else(Error::code, |_| 0);
         *answers.entry(refusal).or_insert(0u64) += 1;
     }
     println!("files by refusal: {answers:?}");
@@ -115,14 +117,14 @@ fn no_file_alters_a_word_outside_user_modes() {
 /// origin of a file with and without words, and as the last word of a file that begins at xFDFF.
 #[test]
 fn every_privileged_word_is_out_of_reach() {
-    let mut room = Room::new(vec![0; WORDS]);
+    let mut room = Room::new(&[0; WORDS]);
     for address in (0..WORDS).filter(|address| !USER.contains(address)) {
         let up_to = vec![0x0103; (address + 1).saturating_sub(0xFDFF)];
         let origin = address as u16;
         let mut files = vec![file_of(origin, &[]), file_of(origin, &[0x0103])];
         files.extend((!up_to.is_empty()).then(|| file_of(0xFDFF, &up_to)));
         for file in files {
-            assert_eq!(room.start(&file, 0xFDFF), Err(ObjectRefusal::User), "x{address:04X}");
+            assert_eq!(room.start(&file, 0xFDFF), Err(Error::User), "x{address:04X}");
         }
     }
 }
@@ -137,9 +139,9 @@ const ATTACK: [u16; 10] =
 fn the_file_that_replaces_a_vector_is_refused_and_would_show_an_answer() {
     let file = file_of(0x0102, &ATTACK);
     for answer in [b'A', b'B'] {
-        let mut room = Room::new(vec![0; WORDS]);
+        let mut room = Room::new(&[0; WORDS]);
         room.lent[0x2000] = answer.into();
-        assert_eq!(room.start(&file, 0xFDFF), Err(ObjectRefusal::User));
+        assert_eq!(room.start(&file, 0xFDFF), Err(Error::User));
 
         let started = lc3::start(&file, &mut room.memory, Mode::User, 0xFDFF).expect("accepted");
         let mut output = [0; 8];

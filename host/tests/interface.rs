@@ -1,8 +1,9 @@
-//! That header, library, shared library and wrapper have one version and the same constants, and
-//! that every refusal and stop has its number and a text of its own.
+//! That header, library and shared library have one version and the wrapper the header's constants,
+//! and that every refusal and stop has its number and a text of its own.
 
 use lc3::{ffi, Error, Mode, Stop};
 use std::collections::{BTreeMap, HashSet};
+use std::env;
 use std::fs;
 use std::path::Path;
 
@@ -73,12 +74,12 @@ fn the_constants_are_those_of_the_header() {
 }
 
 #[test]
-fn header_library_shared_library_and_wrapper_have_one_version() {
+fn header_library_and_shared_library_have_one_version() {
     let version = of_the_header()["LC3_VERSION"];
     assert_eq!(u64::from(lc3::version()), version);
-    assert_eq!(env!("CARGO_PKG_VERSION_MAJOR"), version.to_string());
     // The name by which hosts ask for the shared library stands in its table of strings.
-    let shared = Path::new(env!("LC3_LIB_DIR")).join("liblc3.so");
+    let folder = env::var("LC3_LIB_DIR").unwrap_or_else(|_| String::from("../build"));
+    let shared = Path::new(env!("CARGO_MANIFEST_DIR")).join(folder).join("liblc3.so");
     let name = format!("liblc3.so.{version}");
     assert_eq!(fs::read_link(&shared).expect("a link"), Path::new(&name));
     let bytes = fs::read(shared).expect("the shared library");

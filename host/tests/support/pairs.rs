@@ -85,8 +85,8 @@ impl Side {
     fn furnish(&mut self, template: &[u16]) {
         let lower = self.lower_range();
         self.buffers.memory.set(template);
-        let memory = self.buffers.memory.get_mut();
-        lc3::install_monitor(memory).expect("a whole memory");
+        let memory = self.buffers.memory.get_array().expect("a whole memory");
+        lc3::install_monitor(memory);
         memory[lower].copy_from_slice(&self.lower);
         memory[USER.end..].copy_from_slice(&self.upper);
     }
@@ -164,8 +164,9 @@ impl Pair {
     /// Starts the file in both, and lets the host alter the records.
     pub fn start(&mut self, file: &[u8], user_stack: u16, host: impl Fn(Record) -> Record) {
         let started = [&mut self.one, &mut self.other].map(|side| {
-            let started = lc3::start_user(file, side.buffers.memory.get_mut(), user_stack)
-                .expect("a file of User mode's words");
+            let memory = side.buffers.memory.get_array().expect("a whole memory");
+            let started = lc3::start_user(file, memory, user_stack);
+            let started = started.expect("a file of User mode's words");
             side.record = host(started.record);
             started
         });

@@ -1,6 +1,6 @@
 //! The machine's record.
 
-use crate::ffi::{LC3_MCR_CLOCK, LC3_PSR_USER};
+use crate::{LC3_MCR_CLOCK, LC3_PSR_USER};
 
 /// The two modes of privilege.
 #[derive(Clone, Copy, Debug, PartialEq, Eq, Hash)]
@@ -11,7 +11,7 @@ pub enum Mode {
     User,
 }
 
-/// The whole state of the machine beside its memory. [`start`](crate::start()) makes a fresh one.
+/// The whole state of the machine beside its memory. Starting an object file makes a fresh one.
 ///
 /// It has the layout of `lc3_record` in C.
 #[repr(C)]
@@ -60,20 +60,8 @@ impl Record {
 
     /// Whether the machine is halted: bit 15 of MCR is clear.
     ///
-    /// A machine that halts in the last step that was asked for answers
-    /// [`Stop::Done`](crate::Stop::Done), so this is what a host asks at its own limit of steps.
-    ///
-    /// ```
-    /// use lc3::{Keys, Mode, Stop};
-    ///
-    /// let mut memory = lc3::memory();
-    /// let file = [0x30, 0x00, 0xB0, 0x01, 0x00, 0x00, 0xFF, 0xFE]; // STI R0, x3002; x3002 is xFFFE
-    /// let record = lc3::start(&file, &mut memory, Mode::Supervisor, 0xFDFF)?.record;
-    /// let run = lc3::run(record, &mut memory, Keys::NONE, &mut [], 1)?;
-    /// assert_eq!(run.stop, Stop::Done);
-    /// assert!(run.record.is_halted() && !record.is_halted());
-    /// # Ok::<(), lc3::Error>(())
-    /// ```
+    /// A machine that halts in the last step that was asked for answers [`LC3_DONE`](crate::LC3_DONE),
+    /// so this is what a host asks at its own limit of steps.
     pub fn is_halted(&self) -> bool {
         self.mcr & LC3_MCR_CLOCK == 0
     }

@@ -1,13 +1,17 @@
-//! The C interface, as `lc3.h` declares it.
+//! The C interface of the LC-3's library, as `lc3.h` declares it.
 //!
-//! Use it only where the answers to refused calls matter in full: the safe functions of this crate
-//! leave out the record and the counts of a refused call, which are the record handed in and zeros.
+//! Use it only where the answers to refused calls matter in full: the safe functions of the crate
+//! `fanthrig` leave out the record and the counts of a refused call, which are the record handed in
+//! and zeros.
+
+#![warn(missing_docs)]
 
 mod constants;
+mod record;
 
 pub use constants::*;
+pub use record::{Mode, Record};
 
-use crate::Record;
 use std::mem::{align_of, offset_of, size_of};
 
 /// What a run answers: `lc3_answer`.
@@ -74,7 +78,7 @@ pub struct LoggedAnswer {
 #[repr(C)]
 #[derive(Clone, Copy, Debug, PartialEq, Eq)]
 pub struct Fields {
-    /// The form: 0 to 18 in the order of [`Instruction`](crate::Instruction)'s variants.
+    /// The form, 0 to 18: [`LC3_BR`] and those after it.
     pub kind: u8,
     /// The first register in the assembler's order, or the mask of BR; 0 if unused.
     pub a: u8,
@@ -150,6 +154,18 @@ pub struct Routines {
     pub exception: u16,
     /// Every other word of x0100 to x01FF.
     pub interrupt: u16,
+}
+
+impl Routines {
+    /// Where the ready-made monitor's routines are.
+    ///
+    /// ```
+    /// let ours = fanthrig_sys::Routines::of_monitor();
+    /// assert_eq!((ours.getc, ours.out), (0x0200, 0x0204));
+    /// ```
+    pub fn of_monitor() -> Routines {
+        lc3_monitor_routines()
+    }
 }
 
 // The layout that C gives the same declarations.
