@@ -175,7 +175,8 @@ class RefusedCalls(unittest.TestCase):
 
     def test_write(self) -> None:
         def refused(expected: int, *fields: int) -> None:
-            self.refused(expected, lc3.write, lc3.Instruction(*fields))  # type: ignore[arg-type]
+            instruction = lc3.Instruction(*fields)  # type: ignore[arg-type]
+            self.refused(expected, lc3.write, instruction)
 
         ld, br = lc3.Kind.LD, lc3.Kind.BR
         refused(1, ld, 8, 0, 0, 256)

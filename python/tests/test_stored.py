@@ -85,7 +85,10 @@ def stored(line: str) -> Stored:
 
 
 # The calls that make a run by each edition.
-CALLS = {lc3.Edition.THIRD: [lc3.run, lc3.run_long], lc3.Edition.SECOND: [lc3.run_second]}
+CALLS = {
+    lc3.Edition.THIRD: [lc3.run, lc3.run_long],
+    lc3.Edition.SECOND: [lc3.run_second],
+}
 
 RUNS = [stored(line) for line in FILE.read_text(encoding="ascii").splitlines()]
 ACCEPTED = [run for run in RUNS if not run.refused]
