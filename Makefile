@@ -5,15 +5,20 @@
 # make lib        build/liblc3.a and build/liblc3.so; the header is include/lc3.h
 # make install    library, header, lc3.pc, module, command, manual page and examples, under DESTDIR and PREFIX
 # make uninstall  takes away what `make install` put there
+# make dist       a release in build/dist: source, binary archive, wheel, Debian packages, sums, provenance
 # make bench      time against C: runs, lines of text, and object files
 # make rate       time of the Python module and of the command beside that of lc3_run alone
 # make soak       many more random runs against the reference simulator
+# make release-test   a release, made twice, and installed without the kit: wheel, packages in a fresh Debian, archive
 
 EXPORTS = lc3_machine lc3_logging lc3_long lc3_second lc3_words lc3_lines lc3_objects lc3_monitor lc3_version
 ARCHIVES = $(EXPORTS:%=target/staticlib/lib%.a)
-# The shared library has the name by which hosts ask for it: it ends in the version of the header.
-VERSION := $(shell sed -n 's/^.define LC3_VERSION //p' include/lc3.h)
-SONAME := liblc3.so.$(VERSION)
+# The product's version. The shared library has the name by which hosts ask for it, which ends in the version of the
+# header: that of the interface.
+RELEASE := $(shell cat VERSION)
+HEADER = lc3.h
+INTERFACE := $(shell sed -n 's/^.define LC3_VERSION //p' include/$(HEADER))
+SONAME := liblc3.so.$(INTERFACE)
 CARGO = cargo test --quiet --offline --release --manifest-path host/Cargo.toml --target-dir build/cargo
 
 # Where things are installed. Debian's own Python is taken where it is there: the command runs by it.
@@ -33,19 +38,20 @@ MODULES = $(or $(shell $(PYTHON) -c 'import site, sys; lib = sys.argv[1].rstrip(
     "$(PREFIX)"),$(error $(PYTHON) does not run: name another by PYTHON=))
 DOC = $(PREFIX)/share/doc/lc3
 # What may be left empty of a staged tree, and goes as well then; folders of a system stay.
-FOLDERS = "$(LIBDIR)/pkgconfig" "$(MODULES)" $(foreach part,include bin share/man/man1 share/doc,"$(PREFIX)/$(part)")
+SHARED = share/man/man1 share/doc share/bash-completion/completions
+FOLDERS = "$(LIBDIR)/pkgconfig" "$(MODULES)" $(foreach part,$(dir include/$(HEADER)) bin $(SHARED),"$(PREFIX)/$(part)")
 # Tells the system's loader of the library, unless the tree is only staged.
 LOADER = @[ -n "$(DESTDIR)" ] || /sbin/ldconfig 2>/dev/null || \
     echo "Run ldconfig as root, so that programs find $(SONAME)."
 
-.PHONY: run told demo test lib install uninstall bench rate soak format lint host clean
+.PHONY: run told demo test lib install uninstall dist release-test bench rate soak format lint host clean
 
 run: told lib
 	@examples/run.sh
 
 told:
 	@command -v python3 >/dev/null || { echo "The command needs python3, and none is found." >&2; exit 2; }
-	@[ -e build/liblc3.so ] || echo "The library is proved and built first: about 9 minutes on two cores, once."
+	@[ -e build/liblc3.so ] || echo "The library is proved and built first: about 5 minutes on two cores, once."
 
 # `make test` compares what it prints with crates/demo/stdout.
 demo:
@@ -60,17 +66,17 @@ test:
 	@tools/prerequisites
 	@$(MAKE) --no-print-directory format lint
 	@tools/progress build/ci.log rt ci
-	@$(MAKE) --no-print-directory host
+	@$(MAKE) --no-print-directory host release-test
 	@tail -n 1 build/ci.log
 
 format:
 	python3 docs/check.py
 	rt fmt --check
-	cargo fmt --check --manifest-path host/Cargo.toml
+	cargo fmt --all --check --manifest-path host/Cargo.toml
 
 lint:
 	mypy
-	flake8 python docs examples tools/lc3.in
+	flake8 python docs examples tools
 
 host: lib
 	host/c/run.sh
@@ -79,15 +85,22 @@ host: lib
 	host/bench/symbols.sh lc3_run_long '*::run' '*::go' '*::run_accepted' '*::visit' '*::read_in'
 	host/bench/symbols.sh lc3_run_second '*::call' '*::run_by' '*::go' '*::run_accepted'
 	host/bench/count.sh
-	$(CARGO) -- --nocapture
+	$(CARGO) --workspace -- --nocapture
 	$(subst cargo test,cargo run,$(CARGO)) --example log | diff host/examples/log.txt -
 	RUSTDOCFLAGS="-D warnings" \
-	    cargo doc --quiet --no-deps --offline --manifest-path host/Cargo.toml --target-dir build/cargo
+	    cargo doc --workspace --quiet --no-deps --offline --manifest-path host/Cargo.toml --target-dir build/cargo
 	python3 -m unittest discover -s python/tests -t python
 
 lib: build/liblc3.so
 
-target/staticlib/lib%.a: crates.txt $(shell find crates -name '*.rt' -o -name '*.antt')
+# The archives rest on the same crates. All that they rest on is proved first, two crates at a time where that can be;
+# then each archive takes seconds.
+build/proved: crates.txt $(shell find crates -name '*.rt' -o -name '*.antt')
+	@command -v rt >/dev/null || { cat tools/no-kit.txt >&2; exit 2; }
+	@tools/progress build/proved.log rt check $(EXPORTS)
+	@touch $@
+
+target/staticlib/lib%.a: build/proved
 	@tools/progress build/$*.log rt staticlib $*
 
 # The archives' objects under names of their own.
@@ -100,18 +113,18 @@ build/liblc3.a: $(ARCHIVES)
 	ar rcs $@ build/objects/*.o
 
 build/$(SONAME): build/liblc3.a
-	gcc -shared -Wl,-soname,$(SONAME) -o $@ -Wl,--whole-archive $< -Wl,--no-whole-archive
+	gcc -shared -s -Wl,-soname,$(SONAME) -o $@ -Wl,--whole-archive $< -Wl,--no-whole-archive
 
 build/liblc3.so: build/$(SONAME)
 	ln -sf $(SONAME) $@
 
 # `make -o lib install` takes the library as it stands.
 install: lib
-	install -d "$(IN_LIB)/pkgconfig" "$(IN)/include" "$(IN)/bin" "$(IN)/share/man/man1" "$(DESTDIR)$(DOC)/examples"
+	install -d "$(IN_LIB)/pkgconfig" "$(IN)/bin" "$(IN)/share/man/man1" "$(DESTDIR)$(DOC)/examples"
 	install -m 644 build/liblc3.a build/$(SONAME) "$(IN_LIB)"
 	ln -sf $(SONAME) "$(IN_LIB)/liblc3.so"
-	install -m 644 include/lc3.h "$(IN)/include"
-	sed 's|@PREFIX@|$(PREFIX)|; s|@LIBDIR@|$(subst $(PREFIX)/,$${prefix}/,$(LIBDIR))|; s|@VERSION@|$(VERSION)|' \
+	install -D -m 644 include/$(HEADER) "$(IN)/include/$(HEADER)"
+	sed 's|@PREFIX@|$(PREFIX)|; s|@LIBDIR@|$(subst $(PREFIX)/,$${prefix}/,$(LIBDIR))|; s|@VERSION@|$(RELEASE)|' \
 	    tools/lc3.pc.in | install -m 644 /dev/stdin "$(IN_LIB)/pkgconfig/lc3.pc"
 	rm -rf "$(PACKAGE)"
 	find python/lc3 -type f ! -path '*/__pycache__/*' -printf '%P\n' | while read -r file; do \
@@ -122,16 +135,25 @@ install: lib
 	sed "s|@PYTHON@|$$($(PYTHON) -c 'import sys; print(sys.executable)')|; s|@MODULES@|$(subst $(PREFIX)/,,$(MODULES))|" \
 	    tools/lc3.in | install -m 755 /dev/stdin "$(IN)/bin/lc3"
 	install -m 644 docs/lc3.1 "$(IN)/share/man/man1"
+	install -D -m 644 tools/completion.bash "$(IN)/share/bash-completion/completions/lc3"
 	install -m 644 examples/*.lst examples/*.obj examples/*.keys "$(DESTDIR)$(DOC)/examples"
 	$(LOADER)
 
 uninstall:
 	rm -f "$(IN_LIB)/liblc3.a" "$(IN_LIB)/$(SONAME)" "$(IN_LIB)/liblc3.so" "$(IN_LIB)/pkgconfig/lc3.pc" \
-	    "$(IN)/include/lc3.h" "$(IN)/bin/lc3" "$(IN)/share/man/man1/lc3.1"
+	    "$(IN)/include/$(HEADER)" "$(IN)/bin/lc3" "$(IN)/share/man/man1/lc3.1" \
+	    "$(IN)/share/bash-completion/completions/lc3"
 	rm -rf "$(PACKAGE)" "$(DESTDIR)$(DOC)"
 	@[ -z "$(DESTDIR)" ] || for folder in $(FOLDERS); do \
 	    (cd "$(DESTDIR)" && rmdir -p --ignore-fail-on-non-empty ".$$folder") 2>/dev/null || true; done
 	$(LOADER)
+
+# `make -o lib dist` takes the library as it stands.
+dist: lib
+	PYTHONPATH=tools python3 -m release
+
+release-test: lib
+	host/release/run.sh
 
 bench: lib
 	host/bench/run.sh

@@ -115,6 +115,7 @@ class Installed(unittest.TestCase):
         expected = {f"{place}/{name}" for name in modules() | {"lc3/liblc3.path"}}
         expected |= {f"share/doc/lc3/examples/{name}" for name in examples()}
         expected |= {"bin/lc3", "include/lc3.h", "share/man/man1/lc3.1", "lib/pkgconfig/lc3.pc"}
+        expected.add("share/bash-completion/completions/lc3")
         library = ("liblc3.a", "liblc3.so", f"liblc3.so.{lc3.VERSION}")
         expected |= {f"lib/{name}" for name in library}
         compiled = {name for name in files(self.prefix) if name.endswith(".pyc")}
@@ -158,7 +159,7 @@ class Installed(unittest.TestCase):
         (root / "program.c").write_text(PROGRAM)
         where = {"PKG_CONFIG_LIBDIR": place, "PKG_CONFIG_SYSROOT_DIR": str(root / "system")}
         version = obey("pkg-config", "--modversion", "lc3", **where).stdout
-        self.assertEqual(version, f"{lc3.VERSION}\n")
+        self.assertEqual(version, f"{lc3.__version__}\n")
         flags = obey("pkg-config", "--cflags", "--libs", "lc3", **where).stdout.split()
         made = obey("gcc", "-Wall", "-Werror", root / "program.c", "-o", root / "program", *flags)
         self.assertEqual((made.returncode, made.stderr), (0, ""))

@@ -102,7 +102,8 @@ class WithoutTheLibrary(unittest.TestCase):
     NOWHERE = "/nowhere/liblc3.so"
 
     def test_what_needs_no_library(self) -> None:
-        program = "import lc3; print(lc3.__version__, lc3.VERSION, lc3.Record().halted)"
+        told = "lc3.__version__, lc3.VERSION, lc3.Record().halted"
+        program = f"import lc3; print({told})"
         said = python(ROOT / "python", self.NOWHERE, "-c", program)
         self.assertEqual(said.stdout, f"{lc3.__version__} {lc3.VERSION} True\n", said.stderr)
         for option, expected in (("--help", "usage: lc3"), ("--version", f"lc3 {lc3.__version__}")):
