@@ -56,7 +56,7 @@ def binary(folder: Path, seconds: int) -> Path:
     replace(command, first, " ".join(words))
     configuration = tree / "lib/pkgconfig/fanthrig.pc"
     replace(configuration, f"prefix=/{BINARY}\n", "prefix=${pcfiledir}/../..\n")
-    # pkg-config writes the spaces of its own folder as a shell reads them: quotes would be too much.
+    # pkg-config itself writes the spaces of its folder as a shell reads them: no quotes then.
     replace(configuration, '"', "")
     (tree / "README").write_text(READ_ME.format(interface=interface()), encoding="utf-8")
     shutil.copy(ROOT / "CHANGELOG.md", tree / "share/doc/fanthrig")
