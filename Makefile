@@ -2,8 +2,8 @@
 # make demo       the proved demonstration: a candidate's program beside the examiner's monitor
 # make test       everything: formatting, the proofs with the wrong programs that must be refused, the host tests
 # make lint       mypy and flake8 on our Python; setup.cfg says how
-# make lib        build/liblc3.a and build/liblc3.so; the header is include/lc3.h
-# make install    library, header, lc3.pc, module, command, manual page and examples, under DESTDIR and PREFIX
+# make lib        build/libfanthrig.a and build/libfanthrig.so; the header is include/fanthrig/lc3.h
+# make install    library, header, fanthrig.pc, module, command, manual page and examples, under DESTDIR and PREFIX
 # make uninstall  takes away what `make install` put there
 # make dist       a release in build/dist: source, binary archive, wheel, Debian packages, sums, provenance
 # make bench      time against C: runs, lines of text, and object files
@@ -16,9 +16,9 @@ ARCHIVES = $(EXPORTS:%=target/staticlib/lib%.a)
 # The product's version. The shared library has the name by which hosts ask for it, which ends in the version of the
 # header: that of the interface.
 RELEASE := $(shell cat VERSION)
-HEADER = lc3.h
+HEADER = fanthrig/lc3.h
 INTERFACE := $(shell sed -n 's/^.define LC3_VERSION //p' include/$(HEADER))
-SONAME := liblc3.so.$(INTERFACE)
+SONAME := libfanthrig.so.$(INTERFACE)
 CARGO = cargo test --quiet --offline --release --manifest-path host/Cargo.toml --target-dir build/cargo
 
 # Where things are installed. Debian's own Python is taken where it is there: the command runs by it.
@@ -28,7 +28,7 @@ LIBDIR = $(PREFIX)/lib
 PYTHON = $(or $(wildcard /usr/bin/python3),python3)
 IN = $(DESTDIR)$(PREFIX)
 IN_LIB = $(DESTDIR)$(LIBDIR)
-PACKAGE = $(DESTDIR)$(MODULES)/lc3
+PACKAGE = $(DESTDIR)$(MODULES)/fanthrig
 # The folder under PREFIX/lib in which this Python looks for modules by itself: on Debian 12 that is
 # python3.11/dist-packages in /usr/local, and python3/dist-packages in /usr. Where it looks in none, the latter is
 # taken: the command finds its module anyway.
@@ -36,7 +36,7 @@ MODULES = $(or $(shell $(PYTHON) -c 'import site, sys; lib = sys.argv[1].rstrip(
     places = [*site.getsitepackages(), site.getusersitepackages()]; \
     print(next((p for p in places if p.startswith(lib)), lib + "python3/dist-packages"))' \
     "$(PREFIX)"),$(error $(PYTHON) does not run: name another by PYTHON=))
-DOC = $(PREFIX)/share/doc/lc3
+DOC = $(PREFIX)/share/doc/fanthrig
 # What may be left empty of a staged tree, and goes as well then; folders of a system stay.
 SHARED = share/man/man1 share/doc share/bash-completion/completions
 FOLDERS = "$(LIBDIR)/pkgconfig" "$(MODULES)" $(foreach part,$(dir include/$(HEADER)) bin $(SHARED),"$(PREFIX)/$(part)")
@@ -51,7 +51,7 @@ run: told lib
 
 told:
 	@command -v python3 >/dev/null || { echo "The command needs python3, and none is found." >&2; exit 2; }
-	@[ -e build/liblc3.so ] || echo "The library is proved and built first: about 9 minutes on two cores, once."
+	@[ -e build/libfanthrig.so ] || echo "The library is proved and built first: about 9 minutes on two cores, once."
 
 # `make test` compares what it prints with crates/demo/stdout.
 demo:
@@ -91,7 +91,7 @@ host: lib
 	    cargo doc --workspace --quiet --no-deps --offline --manifest-path host/Cargo.toml --target-dir build/cargo
 	python3 -m unittest discover -s python/tests -t python
 
-lib: build/liblc3.so
+lib: build/libfanthrig.so
 
 # The archives rest on the same crates. All that they rest on is proved first, two crates at a time where that can be;
 # then each archive takes seconds.
@@ -104,7 +104,7 @@ target/staticlib/lib%.a: build/proved
 	@tools/progress build/$*.log rt staticlib $*
 
 # The archives' objects under names of their own.
-build/liblc3.a: $(ARCHIVES)
+build/libfanthrig.a: $(ARCHIVES)
 	rm -rf $@ build/objects
 	@for name in $(EXPORTS); do \
 	    mkdir -p build/objects/$$name && (cd build/objects/$$name && ar x ../../../target/staticlib/lib$$name.a) && \
@@ -112,26 +112,26 @@ build/liblc3.a: $(ARCHIVES)
 	done
 	ar rcs $@ build/objects/*.o
 
-build/$(SONAME): build/liblc3.a
+build/$(SONAME): build/libfanthrig.a
 	gcc -shared -s -Wl,-soname,$(SONAME) -o $@ -Wl,--whole-archive $< -Wl,--no-whole-archive
 
-build/liblc3.so: build/$(SONAME)
+build/libfanthrig.so: build/$(SONAME)
 	ln -sf $(SONAME) $@
 
 # `make -o lib install` takes the library as it stands.
 install: lib
 	install -d "$(IN_LIB)/pkgconfig" "$(IN)/bin" "$(IN)/share/man/man1" "$(DESTDIR)$(DOC)/examples"
-	install -m 644 build/liblc3.a build/$(SONAME) "$(IN_LIB)"
-	ln -sf $(SONAME) "$(IN_LIB)/liblc3.so"
+	install -m 644 build/libfanthrig.a build/$(SONAME) "$(IN_LIB)"
+	ln -sf $(SONAME) "$(IN_LIB)/libfanthrig.so"
 	install -D -m 644 include/$(HEADER) "$(IN)/include/$(HEADER)"
 	sed 's|@PREFIX@|$(PREFIX)|; s|@LIBDIR@|$(subst $(PREFIX)/,$${prefix}/,$(LIBDIR))|; s|@VERSION@|$(RELEASE)|' \
-	    tools/lc3.pc.in | install -m 644 /dev/stdin "$(IN_LIB)/pkgconfig/lc3.pc"
+	    tools/fanthrig.pc.in | install -m 644 /dev/stdin "$(IN_LIB)/pkgconfig/fanthrig.pc"
 	rm -rf "$(PACKAGE)"
-	find python/lc3 -type f ! -path '*/__pycache__/*' -printf '%P\n' | while read -r file; do \
-	    install -D -m 644 "python/lc3/$$file" "$(PACKAGE)/$$file" || exit; done
+	find python/fanthrig -type f ! -path '*/__pycache__/*' -printf '%P\n' | while read -r file; do \
+	    install -D -m 644 "python/fanthrig/$$file" "$(PACKAGE)/$$file" || exit; done
 	umask 022 && $(PYTHON) -m compileall -q -s "$(DESTDIR)" -p / "$(PACKAGE)"
-	$(PYTHON) -c 'import os, sys; print(os.path.relpath(*sys.argv[1:]))' "$(LIBDIR)/$(SONAME)" "$(MODULES)/lc3" | \
-	    install -m 644 /dev/stdin "$(PACKAGE)/liblc3.path"
+	$(PYTHON) -c 'import os, sys; print(os.path.relpath(*sys.argv[1:]))' "$(LIBDIR)/$(SONAME)" "$(MODULES)/fanthrig" | \
+	    install -m 644 /dev/stdin "$(PACKAGE)/libfanthrig.path"
 	sed "s|@PYTHON@|$$($(PYTHON) -c 'import sys; print(sys.executable)')|; s|@MODULES@|$(subst $(PREFIX)/,,$(MODULES))|" \
 	    tools/lc3.in | install -m 755 /dev/stdin "$(IN)/bin/lc3"
 	install -m 644 docs/lc3.1 "$(IN)/share/man/man1"
@@ -140,7 +140,7 @@ install: lib
 	$(LOADER)
 
 uninstall:
-	rm -f "$(IN_LIB)/liblc3.a" "$(IN_LIB)/$(SONAME)" "$(IN_LIB)/liblc3.so" "$(IN_LIB)/pkgconfig/lc3.pc" \
+	rm -f "$(IN_LIB)/libfanthrig.a" "$(IN_LIB)/$(SONAME)" "$(IN_LIB)/libfanthrig.so" "$(IN_LIB)/pkgconfig/fanthrig.pc" \
 	    "$(IN)/include/$(HEADER)" "$(IN)/bin/lc3" "$(IN)/share/man/man1/lc3.1" \
 	    "$(IN)/share/bash-completion/completions/lc3"
 	rm -rf "$(PACKAGE)" "$(DESTDIR)$(DOC)"

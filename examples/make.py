@@ -7,9 +7,9 @@ A listing is the source of its object file. Each line is empty, or a comment aft
 
     x3000  xE002  LEA R0, #2         ; R0 = x3003, where the text begins
 
-with an address, the word there, the word as a line of text as lc3.word reads it, and what it does.
-The addresses follow one another. Every difference is told with its file and line, and then nothing
-is written; the exit status is 1.
+with an address, the word there, the word as a line of text as fanthrig.word reads it, and what it
+does. The addresses follow one another. Every difference is told with its file and line, and then
+nothing is written; the exit status is 1.
 """
 
 from __future__ import annotations
@@ -22,7 +22,7 @@ from pathlib import Path
 FOLDER = Path(__file__).resolve().parent
 sys.path.insert(0, str(FOLDER.parent / "python"))
 
-import lc3  # noqa: E402
+import fanthrig  # noqa: E402
 
 LINE = re.compile(r"x([0-9A-F]{4})  x([0-9A-F]{4})  (\S.*?) +; (\S.*)")
 
@@ -54,7 +54,7 @@ def entry(text: str, expected: int | None) -> tuple[int, int]:
     address, word, line = int(match[1], 16), int(match[2], 16), match[3]
     if expected is not None and address != expected:
         raise ValueError(f"the address is x{address:04X}, and x{expected:04X} expected")
-    meant = lc3.word(line)
+    meant = fanthrig.word(line)
     if word != meant:
         raise ValueError(f"the word is x{word:04X}, and {line} is x{meant:04X}")
     return address, word

@@ -5,7 +5,7 @@ cd "$(dirname "$0")/.."
 PYTHONPATH=python
 export PYTHONPATH
 
-lc3() { python3 -m lc3 "$@"; }
+lc3() { python3 -m fanthrig "$@"; }
 
 show() { # TITLE COMMAND: says what follows, obeys a line as if it had been typed, and tells an exit code other than 0
     printf '\n%s\n\n$ %s\n' "$1" "$2"

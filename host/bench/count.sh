@@ -11,7 +11,7 @@
 # The cost of starting and of the call itself is the same for any number of steps, so the
 # difference between two lengths counts steps alone, and that between two numbers of calls, calls.
 #
-#   LC3_LIB_DIR   where liblc3.a is                               build
+#   FANTHRIG_LIB_DIR   where libfanthrig.a is                               build
 #   CC            C compiler                                      gcc
 #   COUNT_LIMIT   instructions per step                           40
 #   POLL_LIMIT    for last, poll and show                         100
@@ -30,7 +30,7 @@ other_ratio=${OTHER_RATIO:-125}
 call_ratio=${CALL_RATIO:-130}
 steps=20000
 calls=1000
-lib=${LC3_LIB_DIR:-build}/liblc3.a
+lib=${FANTHRIG_LIB_DIR:-build}/libfanthrig.a
 cc=${CC:-gcc}
 work=$(mktemp -d)
 trap 'rm -rf "$work"' EXIT

@@ -3,7 +3,7 @@
 #ifndef INTERPRETERS_H
 #define INTERPRETERS_H
 
-#include "lc3.h"
+#include <fanthrig/lc3.h>
 
 typedef lc3_answer run_function(lc3_record record, uint16_t *memory, size_t memory_len,
                                 const uint64_t *times, size_t times_len, const uint8_t *bytes,

@@ -12,7 +12,7 @@
  * until one does not fit: unlike lc3_page it writes before it knows that the page fits.
  */
 #define _POSIX_C_SOURCE 199309L /* clock_gettime */
-#include "lc3.h"
+#include <fanthrig/lc3.h>
 
 #include <stdio.h>
 #include <stdlib.h>

@@ -2,13 +2,13 @@
 # Times lc3_line and lc3_page over all words against a plain C formatter, and counts the processor
 # instructions of a line, which no load on the computer disturbs.
 #
-#   LC3_LIB_DIR     where liblc3.a is    build
+#   FANTHRIG_LIB_DIR     where libfanthrig.a is    build
 #   CC              C compiler           gcc
 #   BENCH_REPEATS   passes               200
 set -eu
 cd "$(dirname "$0")/../.."
 
-lib=${LC3_LIB_DIR:-build}/liblc3.a
+lib=${FANTHRIG_LIB_DIR:-build}/libfanthrig.a
 work=$(mktemp -d)
 trap 'rm -rf "$work"' EXIT
 

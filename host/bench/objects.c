@@ -4,7 +4,7 @@
  *
  *   objects REPEATS CALLS   the best of so many repeats, each of so many calls
  */
-#include "lc3.h"
+#include <fanthrig/lc3.h>
 
 #include <stdio.h>
 #include <stdlib.h>

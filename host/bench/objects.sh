@@ -2,7 +2,7 @@
 # Times the starting and writing of an object file against a byte-swapping copy in C, and prints a
 # table. Exits 1 where the library takes more than OBJECTS_LIMIT of the copy's time.
 #
-#   LC3_LIB_DIR       where liblc3.a is         build
+#   FANTHRIG_LIB_DIR       where libfanthrig.a is         build
 #   CC                C compiler for the copy   gcc
 #   OBJECTS_REPEATS   repeats                   200
 #   OBJECTS_CALLS     calls of each repeat      50
@@ -11,7 +11,7 @@ set -eu
 export LC_ALL=C
 cd "$(dirname "$0")/../.."
 
-lib=${LC3_LIB_DIR:-build}/liblc3.a
+lib=${FANTHRIG_LIB_DIR:-build}/libfanthrig.a
 work=$(mktemp -d)
 trap 'rm -rf "$work"' EXIT
 

@@ -7,7 +7,7 @@
 #ifndef PROGRAMS_H
 #define PROGRAMS_H
 
-#include "lc3.h"
+#include <fanthrig/lc3.h>
 
 #include <string.h>
 

@@ -5,7 +5,7 @@
 #ifndef RULES_H
 #define RULES_H
 
-#include "lc3.h"
+#include <fanthrig/lc3.h>
 
 /* Opcodes, from 0 to 15. */
 enum { BR, ADD, LD, ST, JSR, AND, LDR, STR, RTI, NOT, LDI, STI, JMP, RESERVED, LEA, TRAP };

@@ -6,7 +6,7 @@
 # the objects that are compared; each figure is the median over the layouts of the best time
 # in each. Exits 1 where the library takes more than BENCH_LIMIT of the plain interpreter's time.
 #
-#   LC3_LIB_DIR     where liblc3.a is                           build
+#   FANTHRIG_LIB_DIR     where libfanthrig.a is                           build
 #   CC              C compiler for the interpreters               gcc
 #   BENCH_CASES     random cases compared before the timing     4000
 #   BENCH_LAYOUTS   layouts                                     8
@@ -18,7 +18,7 @@ set -eu
 export LC_ALL=C
 cd "$(dirname "$0")/../.."
 
-lib=${LC3_LIB_DIR:-build}/liblc3.a
+lib=${FANTHRIG_LIB_DIR:-build}/libfanthrig.a
 cc=${CC:-gcc}
 layouts=${BENCH_LAYOUTS:-8}
 work=$(mktemp -d)

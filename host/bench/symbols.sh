@@ -6,11 +6,11 @@
 # one loop. A second call of either anywhere in that object undoes this without any other sign than
 # a local function more.
 #
-#   LC3_LIB_DIR   where liblc3.a is   build
+#   FANTHRIG_LIB_DIR   where libfanthrig.a is   build
 set -eu
 cd "$(dirname "$0")/../.."
 
-lib=${LC3_LIB_DIR:-build}/liblc3.a
+lib=${FANTHRIG_LIB_DIR:-build}/libfanthrig.a
 export=$1
 shift
 

@@ -3,7 +3,7 @@
  * their boundaries, the stops, display and timer, the reading and writing of all instructions, lines
  * of text, object files, and the ready-made monitor.
  */
-#include "lc3.h"
+#include <fanthrig/lc3.h>
 
 #include <inttypes.h>
 #include <stdio.h>

@@ -3,13 +3,13 @@
 # the interface and the README's example, and sees that header, library and the shared library's
 # SONAME have one version.
 #
-#   LC3_LIB_DIR   where liblc3.a and liblc3.so are   build
+#   FANTHRIG_LIB_DIR   where libfanthrig.a and libfanthrig.so are   build
 #   CC, CXX       compilers                          gcc, g++; clang as well where it is there
 set -eu
 cd "$(dirname "$0")/../.."
 
-dir=${LC3_LIB_DIR:-build}
-lib=$dir/liblc3.a
+dir=${FANTHRIG_LIB_DIR:-build}
+lib=$dir/libfanthrig.a
 strict="-Wall -Wextra -Werror -pedantic -Iinclude"
 work=$(mktemp -d)
 trap 'rm -rf "$work"' EXIT
@@ -33,14 +33,14 @@ awk '/^```c$/ { on = 1; next } /^```$/ { on = 0 } on' README.md >"$work/readme.c
 # shellcheck disable=SC2086
 ${CC:-gcc} -std=c11 $strict "$work/readme.c" "$lib" -o "$work/readme"
 # shellcheck disable=SC2086
-${CC:-gcc} -std=c11 $strict host/c/version.c -L"$dir" -llc3 -o "$work/version"
+${CC:-gcc} -std=c11 $strict host/c/version.c -L"$dir" -lfanthrig -o "$work/version"
 "$work/readme"
 LD_LIBRARY_PATH=$dir "$work/version"
 "$work/interface"
 
 # What a host that was linked with the shared library asks for is its SONAME.
-version=$(sed -n 's/^#define LC3_VERSION //p' include/lc3.h)
-asked=$(readelf -d "$work/version" | sed -n 's/.*(NEEDED).*\[\(liblc3.*\)\]$/\1/p')
-[ "$asked" = "liblc3.so.$version" ] ||
+version=$(sed -n 's/^#define LC3_VERSION //p' include/fanthrig/lc3.h)
+asked=$(readelf -d "$work/version" | sed -n 's/.*(NEEDED).*\[\(libfanthrig.*\)\]$/\1/p')
+[ "$asked" = "libfanthrig.so.$version" ] ||
     { echo "host/c/run.sh: the SONAME is $asked, and the header's version $version" >&2; exit 1; }
 echo "SONAME: $asked"

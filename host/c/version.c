@@ -1,5 +1,5 @@
 /* A host that links the shared library: header and library have one version. */
-#include "lc3.h"
+#include <fanthrig/lc3.h>
 
 #include <stdio.h>
 

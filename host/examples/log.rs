@@ -3,7 +3,7 @@
 //! The program shows a letter and then reaches for a privileged word; the monitor halts it. Each
 //! line of the log has the step's number, PC, the word fetched, its line of text, and the reason.
 
-use lc3::{logged_steps, run_logged, start, Keys, Mode, LOG_WORDS};
+use fanthrig::{logged_steps, run_logged, start, Keys, Mode, LOG_WORDS};
 
 /// The program with its origin before it, as an object file has it.
 const PROGRAM: [u16; 8] = [
@@ -17,9 +17,9 @@ const PROGRAM: [u16; 8] = [
     0x1000, // where the answers are
 ];
 
-fn main() -> Result<(), lc3::Error> {
-    let mut memory = lc3::memory();
-    lc3::install_monitor(&mut memory);
+fn main() -> Result<(), fanthrig::Error> {
+    let mut memory = fanthrig::memory();
+    fanthrig::install_monitor(&mut memory);
     let file: Vec<u8> = PROGRAM.into_iter().flat_map(u16::to_be_bytes).collect();
     let record = start(&file, &mut memory, Mode::User, 0xFDFF)?.record;
 

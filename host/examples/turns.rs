@@ -13,7 +13,7 @@
 //! cargo run --manifest-path host/Cargo.toml --example turns
 //! ```
 
-use lc3::{Keys, Memory, Mode, Record};
+use fanthrig::{Keys, Memory, Mode, Record};
 use std::fmt::Write;
 
 /// Where the routines below stand, among them that of the timer's interrupt, word x0181.
@@ -91,8 +91,9 @@ fn install(
     task: &[u16],
     at: u16,
     supervisor_stack: u16,
-) -> Result<u16, lc3::Error> {
-    let Record { pc, psr, .. } = lc3::start(&file(at, task), memory, Mode::User, 0xFDFF)?.record;
+) -> Result<u16, fanthrig::Error> {
+    let Record { pc, psr, .. } =
+        fanthrig::start(&file(at, task), memory, Mode::User, 0xFDFF)?.record;
     let frame = [0, 0, 0, 0, 0, 0, 0, pc, psr];
     let r6 = supervisor_stack - frame.len() as u16;
     memory[usize::from(r6)..][..frame.len()].copy_from_slice(&frame);
@@ -101,9 +102,9 @@ fn install(
 
 /// The memory of the whole: monitor, both tasks, and routines. These are started last, and theirs is
 /// the record to begin with.
-fn machine() -> Result<(Record, Box<Memory>), lc3::Error> {
-    let mut memory = lc3::memory();
-    lc3::install_monitor(&mut memory);
+fn machine() -> Result<(Record, Box<Memory>), fanthrig::Error> {
+    let mut memory = fanthrig::memory();
+    fanthrig::install_monitor(&mut memory);
     memory[TIMER_VECTOR] = SWITCH;
     let mut digits = TASK;
     (digits[7], digits[8]) = (u16::from(b'0'), u16::from(b'9' + 1).wrapping_neg());
@@ -111,12 +112,12 @@ fn machine() -> Result<(Record, Box<Memory>), lc3::Error> {
     let other = install(&mut memory, &digits, TASKS[1].1, 0x2F00)?;
     assert_eq!([first, other], ROUTINES[31..], "FIRST and OTHER");
     let routines = file(START, &ROUTINES);
-    let record = lc3::start(&routines, &mut memory, Mode::Supervisor, 0xFDFF)?.record;
+    let record = fanthrig::start(&routines, &mut memory, Mode::Supervisor, 0xFDFF)?.record;
     Ok((record, memory))
 }
 
 /// Runs so many turns, and tells of each when and where it ended and what it showed.
-fn report(turns: usize) -> Result<String, lc3::Error> {
+fn report(turns: usize) -> Result<String, fanthrig::Error> {
     let (mut record, mut memory) = machine()?;
     let (mut display, mut text) = (String::new(), String::new());
     text.push_str("turn  task     ended at step  interrupted at  showed\n");
@@ -125,7 +126,7 @@ fn report(turns: usize) -> Result<String, lc3::Error> {
         let mut showed = String::new();
         loop {
             let mut byte = [0];
-            let step = lc3::step(&mut record, &mut memory, Keys::NONE, &mut byte)?;
+            let step = fanthrig::step(&mut record, &mut memory, Keys::NONE, &mut byte)?;
             showed.extend(byte[..step.shown].iter().map(|&byte| char::from(byte)));
             // A turn ends with the step that is the interrupt, which leads to SWITCH.
             if record.pc == SWITCH {
@@ -141,7 +142,7 @@ fn report(turns: usize) -> Result<String, lc3::Error> {
     Ok(text)
 }
 
-fn main() -> Result<(), lc3::Error> {
+fn main() -> Result<(), fanthrig::Error> {
     print!("{}", report(12)?);
     Ok(())
 }

@@ -9,13 +9,13 @@ use std::fmt;
 /// [`Memory`](crate::Memory), which has its length by its type.
 ///
 /// ```
-/// use lc3::{Error, Mode};
+/// use fanthrig::{Error, Mode};
 ///
 /// fn first_line(file: &[u8]) -> Result<String, Error> {
-///     let mut memory = lc3::memory();
-///     let started = lc3::start(file, &mut memory, Mode::User, 0xFDFF)?;
-///     let mut output = [0; lc3::LINE_LIMIT];
-///     let count = lc3::line(memory[usize::from(started.record.pc)], &mut output)?;
+///     let mut memory = fanthrig::memory();
+///     let started = fanthrig::start(file, &mut memory, Mode::User, 0xFDFF)?;
+///     let mut output = [0; fanthrig::LINE_LIMIT];
+///     let count = fanthrig::line(memory[usize::from(started.record.pc)], &mut output)?;
 ///     Ok(String::from_utf8_lossy(&output[..count]).into_owned())
 /// }
 ///
@@ -74,7 +74,7 @@ impl Error {
     /// The refusal's number.
     ///
     /// ```
-    /// assert_eq!(lc3::Error::KeyOrder(3).code(), 19);
+    /// assert_eq!(fanthrig::Error::KeyOrder(3).code(), 19);
     /// ```
     pub fn code(self) -> u32 {
         match self {

@@ -229,12 +229,12 @@ pub struct Reading {
 /// word in exactly the bits of the mask.
 ///
 /// ```
-/// use lc3::Instruction;
+/// use fanthrig::Instruction;
 ///
 /// let add = Instruction::AddImmediate { dr: 2, sr1: 3, imm5: 7 };
-/// assert_eq!(lc3::read(0x14E7).instruction, add);
-/// assert_eq!(lc3::read(0x14E7).mask, 0);
-/// assert_eq!(lc3::read(0x8001).mask, 0x0001);
+/// assert_eq!(fanthrig::read(0x14E7).instruction, add);
+/// assert_eq!(fanthrig::read(0x14E7).mask, 0);
+/// assert_eq!(fanthrig::read(0x8001).mask, 0x0001);
 /// ```
 pub fn read(word: u16) -> Reading {
     let reading = ffi::lc3_read(word);
@@ -244,10 +244,10 @@ pub fn read(word: u16) -> Reading {
 /// Writes an instruction as a word, with the fixed bits as the encoding has them.
 ///
 /// ```
-/// use lc3::{Error, Instruction};
+/// use fanthrig::{Error, Instruction};
 ///
-/// assert_eq!(lc3::write(&Instruction::Trap { vector: 0x25 }), Ok(0xF025));
-/// assert_eq!(lc3::write(&Instruction::Trap { vector: 256 }), Err(Error::Value));
+/// assert_eq!(fanthrig::write(&Instruction::Trap { vector: 0x25 }), Ok(0xF025));
+/// assert_eq!(fanthrig::write(&Instruction::Trap { vector: 256 }), Err(Error::Value));
 /// ```
 pub fn write(instruction: &Instruction) -> Result<u16, Error> {
     let written = ffi::lc3_write((*instruction).into());

@@ -1,7 +1,7 @@
 //! The LC-3 with privilege, interrupts, a console and a timer.
 //!
-//! This crate is a safe wrapper of the static library `liblc3.a`. It has the library's eighteen
-//! calls:
+//! This crate is a safe wrapper of the static library `libfanthrig.a`. It has the library's
+//! eighteen calls:
 //!
 //! - [`version()`], the version of the interface;
 //! - [`start`] for an object file and a machine that is to run it, and [`start_user`] for a file
@@ -27,12 +27,13 @@
 //! The C interface itself, with the constants of `lc3.h` under their names, is in [`ffi`].
 //!
 //! When the crate is built, the archive is taken from the folder in the environment variable
-//! `LC3_LIB_DIR`, or else from `build` of the source tree, or else from where pkg-config finds it.
+//! `FANTHRIG_LIB_DIR`, or else from `build` of the source tree, or else from where pkg-config finds
+//! it.
 //!
 //! A program in Supervisor mode that shows one byte and then clears bit 15 of MCR:
 //!
 //! ```
-//! use lc3::{Keys, Mode, Stop};
+//! use fanthrig::{Keys, Mode, Stop};
 //!
 //! let file = [
 //!     0x30, 0x00, // the origin
@@ -44,14 +45,14 @@
 //!     0xFE, 0x06, // DDR
 //!     0xFF, 0xFE, // MCR
 //! ];
-//! let mut memory = lc3::memory();
+//! let mut memory = fanthrig::memory();
 //! let mut output = [0; 8];
-//! let record = lc3::start(&file, &mut memory, Mode::Supervisor, 0xFDFF)?.record;
-//! let run = lc3::run(record, &mut memory, Keys::NONE, &mut output, 1000)?;
+//! let record = fanthrig::start(&file, &mut memory, Mode::Supervisor, 0xFDFF)?.record;
+//! let run = fanthrig::run(record, &mut memory, Keys::NONE, &mut output, 1000)?;
 //! assert_eq!(run.stop, Stop::Halted);
 //! assert_eq!((run.steps, run.shown), (4, 1));
 //! assert_eq!(output[0], b'A');
-//! # Ok::<(), lc3::Error>(())
+//! # Ok::<(), fanthrig::Error>(())
 //! ```
 
 #![warn(missing_docs)]
@@ -82,7 +83,7 @@ pub use run::{Keys, Run, StepReport, Stop, CLOCK_LIMIT, STEP_LIMIT};
 /// The version of the interface that the library was built for.
 ///
 /// ```
-/// assert_eq!(lc3::version(), lc3::ffi::LC3_VERSION);
+/// assert_eq!(fanthrig::version(), fanthrig::ffi::LC3_VERSION);
 /// ```
 pub fn version() -> u32 {
     ffi::lc3_version()

@@ -14,11 +14,11 @@ pub const LINE_LIMIT: usize = ffi::LC3_MAX_LINE;
 /// all of `output` is.
 ///
 /// ```
-/// let mut output = [0; lc3::LINE_LIMIT];
-/// let count = lc3::line(0x14E7, &mut output)?;
+/// let mut output = [0; fanthrig::LINE_LIMIT];
+/// let count = fanthrig::line(0x14E7, &mut output)?;
 /// assert_eq!(&output[..count], b"ADD R2, R3, #7\n");
-/// assert_eq!(lc3::line(0x14E7, &mut output[..14]), Err(lc3::Error::Output));
-/// # Ok::<(), lc3::Error>(())
+/// assert_eq!(fanthrig::line(0x14E7, &mut output[..14]), Err(fanthrig::Error::Output));
+/// # Ok::<(), fanthrig::Error>(())
 /// ```
 pub fn line(word: u16, output: &mut [u8]) -> Result<usize, Error> {
     // SAFETY: the slice is valid for writing its length.
@@ -30,7 +30,7 @@ pub fn line(word: u16, output: &mut [u8]) -> Result<usize, Error> {
 /// The bytes of a word's line, its line feed included.
 ///
 /// ```
-/// assert_eq!(lc3::line_length(0x14E7), "ADD R2, R3, #7\n".len());
+/// assert_eq!(fanthrig::line_length(0x14E7), "ADD R2, R3, #7\n".len());
 /// ```
 pub fn line_length(word: u16) -> usize {
     ffi::lc3_line_length(word)
@@ -39,8 +39,8 @@ pub fn line_length(word: u16) -> usize {
 /// The line of a word, its line feed included.
 ///
 /// ```
-/// assert_eq!(lc3::line_string(0xF025), "TRAP x25\n");
-/// assert_eq!(lc3::line_string(0x0005), ".FILL x0005\n");
+/// assert_eq!(fanthrig::line_string(0xF025), "TRAP x25\n");
+/// assert_eq!(fanthrig::line_string(0x0005), ".FILL x0005\n");
 /// ```
 pub fn line_string(word: u16) -> String {
     let mut output = [0; LINE_LIMIT];
@@ -54,13 +54,13 @@ pub fn line_string(word: u16) -> String {
 /// What lies after the page is left as it was; where the page is refused, all of `output` is.
 ///
 /// ```
-/// let mut memory = lc3::memory();
+/// let mut memory = fanthrig::memory();
 /// memory[0x3000..0x3002].copy_from_slice(&[0x1021, 0x0FFE]);
-/// let mut output = [0; 2 * lc3::LINE_LIMIT];
-/// let count = lc3::page(&memory, 0x3000, 2, &mut output)?;
+/// let mut output = [0; 2 * fanthrig::LINE_LIMIT];
+/// let count = fanthrig::page(&memory, 0x3000, 2, &mut output)?;
 /// assert_eq!(&output[..count], b"ADD R0, R0, #1\nBRnzp #-2\n");
-/// assert_eq!(lc3::page(&memory, 0xFFFF, 2, &mut output), Err(lc3::Error::Page));
-/// # Ok::<(), lc3::Error>(())
+/// assert_eq!(fanthrig::page(&memory, 0xFFFF, 2, &mut output), Err(fanthrig::Error::Page));
+/// # Ok::<(), fanthrig::Error>(())
 /// ```
 pub fn page(memory: &Memory, first: u16, count: usize, output: &mut [u8]) -> Result<usize, Error> {
     // SAFETY: each pointer and length come from one slice, and the borrow keeps the output apart

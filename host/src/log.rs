@@ -43,7 +43,7 @@ impl Reason {
     /// The reason's number in a log, from 0.
     ///
     /// ```
-    /// assert_eq!(lc3::Reason::Access.code(), 4);
+    /// assert_eq!(fanthrig::Reason::Access.code(), 4);
     /// ```
     pub fn code(self) -> u16 {
         match self {
@@ -60,8 +60,8 @@ impl Reason {
     /// The reason that a number stands for.
     ///
     /// ```
-    /// assert_eq!(lc3::Reason::from_code(1), Some(lc3::Reason::Trap));
-    /// assert_eq!(lc3::Reason::from_code(99), None);
+    /// assert_eq!(fanthrig::Reason::from_code(1), Some(fanthrig::Reason::Trap));
+    /// assert_eq!(fanthrig::Reason::from_code(99), None);
     /// ```
     pub fn from_code(code: u16) -> Option<Reason> {
         Reason::ALL.into_iter().find(|reason| reason.code() == code)
@@ -115,7 +115,7 @@ impl LoggedStep {
     ///
     /// ```
     /// let log = [0x3000, 0x14E7, 0, 0x3001, 0, 5];
-    /// let lines: Vec<_> = lc3::logged_steps(&log).map(|step| step.line()).collect();
+    /// let lines: Vec<_> = fanthrig::logged_steps(&log).map(|step| step.line()).collect();
     /// assert_eq!(lines, ["ADD R2, R3, #7", ""]);
     /// ```
     pub fn line(&self) -> String {
@@ -156,19 +156,19 @@ pub struct LoggedRun {
 /// the words written is left as it was; a refused run alters no buffer.
 ///
 /// ```
-/// use lc3::{logged_steps, Keys, Mode, Reason, Stop};
+/// use fanthrig::{logged_steps, Keys, Mode, Reason, Stop};
 ///
-/// let mut memory = lc3::memory();
+/// let mut memory = fanthrig::memory();
 /// // At x3000: ADD R0, R0, #1, and the reserved opcode.
 /// let file = [0x30, 0x00, 0x10, 0x21, 0xD0, 0x00];
-/// let record = lc3::start(&file, &mut memory, Mode::User, 0xFDFF)?.record;
+/// let record = fanthrig::start(&file, &mut memory, Mode::User, 0xFDFF)?.record;
 /// let mut log = [0; 8];
-/// let answer = lc3::run_logged(record, &mut memory, Keys::NONE, &mut [], &mut log, 1000)?;
+/// let answer = fanthrig::run_logged(record, &mut memory, Keys::NONE, &mut [], &mut log, 1000)?;
 /// assert_eq!((answer.run.stop, answer.run.steps), (Stop::LogFull, 2));
 /// let steps: Vec<_> = logged_steps(&log[..answer.logged]).collect();
 /// assert_eq!((steps[0].pc, steps[0].line().as_str()), (0x3000, "ADD R0, R0, #1"));
 /// assert_eq!((steps[1].pc, steps[1].reason), (0x3001, Reason::Illegal));
-/// # Ok::<(), lc3::Error>(())
+/// # Ok::<(), fanthrig::Error>(())
 /// ```
 pub fn run_logged(
     record: Record,

@@ -17,17 +17,17 @@ pub use ffi::Routines;
 /// serves starts in User mode; a candidate's is started by [`start_user`](crate::start_user).
 ///
 /// ```
-/// use lc3::{Keys, Stop};
+/// use fanthrig::{Keys, Stop};
 ///
-/// let mut memory = lc3::memory();
-/// lc3::install_monitor(&mut memory);
+/// let mut memory = fanthrig::memory();
+/// fanthrig::install_monitor(&mut memory);
 /// let file = [0x30, 0x00, 0xF0, 0x25]; // at x3000, TRAP x25: HALT
-/// let record = lc3::start_user(&file, &mut memory, 0xFDFF)?.record;
+/// let record = fanthrig::start_user(&file, &mut memory, 0xFDFF)?.record;
 /// let mut output = [0; 80];
-/// let run = lc3::run(record, &mut memory, Keys::NONE, &mut output, 1000)?;
+/// let run = fanthrig::run(record, &mut memory, Keys::NONE, &mut output, 1000)?;
 /// assert_eq!(run.stop, Stop::Halted);
 /// assert_eq!(&output[..run.shown], b"Halted\n");
-/// # Ok::<(), lc3::Error>(())
+/// # Ok::<(), fanthrig::Error>(())
 /// ```
 pub fn install_monitor(memory: &mut Memory) {
     // SAFETY: pointer and length come from one array.
@@ -39,8 +39,8 @@ pub fn install_monitor(memory: &mut Memory) {
 ///
 /// ```
 /// // The ready-made monitor, but for PUTS, which is the class's own.
-/// let routines = lc3::Routines { puts: 0x1000, ..lc3::Routines::of_monitor() };
-/// let words = lc3::vectors(routines);
+/// let routines = fanthrig::Routines { puts: 0x1000, ..fanthrig::Routines::of_monitor() };
+/// let words = fanthrig::vectors(routines);
 /// assert_eq!((words[0x21], words[0x22]), (0x0204, 0x1000));
 /// ```
 pub fn vectors(routines: Routines) -> [u16; VECTOR_WORDS] {

@@ -35,11 +35,11 @@ pub struct Started {
 /// [`start_user`].
 ///
 /// ```
-/// use lc3::{Error, Mode};
+/// use fanthrig::{Error, Mode};
 ///
-/// let mut memory = lc3::memory();
+/// let mut memory = fanthrig::memory();
 /// let file = [0x30, 0x00, 0x14, 0xE7, 0xF0, 0x25];
-/// let started = lc3::start(&file, &mut memory, Mode::User, 0xFDFF)?;
+/// let started = fanthrig::start(&file, &mut memory, Mode::User, 0xFDFF)?;
 /// assert_eq!(memory[0x3000..0x3003], [0x14E7, 0xF025, 0]);
 /// assert_eq!(started.words, 2);
 ///
@@ -48,9 +48,9 @@ pub struct Started {
 /// assert_eq!((record.regs[6], record.saved_ssp), (0xFDFF, 0x3000));
 /// assert_eq!(record.mode(), Mode::User);
 ///
-/// let refused = lc3::start(&file[..5], &mut memory, Mode::User, 0xFDFF);
+/// let refused = fanthrig::start(&file[..5], &mut memory, Mode::User, 0xFDFF);
 /// assert_eq!(refused, Err(Error::File));
-/// # Ok::<(), lc3::Error>(())
+/// # Ok::<(), fanthrig::Error>(())
 /// ```
 pub fn start(
     file: &[u8],
@@ -87,16 +87,16 @@ pub fn start(
 /// A refused call alters nothing.
 ///
 /// ```
-/// use lc3::Error;
+/// use fanthrig::Error;
 ///
-/// let mut memory = lc3::memory();
-/// let started = lc3::start_user(&[0x30, 0x00, 0xF0, 0x25], &mut memory, 0xFDFF)?;
+/// let mut memory = fanthrig::memory();
+/// let started = fanthrig::start_user(&[0x30, 0x00, 0xF0, 0x25], &mut memory, 0xFDFF)?;
 /// assert_eq!((started.record.pc, memory[0x3000]), (0x3000, 0xF025));
 ///
 /// // The word that says where an access exception leads.
-/// let refused = lc3::start_user(&[0x01, 0x02, 0x01, 0x03], &mut memory, 0xFDFF);
+/// let refused = fanthrig::start_user(&[0x01, 0x02, 0x01, 0x03], &mut memory, 0xFDFF);
 /// assert_eq!(refused, Err(Error::User));
-/// # Ok::<(), lc3::Error>(())
+/// # Ok::<(), fanthrig::Error>(())
 /// ```
 pub fn start_user(file: &[u8], memory: &mut Memory, user_stack: u16) -> Result<Started, Error> {
     // SAFETY: each pointer and length come from one slice, and the borrow keeps memory apart from
@@ -121,15 +121,15 @@ pub fn start_user(file: &[u8], memory: &mut Memory, user_stack: u16) -> Result<S
 /// A refused call alters nothing.
 ///
 /// ```
-/// use lc3::Error;
+/// use fanthrig::Error;
 ///
-/// let mut memory = lc3::memory();
+/// let mut memory = fanthrig::memory();
 /// memory[0x3000] = 0xF025;
 /// let mut output = [0xAA; 5];
-/// assert_eq!(lc3::save(&memory, 0x3000, 1, &mut output), Ok(4));
+/// assert_eq!(fanthrig::save(&memory, 0x3000, 1, &mut output), Ok(4));
 /// assert_eq!(output, [0x30, 0x00, 0xF0, 0x25, 0xAA]);
 ///
-/// assert_eq!(lc3::save(&memory, 0x3000, 2, &mut output), Err(Error::Output));
+/// assert_eq!(fanthrig::save(&memory, 0x3000, 2, &mut output), Err(Error::Output));
 /// ```
 pub fn save(memory: &Memory, origin: u16, words: usize, output: &mut [u8]) -> Result<usize, Error> {
     // SAFETY: each pointer and length come from one slice, and the borrow keeps the output apart

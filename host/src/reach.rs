@@ -64,7 +64,7 @@ impl fmt::Display for Replacing {
 /// As text it is a sentence that says so:
 ///
 /// ```
-/// use lc3::{Fate, Taking};
+/// use fanthrig::{Fate, Taking};
 ///
 /// let fate = Fate::Taken { step: 3, by: Taking::Load };
 /// let text = "step 3 takes the word (load): up to that step all but the word is the same";
@@ -114,7 +114,7 @@ impl Fate {
     /// the word is.
     ///
     /// ```
-    /// use lc3::{Fate, Replacing, Taking};
+    /// use fanthrig::{Fate, Replacing, Taking};
     ///
     /// assert!(Fate::Untouched.keeps_the_end());
     /// assert!(Fate::Replaced { step: 3, by: Replacing::Push }.keeps_the_end());
@@ -397,16 +397,16 @@ fn vector(step: &LoggedStep) -> Option<u16> {
 /// Until a step takes or replaces the word each is a call of its own, so it is slower than a run.
 ///
 /// ```
-/// use lc3::{Fate, Keys, Mode, Replacing, Taking};
+/// use fanthrig::{Fate, Keys, Mode, Replacing, Taking};
 ///
 /// // At x3000: LD R0, x3003; ST R0, x3004; LD R1, x3004.
 /// let file = [0x30, 0x00, 0x20, 0x02, 0x30, 0x02, 0x22, 0x01, 0x00, 0x07, 0x00, 0x08, 0x00, 0x09];
 /// let fate = |address| {
-///     let mut memory = lc3::memory();
-///     let record = lc3::start(&file, &mut memory, Mode::User, 0xFDFF)?.record;
-///     let reach = lc3::reach(record, &mut memory, Keys::NONE, &mut [], 3, address)?;
+///     let mut memory = fanthrig::memory();
+///     let record = fanthrig::start(&file, &mut memory, Mode::User, 0xFDFF)?.record;
+///     let reach = fanthrig::reach(record, &mut memory, Keys::NONE, &mut [], 3, address)?;
 ///     assert_eq!((reach.run.steps, reach.run.record.regs[1]), (3, 7));
-///     Ok::<_, lc3::Error>(reach.fate)
+///     Ok::<_, fanthrig::Error>(reach.fate)
 /// };
 /// // The 7 is loaded in step 0: another word there may move all that comes after it.
 /// assert_eq!(fate(0x3003)?, Fate::Taken { step: 0, by: Taking::Load });
@@ -414,7 +414,7 @@ fn vector(step: &LoggedStep) -> Option<u16> {
 /// assert_eq!(fate(0x3004)?, Fate::Replaced { step: 1, by: Replacing::Store });
 /// // Nothing uses the 9.
 /// assert_eq!(fate(0x3005)?, Fate::Untouched);
-/// # Ok::<(), lc3::Error>(())
+/// # Ok::<(), fanthrig::Error>(())
 /// ```
 pub fn reach(
     record: Record,

@@ -28,7 +28,7 @@ impl<'a> Keys<'a> {
     /// The keys that are left after the first `arrived` ones, for the run that goes on.
     ///
     /// ```
-    /// use lc3::Keys;
+    /// use fanthrig::Keys;
     ///
     /// let keys = Keys { times: &[3, 5, 9], bytes: b"abc" };
     /// assert_eq!(keys.after(2), Keys { times: &[9], bytes: b"c" });
@@ -50,15 +50,15 @@ pub enum Stop {
     /// [`Record::is_halted`] tells.
     ///
     /// ```
-    /// use lc3::{Keys, Mode, Stop};
+    /// use fanthrig::{Keys, Mode, Stop};
     ///
-    /// let mut memory = lc3::memory();
+    /// let mut memory = fanthrig::memory();
     /// let file = [0x30, 0x00, 0xB0, 0x01, 0x00, 0x00, 0xFF, 0xFE]; // STI R0, x3002; x3002 is xFFFE
-    /// let record = lc3::start(&file, &mut memory, Mode::Supervisor, 0xFDFF)?.record;
-    /// let run = lc3::run(record, &mut memory, Keys::NONE, &mut [], 1)?;
+    /// let record = fanthrig::start(&file, &mut memory, Mode::Supervisor, 0xFDFF)?.record;
+    /// let run = fanthrig::run(record, &mut memory, Keys::NONE, &mut [], 1)?;
     /// assert_eq!(run.stop, Stop::Done);
     /// assert!(run.record.is_halted() && !record.is_halted());
-    /// # Ok::<(), lc3::Error>(())
+    /// # Ok::<(), fanthrig::Error>(())
     /// ```
     Done,
     /// Bit 15 of MCR is clear.
@@ -74,7 +74,7 @@ impl Stop {
     /// The stop's number, 0 to 3.
     ///
     /// ```
-    /// assert_eq!(lc3::Stop::Halted.code(), 1);
+    /// assert_eq!(fanthrig::Stop::Halted.code(), 1);
     /// ```
     pub fn code(self) -> u32 {
         match self {
@@ -169,19 +169,19 @@ fn reported(report: &ffi::Report) -> Result<StepReport, Error> {
 /// A refused run alters no buffer.
 ///
 /// ```
-/// use lc3::{Error, Keys, Mode, Stop};
+/// use fanthrig::{Error, Keys, Mode, Stop};
 ///
-/// let mut memory = lc3::memory();
+/// let mut memory = fanthrig::memory();
 /// let file = [0x30, 0x00, 0x10, 0x21]; // at x3000, ADD R0, R0, #1
-/// let record = lc3::start(&file, &mut memory, Mode::User, 0xFDFF)?.record;
-/// let run = lc3::run(record, &mut memory, Keys::NONE, &mut [], 1)?;
+/// let record = fanthrig::start(&file, &mut memory, Mode::User, 0xFDFF)?.record;
+/// let run = fanthrig::run(record, &mut memory, Keys::NONE, &mut [], 1)?;
 /// assert_eq!((run.stop, run.record.regs[0], run.record.pc), (Stop::Done, 1, 0x3001));
 ///
 /// let keys = Keys { times: &[3, 9, 5], bytes: b"abc" };
-/// let refused = lc3::run(record, &mut memory, keys, &mut [], 1).unwrap_err();
+/// let refused = fanthrig::run(record, &mut memory, keys, &mut [], 1).unwrap_err();
 /// assert_eq!((refused, refused.code()), (Error::KeyOrder(2), 19));
 /// assert_eq!(refused.to_string(), "times[2] is below the time before it");
-/// # Ok::<(), lc3::Error>(())
+/// # Ok::<(), fanthrig::Error>(())
 /// ```
 pub fn run(
     record: Record,
@@ -200,14 +200,14 @@ pub fn run(
 /// advance.
 ///
 /// ```
-/// use lc3::{Keys, Mode, STEP_LIMIT};
+/// use fanthrig::{Keys, Mode, STEP_LIMIT};
 ///
-/// let mut memory = lc3::memory();
+/// let mut memory = fanthrig::memory();
 /// let file = [0x30, 0x00, 0x10, 0x21, 0x0F, 0xFE]; // at x3000: ADD R0, R0, #1; BRnzp #-2
-/// let record = lc3::start(&file, &mut memory, Mode::User, 0xFDFF)?.record;
-/// let long = lc3::run_long(record, &mut memory, Keys::NONE, &mut [], STEP_LIMIT)?;
-/// assert_eq!(long, lc3::run(record, &mut memory, Keys::NONE, &mut [], STEP_LIMIT)?);
-/// # Ok::<(), lc3::Error>(())
+/// let record = fanthrig::start(&file, &mut memory, Mode::User, 0xFDFF)?.record;
+/// let long = fanthrig::run_long(record, &mut memory, Keys::NONE, &mut [], STEP_LIMIT)?;
+/// assert_eq!(long, fanthrig::run(record, &mut memory, Keys::NONE, &mut [], STEP_LIMIT)?);
+/// # Ok::<(), fanthrig::Error>(())
 /// ```
 pub fn run_long(
     record: Record,
@@ -224,17 +224,17 @@ pub fn run_long(
 /// A refused step alters neither the record nor a buffer.
 ///
 /// ```
-/// use lc3::{Keys, Mode};
+/// use fanthrig::{Keys, Mode};
 ///
-/// let mut memory = lc3::memory();
+/// let mut memory = fanthrig::memory();
 /// memory[0x0025] = 0x0400; // where TRAP x25 goes
 /// let file = [0x30, 0x00, 0xF0, 0x25]; // at x3000, TRAP x25
-/// let mut record = lc3::start(&file, &mut memory, Mode::User, 0xFDFF)?.record;
-/// let report = lc3::step(&mut record, &mut memory, Keys::NONE, &mut [])?;
+/// let mut record = fanthrig::start(&file, &mut memory, Mode::User, 0xFDFF)?.record;
+/// let report = fanthrig::step(&mut record, &mut memory, Keys::NONE, &mut [])?;
 /// assert_eq!(report.steps, 1);
 /// assert_eq!((record.pc, record.mode()), (0x0400, Mode::Supervisor));
 /// assert_eq!(memory[0x2FFE..0x3000], [0x3001, 0x8002]);
-/// # Ok::<(), lc3::Error>(())
+/// # Ok::<(), fanthrig::Error>(())
 /// ```
 pub fn step(
     record: &mut Record,
@@ -253,15 +253,15 @@ pub fn step(
 /// nothing here.
 ///
 /// ```
-/// use lc3::{Keys, Mode};
+/// use fanthrig::{Keys, Mode};
 ///
-/// let mut memory = lc3::memory();
+/// let mut memory = fanthrig::memory();
 /// memory[0x0025] = 0x0400; // where TRAP x25 goes
 /// let file = [0x30, 0x00, 0xF0, 0x25]; // at x3000, TRAP x25
-/// let record = lc3::start(&file, &mut memory, Mode::User, 0xFDFF)?.record;
-/// let run = lc3::run_second(record, &mut memory, Keys::NONE, &mut [], 1)?;
+/// let record = fanthrig::start(&file, &mut memory, Mode::User, 0xFDFF)?.record;
+/// let run = fanthrig::run_second(record, &mut memory, Keys::NONE, &mut [], 1)?;
 /// assert_eq!((run.record.pc, run.record.regs[7], run.record.mode()), (0x0400, 0x3001, Mode::User));
-/// # Ok::<(), lc3::Error>(())
+/// # Ok::<(), fanthrig::Error>(())
 /// ```
 pub fn run_second(
     record: Record,
@@ -277,14 +277,14 @@ pub fn run_second(
 /// [`run_second`] with `n` = 1.
 ///
 /// ```
-/// use lc3::{Keys, Mode};
+/// use fanthrig::{Keys, Mode};
 ///
-/// let mut memory = lc3::memory();
+/// let mut memory = fanthrig::memory();
 /// let file = [0x30, 0x00, 0xE1, 0xFF]; // at x3000, LEA R0, #-1
-/// let mut record = lc3::start(&file, &mut memory, Mode::User, 0xFDFF)?.record;
-/// lc3::step_second(&mut record, &mut memory, Keys::NONE, &mut [])?;
+/// let mut record = fanthrig::start(&file, &mut memory, Mode::User, 0xFDFF)?.record;
+/// fanthrig::step_second(&mut record, &mut memory, Keys::NONE, &mut [])?;
 /// assert_eq!((record.regs[0], record.psr), (0x3000, 0x8001));
-/// # Ok::<(), lc3::Error>(())
+/// # Ok::<(), fanthrig::Error>(())
 /// ```
 pub fn step_second(
     record: &mut Record,

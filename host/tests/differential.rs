@@ -5,8 +5,8 @@
 mod reference;
 mod support;
 
-use lc3::ffi::Answer;
-use lc3::{CLOCK_LIMIT, STEP_LIMIT, WORDS};
+use fanthrig::ffi::Answer;
+use fanthrig::{CLOCK_LIMIT, STEP_LIMIT, WORDS};
 use reference::bus::{DDR, DSR, REGISTERS, TIR, TSR};
 use reference::figure::FIGURE;
 use reference::machine::{self, Cause, Event, CAUSES, OUTPUT_FULL};

@@ -4,7 +4,7 @@
 mod reference;
 mod support;
 
-use lc3::{Mode, Stop};
+use fanthrig::{Mode, Stop};
 use support::program::{Program, LOAD_DSR, START, STORE_DDR};
 
 /// The steps for which a display is busy after a byte.
@@ -107,7 +107,7 @@ fn user_mode_meets_the_access_exception_whatever_the_count() {
 #[test]
 fn a_run_may_be_split_while_the_display_is_busy() {
     let mut halt = program(&[0xF025], 7);
-    lc3::install_monitor(&mut halt.memory);
+    fanthrig::install_monitor(&mut halt.memory);
     let mut counts = [0; 9];
     halt.assert_splits(1000, |record| counts[usize::from(record.busy)] += 1);
     assert!(counts.iter().all(|&splits| splits > 0), "splits by the busy count: {counts:?}");

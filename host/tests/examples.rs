@@ -2,8 +2,8 @@
 
 mod reference;
 
-use lc3::ffi::Answer;
-use lc3::{Instruction, Keys, Memory, Record};
+use fanthrig::ffi::Answer;
+use fanthrig::{Instruction, Keys, Memory, Record};
 use reference::figure::{self, Fields, Kind};
 use reference::machine::{self, Call};
 
@@ -23,7 +23,7 @@ const TRAP_X25: u16 = 0x1025;
 
 /// A User record at x3000 with the given word there.
 fn user(word: u16) -> Example {
-    let mut memory = lc3::memory();
+    let mut memory = fanthrig::memory();
     memory[usize::from(WHERE)] = word;
     memory[0x0025] = TRAP_X25;
     memory[0x0100] = PRIVILEGE;
@@ -61,7 +61,7 @@ impl Example {
     /// The record and memory after one step, in which library and reference agree.
     fn step(self) -> (Record, Box<Memory>) {
         let (mut ours, mut theirs) = (self.memory.clone(), self.memory);
-        let run = lc3::run(self.record, &mut ours, Keys::NONE, &mut [], 1).expect("accepted");
+        let run = fanthrig::run(self.record, &mut ours, Keys::NONE, &mut [], 1).expect("accepted");
         let call = Call {
             record: self.record,
             memory: &mut theirs[..],
@@ -84,7 +84,10 @@ impl Example {
 fn example_1_reads_an_add() {
     let fields = Fields { kind: Kind::AddImmediate, a: 2, b: 3, c: 0, value: 7 };
     assert_eq!(figure::read(0x14E7), fields);
-    assert_eq!(lc3::read(0x14E7).instruction, Instruction::AddImmediate { dr: 2, sr1: 3, imm5: 7 });
+    assert_eq!(
+        fanthrig::read(0x14E7).instruction,
+        Instruction::AddImmediate { dr: 2, sr1: 3, imm5: 7 }
+    );
 }
 
 #[test]

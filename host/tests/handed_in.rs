@@ -5,7 +5,7 @@
 mod reference;
 mod support;
 
-use lc3::{Error, Keys, Memory, Mode, Record, Stop, WORDS};
+use fanthrig::{Error, Keys, Memory, Mode, Record, Stop, WORDS};
 use std::collections::BTreeMap;
 use std::ops::Range;
 use support::candidates::{candidate, Candidate, USER};
@@ -20,9 +20,9 @@ struct Room {
 
 impl Room {
     fn new(words: &[u16]) -> Room {
-        let mut lent = lc3::memory();
+        let mut lent = fanthrig::memory();
         lent.copy_from_slice(words);
-        lc3::install_monitor(&mut lent);
+        fanthrig::install_monitor(&mut lent);
         Room { memory: lent.clone(), lent }
     }
 
@@ -30,7 +30,7 @@ impl Room {
     /// where the file is refused.
     fn start(&mut self, file: &[u8], user_stack: u16) -> Result<Record, Error> {
         self.memory.copy_from_slice(&self.lent[..]);
-        let started = lc3::start_user(file, &mut self.memory, user_stack);
+        let started = fanthrig::start_user(file, &mut self.memory, user_stack);
         self.assert_as_lent(0..USER.start, file);
         self.assert_as_lent(USER.end..WORDS, file);
         if started.is_err() {
@@ -87,7 +87,7 @@ fn run(rng: &mut Rng, room: &mut Room, record: Record, file: &[u8]) {
     let mut times = [(); 3].map(|()| rng.below(n + 1));
     times.sort_unstable();
     let keys = Keys { times: &times, bytes: b"key" };
-    let run = lc3::run(record, &mut room.memory, keys, &mut [0; 100], n);
+    let run = fanthrig::run(record, &mut room.memory, keys, &mut [0; 100], n);
     assert!(run.is_ok(), "{run:?}");
     room.assert_as_lent(0..lowest_stack_word(0), file);
     room.assert_as_lent(USER.end..WORDS, file);
@@ -143,9 +143,10 @@ fn the_file_that_replaces_a_vector_is_refused_and_would_show_an_answer() {
         room.lent[0x2000] = answer.into();
         assert_eq!(room.start(&file, 0xFDFF), Err(Error::User));
 
-        let started = lc3::start(&file, &mut room.memory, Mode::User, 0xFDFF).expect("accepted");
+        let started =
+            fanthrig::start(&file, &mut room.memory, Mode::User, 0xFDFF).expect("accepted");
         let mut output = [0; 8];
-        let run = lc3::run(started.record, &mut room.memory, Keys::NONE, &mut output, 100);
+        let run = fanthrig::run(started.record, &mut room.memory, Keys::NONE, &mut output, 100);
         let run = run.expect("accepted");
         assert_eq!((run.stop, run.shown, output[0]), (Stop::Halted, 1, answer));
     }

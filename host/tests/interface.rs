@@ -1,7 +1,7 @@
 //! That header, library and shared library have one version and the wrapper the header's constants,
 //! and that every refusal and stop has its number and a text of its own.
 
-use lc3::{ffi, Error, Mode, Stop};
+use fanthrig::{ffi, Error, Mode, Stop};
 use std::collections::{BTreeMap, HashSet};
 use std::env;
 use std::fs;
@@ -21,7 +21,7 @@ fn number(text: &str) -> u64 {
 
 /// The constants of the header: what it defines with a value, and its enumerators.
 fn of_the_header() -> BTreeMap<String, u64> {
-    let path = Path::new(env!("CARGO_MANIFEST_DIR")).join("../include/lc3.h");
+    let path = Path::new(env!("CARGO_MANIFEST_DIR")).join("../include/fanthrig/lc3.h");
     let header = fs::read_to_string(path).expect("the header");
     let mut constants = BTreeMap::new();
     let mut next = 0;
@@ -76,11 +76,11 @@ fn the_constants_are_those_of_the_header() {
 #[test]
 fn header_library_and_shared_library_have_one_version() {
     let version = of_the_header()["LC3_VERSION"];
-    assert_eq!(u64::from(lc3::version()), version);
+    assert_eq!(u64::from(fanthrig::version()), version);
     // The name by which hosts ask for the shared library stands in its table of strings.
-    let folder = env::var("LC3_LIB_DIR").unwrap_or_else(|_| String::from("../build"));
-    let shared = Path::new(env!("CARGO_MANIFEST_DIR")).join(folder).join("liblc3.so");
-    let name = format!("liblc3.so.{version}");
+    let folder = env::var("FANTHRIG_LIB_DIR").unwrap_or_else(|_| String::from("../build"));
+    let shared = Path::new(env!("CARGO_MANIFEST_DIR")).join(folder).join("libfanthrig.so");
+    let name = format!("libfanthrig.so.{version}");
     assert_eq!(fs::read_link(&shared).expect("a link"), Path::new(&name));
     let bytes = fs::read(shared).expect("the shared library");
     let string = format!("\0{name}\0");
@@ -112,8 +112,8 @@ fn every_stop_has_its_number_and_text() {
 
 #[test]
 fn a_machine_is_halted_exactly_if_its_clock_is_disabled() {
-    let mut memory = lc3::memory();
-    let started = lc3::start(&[0x30, 0x00], &mut memory, Mode::User, 0xFDFF);
+    let mut memory = fanthrig::memory();
+    let started = fanthrig::start(&[0x30, 0x00], &mut memory, Mode::User, 0xFDFF);
     let mut record = started.expect("accepted").record;
     assert!(!record.is_halted());
     record.mcr = 0;

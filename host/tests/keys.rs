@@ -1,7 +1,7 @@
 //! Key lists that are refused: every list of up to five times near the clock, and the entry that
 //! the library names.
 
-use lc3::{Error, Keys, Memory, Mode, Record, Stop};
+use fanthrig::{Error, Keys, Memory, Mode, Record, Stop};
 
 const CLOCK: u64 = 2;
 
@@ -35,12 +35,12 @@ fn for_lists(mut check: impl FnMut(&[u64])) {
 
 /// A machine at x3000 with nothing loaded.
 fn start(memory: &mut Memory) -> Record {
-    lc3::start(&[0x30, 0x00], memory, Mode::User, 0xFDFF).expect("accepted").record
+    fanthrig::start(&[0x30, 0x00], memory, Mode::User, 0xFDFF).expect("accepted").record
 }
 
 #[test]
 fn the_first_entry_at_fault_is_named_in_every_list() {
-    let mut memory = lc3::memory();
+    let mut memory = fanthrig::memory();
     // A halted machine, so that an accepted call alters nothing.
     let mut record = start(&mut memory);
     (record.clock, record.mcr) = (CLOCK, 0);
@@ -48,9 +48,9 @@ fn the_first_entry_at_fault_is_named_in_every_list() {
     for_lists(|times| {
         let bytes = vec![b'a'; times.len()];
         let keys = Keys { times, bytes: &bytes };
-        let run = lc3::run(record, &mut memory, keys, &mut [], 1);
+        let run = fanthrig::run(record, &mut memory, keys, &mut [], 1);
         let mut stepped = record;
-        let step = lc3::step(&mut stepped, &mut memory, keys, &mut []);
+        let step = fanthrig::step(&mut stepped, &mut memory, keys, &mut []);
         let refusal = expected(times);
         let wanted = refusal.map_or(Ok(Stop::Halted), Err);
         assert_eq!(run.map(|run| run.stop), wanted, "{times:?}");
@@ -68,7 +68,7 @@ fn the_first_entry_at_fault_is_named_in_every_list() {
 #[test]
 fn an_entry_far_into_a_list_is_named() {
     const KEYS: usize = 10_000;
-    let mut memory = lc3::memory();
+    let mut memory = fanthrig::memory();
     let mut record = start(&mut memory);
     record.clock = CLOCK;
     let bytes = vec![0; KEYS];
@@ -80,7 +80,7 @@ fn an_entry_far_into_a_list_is_named() {
         ] {
             times[at] = time;
             let keys = Keys { times: &times, bytes: &bytes };
-            let refused = lc3::run(record, &mut memory, keys, &mut [], 1);
+            let refused = fanthrig::run(record, &mut memory, keys, &mut [], 1);
             assert_eq!(refused, Err(refusal), "at {at}");
         }
     }

@@ -4,7 +4,7 @@
 mod reference;
 mod support;
 
-use lc3::ffi::{self, Counted};
+use fanthrig::ffi::{self, Counted};
 use std::collections::HashSet;
 use support::Rng;
 
@@ -107,37 +107,37 @@ fn assembled(line: &str) -> u16 {
 
 #[test]
 fn the_example_of_the_request() {
-    assert_eq!(lc3::line_string(0x14E7), "ADD R2, R3, #7\n");
-    assert_eq!(lc3::line_string(0x0005), ".FILL x0005\n");
+    assert_eq!(fanthrig::line_string(0x14E7), "ADD R2, R3, #7\n");
+    assert_eq!(fanthrig::line_string(0x0005), ".FILL x0005\n");
 }
 
 #[test]
 fn every_line_is_the_formatters() {
     for word in 0..=u16::MAX {
-        assert_eq!(lc3::line_string(word), formatted(word) + "\n", "x{word:04X}");
+        assert_eq!(fanthrig::line_string(word), formatted(word) + "\n", "x{word:04X}");
     }
 }
 
 #[test]
 fn every_length_is_the_formatters() {
     for word in 0..=u16::MAX {
-        assert_eq!(lc3::line_length(word), formatted(word).len() + 1, "x{word:04X}");
+        assert_eq!(fanthrig::line_length(word), formatted(word).len() + 1, "x{word:04X}");
     }
 }
 
 #[test]
 fn all_lines_are_distinct_and_the_longest_has_17_bytes() {
-    let lines: HashSet<String> = (0..=u16::MAX).map(lc3::line_string).collect();
+    let lines: HashSet<String> = (0..=u16::MAX).map(fanthrig::line_string).collect();
     assert_eq!(lines.len(), 65_536);
-    assert_eq!(lines.iter().map(String::len).max(), Some(lc3::LINE_LIMIT));
-    assert_eq!(lc3::LINE_LIMIT, 17);
+    assert_eq!(lines.iter().map(String::len).max(), Some(fanthrig::LINE_LIMIT));
+    assert_eq!(fanthrig::LINE_LIMIT, 17);
 }
 
 #[test]
 fn every_line_but_data_assembles_to_its_word() {
     let mut instructions = 0;
     for word in 0..=u16::MAX {
-        let line = lc3::line_string(word);
+        let line = fanthrig::line_string(word);
         if !line.starts_with(".FILL") {
             assert_eq!(assembled(line.trim_end()), word, "{line}");
             instructions += 1;
@@ -214,7 +214,7 @@ fn all_words() -> Vec<u16> {
 
 #[test]
 fn a_page_of_the_whole_memory_is_every_line() {
-    let counted = check_page(&all_words(), 0, 1 << 16, (1 << 16) * lc3::LINE_LIMIT);
+    let counted = check_page(&all_words(), 0, 1 << 16, (1 << 16) * fanthrig::LINE_LIMIT);
     let lines: usize = (0..=u16::MAX).map(|word| formatted(word).len() + 1).sum();
     assert_eq!(counted, Counted { count: lines as u64, refusal: 0 });
 }
@@ -244,7 +244,7 @@ fn random_pages_of_random_memories() {
             let count = rng.below(left.min(300) + 1) as usize;
             let room = rng.below(count as u64 * 17 + 20) as usize;
             check_page(&memory, first, count, room);
-            check_page(&memory, first, count, count * lc3::LINE_LIMIT);
+            check_page(&memory, first, count, count * fanthrig::LINE_LIMIT);
         }
     }
 }

@@ -1,7 +1,7 @@
 //! docs/monitor.lst against the monitor's words, and the comments of the sources against both; the
 //! words of the example `turns` against their comments.
 
-use lc3::{Memory, MONITOR_WORDS, VECTOR_WORDS};
+use fanthrig::{Memory, MONITOR_WORDS, VECTOR_WORDS};
 use std::collections::HashMap;
 use std::fs;
 use std::path::Path;
@@ -52,8 +52,8 @@ fn listing() -> Vec<Line> {
 }
 
 fn monitor() -> Box<Memory> {
-    let mut memory = lc3::memory();
-    lc3::install_monitor(&mut memory);
+    let mut memory = fanthrig::memory();
+    fanthrig::install_monitor(&mut memory);
     memory
 }
 
@@ -87,7 +87,7 @@ fn assert_statements(lines: &[Line]) {
     for line in lines {
         let wanted = match line.statement.strip_prefix(".FILL ") {
             Some(_) => format!(".FILL x{:04X}", line.word),
-            None => lc3::line_string(line.word).trim_end().to_string(),
+            None => fanthrig::line_string(line.word).trim_end().to_string(),
         };
         assert_eq!(with_offset(line, &labels), wanted, "x{:04X}", line.address);
     }
@@ -111,7 +111,7 @@ fn every_vector_leads_to_a_label() {
     let address = |label: &str| {
         lines.iter().find(|line| line.label == label).expect("a listed label").address
     };
-    let ours = lc3::Routines::of_monitor();
+    let ours = fanthrig::Routines::of_monitor();
     let services = [ours.getc, ours.out, ours.puts, ours.input, ours.putsp, ours.halt];
     assert_eq!(services, ["GETC", "OUT", "PUTS", "IN", "PUTSP", "HALT"].map(address));
     let others = [ours.trap, ours.exception, ours.interrupt];

@@ -3,8 +3,8 @@
 mod reference;
 mod support;
 
-use lc3::ffi::{Answer, LoggedAnswer};
-use lc3::{logged_steps, Keys, LoggedStep, Memory, Mode, Reason, Record, Stop};
+use fanthrig::ffi::{Answer, LoggedAnswer};
+use fanthrig::{logged_steps, Keys, LoggedStep, Memory, Mode, Reason, Record, Stop};
 use reference::machine::{self, Event, CAUSES, LOG_FULL};
 use support::cases::Case;
 use support::{assert_same_buffers, for_cases, Buffers, Lent};
@@ -20,7 +20,7 @@ fn without_log(answer: &LoggedAnswer) -> Answer {
 
 /// A machine at x3000: that of a file with nothing else in it.
 fn at_x3000(memory: &mut Memory, mode: Mode) -> Record {
-    lc3::start(&[0x30, 0x00], memory, mode, 0xFDFF).expect("accepted").record
+    fanthrig::start(&[0x30, 0x00], memory, mode, 0xFDFF).expect("accepted").record
 }
 
 /// The buffers of the library and of the reference, with a log for each.
@@ -117,7 +117,7 @@ fn random_logged_runs_agree_with_the_reference_and_with_the_run() {
 /// before it begins; TRAP x40 and its way back, the illegal opcode, RTI in User mode and a fetch
 /// below x3000 lead to routines that go on; the last routine halts.
 fn every_reason() -> (Record, Box<Memory>) {
-    let mut memory = lc3::memory();
+    let mut memory = fanthrig::memory();
     memory[0x0040] = 0x0200; // TRAP x40: RTI at x0200
     memory[0x0101] = 0x0210; // the illegal opcode: to x3002
     memory[0x0100] = 0x0220; // RTI in User mode: to x1000, which is privileged
@@ -191,7 +191,7 @@ fn every_log_length_is_filled_from_the_start_and_no_further() {
             let mut memory = words.clone();
             log.set(&vec![LENT_WORD; length]);
             let (m, l) = (&mut memory, log.get_mut());
-            let answer = lc3::run_logged(record, m, Keys::NONE, &mut [], l, n as u64).unwrap();
+            let answer = fanthrig::run_logged(record, m, Keys::NONE, &mut [], l, n as u64).unwrap();
             let steps = n.min(length / 3).min(STEPS.len());
             let mut expected = words_of(&STEPS[..steps]);
             assert_eq!(answer.logged, expected.len());
@@ -206,13 +206,13 @@ fn every_log_length_is_filled_from_the_start_and_no_further() {
 
 #[test]
 fn the_stops_come_in_their_order() {
-    let mut memory = lc3::memory();
+    let mut memory = fanthrig::memory();
     memory[0x3000] = 0xB001; // STI R0, x3002
     memory[0x3002] = 0xFE06; // DDR
     let record = at_x3000(&mut memory, Mode::Supervisor);
     let halted = Record { mcr: 0, ..record };
     let mut stop = |record, output: &mut [u8], log: &mut [u16], n| {
-        lc3::run_logged(record, &mut memory, Keys::NONE, output, log, n).unwrap().run.stop
+        fanthrig::run_logged(record, &mut memory, Keys::NONE, output, log, n).unwrap().run.stop
     };
     // Done comes first, with everything else due.
     assert_eq!(stop(halted, &mut [], &mut [], 0), Stop::Done);
@@ -227,7 +227,7 @@ fn the_stops_come_in_their_order() {
 
 #[test]
 fn the_word_logged_is_the_one_fetched() {
-    let mut memory = lc3::memory();
+    let mut memory = fanthrig::memory();
     memory[0x0102] = 0x0400;
     memory[0x0180] = 0x0500;
     memory[0x3000..0x3003].copy_from_slice(&[
@@ -238,7 +238,7 @@ fn the_word_logged_is_the_one_fetched() {
     let record = at_x3000(&mut memory, Mode::User);
     let mut logged = |record: Record, keys: Keys| {
         let mut log = [0; 3];
-        lc3::run_logged(record, &mut memory, keys, &mut [], &mut log, 1).unwrap();
+        fanthrig::run_logged(record, &mut memory, keys, &mut [], &mut log, 1).unwrap();
         log
     };
     // The word before the step, also where the step stores another there.
@@ -291,7 +291,8 @@ fn the_iterator_tells_each_step_with_its_line() {
     let (record, mut memory) = every_reason();
     let mut log = vec![0; 3 * STEPS.len()];
     let n = STEPS.len() as u64;
-    let answer = lc3::run_logged(record, &mut memory, Keys::NONE, &mut [], &mut log, n).unwrap();
+    let answer =
+        fanthrig::run_logged(record, &mut memory, Keys::NONE, &mut [], &mut log, n).unwrap();
     let steps: Vec<LoggedStep> = logged_steps(&log[..answer.logged]).collect();
     assert_eq!(steps.len(), STEPS.len());
     for (step, (pc, word, reason)) in steps.iter().zip(STEPS) {

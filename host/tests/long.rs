@@ -6,8 +6,8 @@
 mod reference;
 mod support;
 
-use lc3::ffi::Answer;
-use lc3::{logged_steps, STEP_LIMIT, WORDS};
+use fanthrig::ffi::Answer;
+use fanthrig::{logged_steps, STEP_LIMIT, WORDS};
 use reference::machine::CAUSES;
 use std::collections::HashMap;
 use std::time::Instant;
@@ -64,7 +64,7 @@ impl Tally {
     /// Counts what a sitting meets, by a logged run.
     fn count(&mut self, buffers: &mut Buffers, case: &Case, template: &[u16]) {
         let mut log = Lent::new(0);
-        log.set(&vec![0; lc3::LOG_WORDS * case.n as usize]);
+        log.set(&vec![0; fanthrig::LOG_WORDS * case.n as usize]);
         buffers.set(case, template);
         let answer = buffers.run_logged(case.record, &mut log, case.n);
         self.sittings += 1;

@@ -4,8 +4,8 @@
 mod reference;
 mod support;
 
-use lc3::{Keys, Memory, Mode, Record, Routines, Stop};
-use lc3::{MONITOR_WORDS, VECTOR_WORDS, WORDS};
+use fanthrig::{Keys, Memory, Mode, Record, Routines, Stop};
+use fanthrig::{MONITOR_WORDS, VECTOR_WORDS, WORDS};
 use reference::machine::{self, Call};
 use std::ops::{Range, RangeInclusive};
 use support::{Lent, Rng};
@@ -57,11 +57,12 @@ impl Caller {
             Mode::User => rng.between(0x3000, 0xFDFE),
             Mode::Supervisor => rng.between(0x0400, 0x23FF),
         } as u16;
-        let mut memory = lc3::memory();
+        let mut memory = fanthrig::memory();
         memory.fill_with(|| rng.word());
-        lc3::install_monitor(&mut memory);
+        fanthrig::install_monitor(&mut memory);
         let file = [pc.to_be_bytes(), word.to_be_bytes()].concat();
-        let mut record = lc3::start(&file, &mut memory, mode, rng.word()).expect("accepted").record;
+        let mut record =
+            fanthrig::start(&file, &mut memory, mode, rng.word()).expect("accepted").record;
         for number in [0, 1, 2, 3, 4, 5, 7] {
             record.regs[number] = rng.word();
         }
@@ -122,7 +123,7 @@ impl Caller {
         let mut last_shown = None;
         while stop == Stop::Done && (steps == 0 || record.pc != self.next()) {
             let (left, free) = (self.keys().after(keys), &mut output[shown..]);
-            let report = lc3::step(&mut record, &mut memory, left, free).expect("accepted");
+            let report = fanthrig::step(&mut record, &mut memory, left, free).expect("accepted");
             steps += report.steps;
             keys += report.keys;
             shown += report.shown;
@@ -130,7 +131,7 @@ impl Caller {
             if report.shown > 0 {
                 last_shown = Some(steps);
             }
-            assert!(steps < lc3::STEP_LIMIT, "the call does not end");
+            assert!(steps < fanthrig::STEP_LIMIT, "the call does not end");
         }
         output.truncate(shown);
         let called = Called { record, memory, shown: output, steps, last_shown, stop };
@@ -143,7 +144,7 @@ impl Caller {
         let n = called.steps + u64::from(called.stop != Stop::Done);
         let (mut ours, mut theirs) = (self.memory.clone(), self.memory.clone());
         let (mut our_output, mut their_output) = (vec![0; room], vec![0; room]);
-        let run = lc3::run(self.record, &mut ours, self.keys(), &mut our_output, n);
+        let run = fanthrig::run(self.record, &mut ours, self.keys(), &mut our_output, n);
         let answer = machine::run(
             Call {
                 record: self.record,
@@ -234,7 +235,8 @@ impl Called {
     fn assert_halts_again(&self) {
         let mut memory = self.memory.clone();
         let record = Record { mcr: 0x8000, ..self.record };
-        let run = lc3::run(record, &mut memory, Keys::NONE, &mut [0; 8], 50).expect("accepted");
+        let run =
+            fanthrig::run(record, &mut memory, Keys::NONE, &mut [0; 8], 50).expect("accepted");
         assert_eq!((run.stop, run.shown, run.record.regs), (Stop::Halted, 0, self.record.regs));
         assert!(memory == self.memory, "memory");
     }
@@ -268,7 +270,7 @@ fn the_generator_follows_the_rule() {
     let mut rng = Rng::of_case(40, 0);
     for _ in 0..100 {
         let routines = random_routines(&mut rng);
-        let words = lc3::vectors(routines);
+        let words = fanthrig::vectors(routines);
         for (at, word) in words.into_iter().enumerate() {
             assert_eq!(word, vector_word(&routines, at), "x{at:04X}");
         }
@@ -285,10 +287,11 @@ fn vectors_are_written_to_the_start_or_not_at_all() {
         lent.set(&wanted);
         let words = lent.get_mut();
         // SAFETY: pointer and length are of one slice.
-        let refusal = unsafe { lc3::ffi::lc3_vectors(routines, words.as_mut_ptr(), words.len()) };
+        let refusal =
+            unsafe { fanthrig::ffi::lc3_vectors(routines, words.as_mut_ptr(), words.len()) };
         assert_eq!(refusal, if length < VECTOR_WORDS { 16 } else { 0 });
         if length >= VECTOR_WORDS {
-            wanted[..VECTOR_WORDS].copy_from_slice(&lc3::vectors(routines));
+            wanted[..VECTOR_WORDS].copy_from_slice(&fanthrig::vectors(routines));
         }
         assert!(lent.get() == wanted && lent.guards_intact(), "{length} words");
     }
@@ -300,9 +303,9 @@ fn the_monitor_is_its_vector_words_and_routines() {
     let before: Vec<u16> = (0..WORDS).map(|_| rng.word()).collect();
     let mut lent = Lent::new(0x6A6A);
     lent.set(&before);
-    lc3::install_monitor(lent.get_array().expect("a whole memory"));
+    fanthrig::install_monitor(lent.get_array().expect("a whole memory"));
     assert!(lent.guards_intact());
-    assert_eq!(lent.get()[..VECTOR_WORDS], lc3::vectors(Routines::of_monitor()));
+    assert_eq!(lent.get()[..VECTOR_WORDS], fanthrig::vectors(Routines::of_monitor()));
     assert_eq!(lent.get()[MONITOR_WORDS..], before[MONITOR_WORDS..]);
     assert!(MONITOR_WORDS <= *STACK.start());
 }
@@ -314,8 +317,8 @@ fn other_sizes_of_memory_are_refused() {
         lent.set(&vec![0x1234; length]);
         let words = lent.get_mut();
         // SAFETY: pointer and length are of one slice.
-        let refusal = unsafe { lc3::ffi::lc3_monitor(words.as_mut_ptr(), words.len()) };
-        assert_eq!(refusal, lc3::ffi::LC3_REFUSED_MEMORY);
+        let refusal = unsafe { fanthrig::ffi::lc3_monitor(words.as_mut_ptr(), words.len()) };
+        assert_eq!(refusal, fanthrig::ffi::LC3_REFUSED_MEMORY);
         assert!(lent.get().iter().all(|&word| word == 0x1234) && lent.guards_intact());
     }
 }
@@ -348,7 +351,8 @@ fn out_waits_for_a_free_byte() {
         let mut full = caller.call(0);
         assert_eq!((full.stop, full.shown.len()), (Stop::OutputFull, 0));
         let mut output = [0];
-        let run = lc3::run(full.record, &mut full.memory, Keys::NONE, &mut output, 32 - full.steps);
+        let run =
+            fanthrig::run(full.record, &mut full.memory, Keys::NONE, &mut output, 32 - full.steps);
         assert_eq!(run.map(|run| run.shown), Ok(1));
         assert_eq!(u16::from(output[0]), caller.record.regs[0] & 0x00FF);
     }
@@ -550,7 +554,8 @@ fn an_interrupt_returns_at_once() {
         caller.record =
             Record { psr: 0x8002, kbsr, timer_status, timer_interval, timer_count, busy, ..before };
         let mut memory = caller.memory.clone();
-        let run = lc3::run(caller.record, &mut memory, Keys::NONE, &mut [], 2).expect("accepted");
+        let run =
+            fanthrig::run(caller.record, &mut memory, Keys::NONE, &mut [], 2).expect("accepted");
         let (saved_usp, clock) = (caller.record.regs[6], caller.record.clock + 2);
         assert_eq!(run.record, Record { saved_usp, clock, ..caller.record });
         assert_only_the_stack_changed(&caller.memory, &memory);

@@ -5,8 +5,8 @@
 mod reference;
 mod support;
 
-use lc3::ffi::{self, Counted, Started};
-use lc3::{Keys, Memory, Mode, Record, Stop, STEP_LIMIT, WORDS};
+use fanthrig::ffi::{self, Counted, Started};
+use fanthrig::{Keys, Memory, Mode, Record, Stop, STEP_LIMIT, WORDS};
 use reference::machine;
 use std::collections::BTreeMap;
 use std::fs;
@@ -181,7 +181,7 @@ fn random_words(rng: &mut Rng, count: usize) -> Vec<u16> {
 }
 
 fn random_memory(rng: &mut Rng) -> Box<Memory> {
-    let mut memory = lc3::memory();
+    let mut memory = fanthrig::memory();
     memory.fill_with(|| rng.word());
     memory
 }
@@ -265,7 +265,7 @@ fn the_end_of_memory() {
         }
     }
     let whole = check_save(&memory, 0, WORDS, 131_074).expect("a whole memory fits a file");
-    assert_eq!(check_start(&whole, &lc3::memory()[..]).words, 65_536);
+    assert_eq!(check_start(&whole, &fanthrig::memory()[..]).words, 65_536);
 }
 
 #[test]
@@ -308,12 +308,12 @@ fn random_files() {
         }
         // What was loaded is written again, from the memory that it was loaded into.
         let mut lent = memory.clone();
-        let started = lc3::start(&file, &mut lent, Mode::User, rng.word()).expect("accepted");
+        let started = fanthrig::start(&file, &mut lent, Mode::User, rng.word()).expect("accepted");
         let again = check_save(&lent[..], started.record.pc, started.words, file.len() + 3);
         assert_eq!(again, Some(file));
         // And no run is refused for what it was started with.
         let halted = Record { mcr: 0, ..started.record };
-        let run = lc3::run(halted, &mut lent, Keys::NONE, &mut [], STEP_LIMIT);
+        let run = fanthrig::run(halted, &mut lent, Keys::NONE, &mut [], STEP_LIMIT);
         assert_eq!(run.map(|run| run.stop), Ok(Stop::Halted));
     }
 }
@@ -432,7 +432,8 @@ fn random_ranges() {
         let mut wanted = other.clone();
         let range = usize::from(origin)..usize::from(origin) + words;
         wanted[range.clone()].copy_from_slice(&memory[range]);
-        let started = lc3::start(&file, &mut other, Mode::Supervisor, 0xFDFF).expect("accepted");
+        let started =
+            fanthrig::start(&file, &mut other, Mode::Supervisor, 0xFDFF).expect("accepted");
         assert_eq!((started.record.pc, started.words), (origin, words));
         assert!(other == wanted, "x{origin:04X}, {words} words");
     }
@@ -446,9 +447,9 @@ fn records_are_fresh_at_every_origin_and_stack() {
         for (mode, user) in [(Mode::Supervisor, false), (Mode::User, true)] {
             let stack = origin.wrapping_mul(0x9E37).rotate_left(5);
             // A file of two bytes loads nothing.
-            let started = lc3::start(&origin.to_be_bytes(), &mut memory, mode, stack);
+            let started = fanthrig::start(&origin.to_be_bytes(), &mut memory, mode, stack);
             let record = machine::fresh(origin, user, stack);
-            assert_eq!(started, Ok(lc3::Started { record, words: 0 }));
+            assert_eq!(started, Ok(fanthrig::Started { record, words: 0 }));
         }
     }
     assert!(memory == before);
@@ -457,11 +458,12 @@ fn records_are_fresh_at_every_origin_and_stack() {
 #[test]
 fn a_started_program_runs_to_the_limit() {
     for mode in [Mode::Supervisor, Mode::User] {
-        let mut memory = lc3::memory();
+        let mut memory = fanthrig::memory();
         // At x3000, BRnzp #-1.
-        let started = lc3::start(&[0x30, 0x00, 0x0F, 0xFF], &mut memory, mode, 0xFDFF);
+        let started = fanthrig::start(&[0x30, 0x00, 0x0F, 0xFF], &mut memory, mode, 0xFDFF);
         let record = started.expect("accepted").record;
-        let run = lc3::run(record, &mut memory, Keys::NONE, &mut [], STEP_LIMIT).expect("accepted");
+        let run =
+            fanthrig::run(record, &mut memory, Keys::NONE, &mut [], STEP_LIMIT).expect("accepted");
         assert_eq!((run.stop, run.steps, run.record.pc), (Stop::Done, STEP_LIMIT, 0x3000));
     }
 }
@@ -471,8 +473,8 @@ fn of_several_files_the_last_one_runs() {
     let answers = [0x20, 0x00, 0x12, 0x34];
     let candidate = [0x30, 0x00, 0x10, 0x21];
     for files in [[&answers, &candidate], [&candidate, &answers]] {
-        let mut memory = lc3::memory();
-        let mut start = |file| lc3::start(file, &mut memory, Mode::Supervisor, 0xFDFF);
+        let mut memory = fanthrig::memory();
+        let mut start = |file| fanthrig::start(file, &mut memory, Mode::Supervisor, 0xFDFF);
         let [first, last] = files.map(|file| start(file).expect("accepted").record.pc);
         assert_eq!([first, last], files.map(|file| u16::from_be_bytes([file[0], file[1]])));
         assert_eq!((memory[0x2000], memory[0x3000]), (0x1234, 0x1021));
@@ -497,8 +499,8 @@ fn the_demonstration_has_the_words_of_its_listings() {
         let listing = fs::read_to_string(data.join(name).with_extension("lst")).expect("a listing");
         let listed = listed(&listing);
         assert_eq!(listed.len(), words, "{name}");
-        let (mut memory, mut wanted) = (lc3::memory(), lc3::memory());
-        lc3::start(&file, &mut memory, Mode::User, 0xFDFF).expect("an accepted file");
+        let (mut memory, mut wanted) = (fanthrig::memory(), fanthrig::memory());
+        fanthrig::start(&file, &mut memory, Mode::User, 0xFDFF).expect("an accepted file");
         for (address, word) in listed {
             wanted[address] = word;
         }

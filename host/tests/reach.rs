@@ -4,8 +4,8 @@
 mod reference;
 mod support;
 
-use lc3::ffi::{Answer, Report};
-use lc3::{Error, Fate, Keys, Mode, Record, Replacing, Taking, CLOCK_LIMIT, STEP_LIMIT};
+use fanthrig::ffi::{Answer, Report};
+use fanthrig::{Error, Fate, Keys, Mode, Record, Replacing, Taking, CLOCK_LIMIT, STEP_LIMIT};
 use reference::bus::{self, Use, Used};
 use reference::machine::{self, OUTPUT_FULL};
 use std::collections::BTreeMap;
@@ -154,11 +154,11 @@ fn random_words_meet_the_fate_of_the_reference_and_the_run_is_the_run() {
         plain.set(case, template);
         let output = plain.output.get_mut();
         let Some(memory) = plain.memory.get_array() else { return };
-        let expected = lc3::run(case.record, memory, keys, output, case.n);
+        let expected = fanthrig::run(case.record, memory, keys, output, case.n);
         ours.set(case, template);
         let output = ours.output.get_mut();
         let memory = ours.memory.get_array().expect("a whole memory");
-        let reach = lc3::reach(case.record, memory, keys, output, case.n, address);
+        let reach = fanthrig::reach(case.record, memory, keys, output, case.n, address);
         assert_eq!(reach.map(|reach| reach.run), expected);
         ours.check(case);
         assert_same_buffers(&ours, &plain);
@@ -334,7 +334,7 @@ fn replaced(step: u64, by: Replacing) -> Fate {
 fn expect(program: &Program, keys: Keys, n: u64, fates: &[(u16, Fate)]) {
     for &(address, fate) in fates {
         let Program { record, mut memory, mut output, .. } = program.clone();
-        let reach = lc3::reach(record, &mut memory, keys, &mut output, n, address);
+        let reach = fanthrig::reach(record, &mut memory, keys, &mut output, n, address);
         assert_eq!(reach.expect("accepted").fate, fate, "the word at x{address:04X}");
     }
 }
@@ -532,7 +532,7 @@ fn all_steps_asked_for_are_accepted_or_none_is_made() {
     let mut last = supervisor(&[0x3002], |record| record.clock = CLOCK_LIMIT - 1); // ST R0, x3003
     last.record.regs[0] = 7;
     let (record, lent) = (last.record, last.memory.clone());
-    let mut reach = |n| lc3::reach(record, &mut last.memory, Keys::NONE, &mut [], n, 0x3003);
+    let mut reach = |n| fanthrig::reach(record, &mut last.memory, Keys::NONE, &mut [], n, 0x3003);
     assert_eq!(reach(2), Err(Error::Steps));
     assert_eq!(reach(STEP_LIMIT + 1), Err(Error::Steps));
     assert!(last.memory == lent, "a refused run altered memory");

@@ -3,8 +3,8 @@
 mod reference;
 mod support;
 
-use lc3::ffi::{Answer, Report};
-use lc3::{Error, Keys, Record};
+use fanthrig::ffi::{Answer, Report};
+use fanthrig::{Error, Keys, Record};
 use reference::machine::{self, Cause, Entry, Event, CAUSES};
 use support::cases::{self, accepted, Case, Family};
 use support::{assert_same_buffers, for_cases, for_cases_by, joined, Buffers, Rng};
@@ -105,7 +105,7 @@ fn the_wrapper_answers_what_the_library_answers() {
         let Some(memory) = safe.memory.get_array() else {
             return assert_eq!(expected.refusal, 11);
         };
-        match lc3::run(case.record, memory, keys, output, case.n) {
+        match fanthrig::run(case.record, memory, keys, output, case.n) {
             Err(refusal) => assert_eq!(refusal, wrapped(expected.refusal, expected.index)),
             Ok(run) => {
                 assert_eq!((run.record, run.steps), (expected.record, expected.steps));
@@ -131,7 +131,7 @@ fn the_wrapper_steps_as_the_library_does() {
         let Some(memory) = safe.memory.get_array() else {
             return assert_eq!(expected.refusal, 11);
         };
-        match lc3::step(&mut record, memory, keys, output) {
+        match fanthrig::step(&mut record, memory, keys, output) {
             Err(refusal) => assert_eq!(refusal, wrapped(expected.refusal, expected.index)),
             Ok(report) => {
                 assert_eq!((report.steps, report.keys as u64), (expected.steps, expected.keys));

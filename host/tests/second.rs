@@ -4,8 +4,8 @@
 mod reference;
 mod support;
 
-use lc3::ffi::{Answer, Report};
-use lc3::{Keys, Memory, Mode, Record};
+use fanthrig::ffi::{Answer, Report};
+use fanthrig::{Keys, Memory, Mode, Record};
 use reference::machine::{self, Difference, Edition, DIFFERENCES};
 use support::cases::Case;
 use support::{assert_same_buffers, for_cases, Buffers};
@@ -105,17 +105,18 @@ fn both(
     at: u16,
     holds: u16,
 ) -> [(Record, Box<Memory>); 2] {
-    let mut record = lc3::start(&[0x30, 0x00], &mut lc3::memory(), mode, 0xFDFF).unwrap().record;
+    let mut record =
+        fanthrig::start(&[0x30, 0x00], &mut fanthrig::memory(), mode, 0xFDFF).unwrap().record;
     (record.regs[1], record.regs[7]) = (r1, r7);
     let memory = || {
-        let mut memory = lc3::memory();
+        let mut memory = fanthrig::memory();
         memory[0x3000] = word;
         memory[usize::from(at)] = holds;
         memory
     };
     let (mut second, mut third) = (memory(), memory());
-    let by_second = lc3::run_second(record, &mut second, Keys::NONE, &mut [0], 1).unwrap();
-    let by_third = lc3::run(record, &mut third, Keys::NONE, &mut [0], 1).unwrap();
+    let by_second = fanthrig::run_second(record, &mut second, Keys::NONE, &mut [0], 1).unwrap();
+    let by_third = fanthrig::run(record, &mut third, Keys::NONE, &mut [0], 1).unwrap();
     [(by_second.record, second), (by_third.record, third)]
 }
 

@@ -7,8 +7,8 @@
 mod reference;
 mod support;
 
-use lc3::ffi::LoggedAnswer;
-use lc3::{logged_steps, LoggedStep, Reason, Record};
+use fanthrig::ffi::LoggedAnswer;
+use fanthrig::{logged_steps, LoggedStep, Reason, Record};
 use reference::machine;
 use std::ops::Range;
 use support::candidates::{candidate, Candidate};

@@ -24,8 +24,8 @@
 mod reference;
 mod support;
 
-use lc3::ffi::Answer;
-use lc3::{Record, WORDS};
+use fanthrig::ffi::Answer;
+use fanthrig::{Record, WORDS};
 use reference::machine::{self, Edition, Event};
 use std::fmt::LowerHex;
 use std::path::Path;

@@ -4,7 +4,7 @@
 mod reference;
 mod support;
 
-use lc3::{Mode, Record, Stop};
+use fanthrig::{Mode, Record, Stop};
 use support::program::{Program, LOAD_TIR, LOAD_TSR, START, STORE_DDR, STORE_TIR, STORE_TSR};
 
 const READY: u16 = 0x8000;

@@ -2,8 +2,8 @@
 
 mod reference;
 
-use lc3::ffi::{self, Written};
-use lc3::{Error, Instruction};
+use fanthrig::ffi::{self, Written};
+use fanthrig::{Error, Instruction};
 use reference::figure::{self, FIGURE};
 
 /// An instruction of the C interface.
@@ -109,7 +109,7 @@ fn every_unknown_kind_is_refused() {
 
 #[test]
 fn a_register_is_refused_before_a_value_and_a_value_before_a_mask() {
-    let refusal = |instruction| lc3::write(&instruction).unwrap_err();
+    let refusal = |instruction| fanthrig::write(&instruction).unwrap_err();
     let load = |dr, offset9| Instruction::Ld { dr, offset9 };
     assert_eq!(refusal(load(8, 256)), Error::Register);
     assert_eq!(refusal(load(7, 256)), Error::Value);
@@ -144,17 +144,17 @@ fn the_wrapper_names_the_fields_of_each_form() {
         (0xF0FE, Trap { vector: 0xFE }),
     ];
     for (word, instruction) in table {
-        assert_eq!(lc3::read(word), lc3::Reading { instruction, mask: 0 });
-        assert_eq!(lc3::write(&instruction), Ok(word));
+        assert_eq!(fanthrig::read(word), fanthrig::Reading { instruction, mask: 0 });
+        assert_eq!(fanthrig::write(&instruction), Ok(word));
     }
 }
 
 #[test]
 fn the_wrapper_gives_each_instruction_the_fields_of_its_word() {
     for word in 0..=u16::MAX {
-        let lc3::Reading { instruction, mask } = lc3::read(word);
+        let fanthrig::Reading { instruction, mask } = fanthrig::read(word);
         let reading = ffi::lc3_read(word);
         assert_eq!((ffi::Fields::from(instruction), mask), (reading.instruction, reading.mask));
-        assert_eq!(lc3::write(&instruction), Ok(ffi::lc3_write(reading.instruction).word));
+        assert_eq!(fanthrig::write(&instruction), Ok(ffi::lc3_write(reading.instruction).word));
     }
 }

@@ -1,6 +1,6 @@
 """Tests of the package: ``python3 -m unittest discover -s python/tests -t python``.
 
-The library is that of the source tree, unless ``LC3_LIBRARY`` names another.
+The library is that of the source tree, unless ``FANTHRIG_LIBRARY`` names another.
 """
 
 import os
@@ -8,4 +8,4 @@ from pathlib import Path
 
 ROOT = Path(__file__).resolve().parent.parent.parent
 
-os.environ.setdefault("LC3_LIBRARY", str(ROOT / "build" / "liblc3.so"))
+os.environ.setdefault("FANTHRIG_LIBRARY", str(ROOT / "build" / "libfanthrig.so"))

@@ -17,7 +17,7 @@ from pathlib import Path
 from typing import Any, NamedTuple
 from unittest import mock
 
-from lc3.command import main
+from fanthrig.command import main
 
 from . import ROOT
 from .support import object_file
@@ -38,7 +38,7 @@ UNTIL_Q = object_file(
     -ord("q") & 0xFFFF,
 )
 
-PYTHON = [sys.executable, "-m", "lc3"]
+PYTHON = [sys.executable, "-m", "fanthrig"]
 ENVIRONMENT = {**os.environ, "PYTHONPATH": str(ROOT / "python")}
 
 

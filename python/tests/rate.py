@@ -13,12 +13,12 @@ import ctypes
 import sys
 from time import perf_counter
 
-import lc3
-from lc3._library import LIBRARY
+import fanthrig
+from fanthrig._library import LIBRARY
 
 from .support import COUNTING, fresh, user
 
-STEPS, TURNS, LIMIT = 16 * lc3.MAX_STEPS, 61, 1.05
+STEPS, TURNS, LIMIT = 16 * fanthrig.MAX_STEPS, 61, 1.05
 SINGLE_STEPS, LEAST_SINGLE_STEPS_A_SECOND = 5000, 100_000
 
 
@@ -30,14 +30,16 @@ def direct() -> float:
     begun, left = perf_counter(), STEPS
     while left:
         lists = (empty, 0, empty, 0, empty, len(room))
-        answer = LIBRARY.lc3_run(record, address, len(memory), *lists, min(left, lc3.MAX_STEPS))
+        answer = LIBRARY.lc3_run(
+            record, address, len(memory), *lists, min(left, fanthrig.MAX_STEPS)
+        )
         record, left = answer.record, left - answer.steps
     return perf_counter() - begun
 
 
 def by_sitting() -> float:
     """The seconds that a sitting takes."""
-    sitting = lc3.Sitting(COUNTING)
+    sitting = fanthrig.Sitting(COUNTING)
     begun = perf_counter()
     sitting.run(STEPS)
     return perf_counter() - begun
@@ -45,7 +47,7 @@ def by_sitting() -> float:
 
 def by_single_steps() -> float:
     """The seconds that single steps of a sitting take."""
-    sitting = lc3.Sitting(COUNTING)
+    sitting = fanthrig.Sitting(COUNTING)
     begun = perf_counter()
     for _ in range(SINGLE_STEPS):
         sitting.step()

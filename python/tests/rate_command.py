@@ -18,9 +18,9 @@ from functools import partial
 from pathlib import Path
 from typing import Callable
 
-import lc3
-from lc3._library import LIBRARY
-from lc3.command.options import processors
+import fanthrig
+from fanthrig._library import LIBRARY
+from fanthrig.command.options import processors
 
 from . import ROOT
 from .command_support import ENVIRONMENT, HELLO, process
@@ -49,12 +49,12 @@ def alone(count: int) -> None:
     """As many machines, run by calls of ``lc3_run`` and nothing else."""
     for _ in range(count):
         memory, shown = fresh(), (ctypes.c_uint8 * 16)()
-        lc3.monitor(memory)
-        record = lc3.start(LONG, memory, True, lc3.USER_STACK).record.to_c()
+        fanthrig.monitor(memory)
+        record = fanthrig.start(LONG, memory, True, fanthrig.USER_STACK).record.to_c()
         room = ctypes.addressof(shown)
         lent = (memory.buffer_info()[0], len(memory), room, 0, room, 0, room, len(shown))
         while record.mcr:
-            record = LIBRARY.lc3_run(record, *lent, lc3.MAX_STEPS).record
+            record = LIBRARY.lc3_run(record, *lent, fanthrig.MAX_STEPS).record
 
 
 def hello(folder: Path) -> float:

@@ -6,7 +6,7 @@ import random
 from array import array
 from typing import List, Union
 
-import lc3
+import fanthrig
 
 from .reference import Simulator
 
@@ -28,19 +28,19 @@ AT_DEVICES += [0x710E, 0x630C, 0x710C]
 
 def object_file(origin: int, *words: int | str) -> bytes:
     """The object file of words, given as numbers or as lines of text."""
-    numbers = [lc3.word(item) if isinstance(item, str) else item for item in words]
+    numbers = [fanthrig.word(item) if isinstance(item, str) else item for item in words]
     return b"".join(number.to_bytes(2, "big") for number in [origin, *numbers])
 
 
 def fresh() -> array[int]:
     """Memory of zeros."""
-    return array("H", bytes(2 * lc3.MEMORY_WORDS))
+    return array("H", bytes(2 * fanthrig.MEMORY_WORDS))
 
 
-def user(pc: int = 0x3000) -> lc3.Record:
+def user(pc: int = 0x3000) -> fanthrig.Record:
     """The record of the examples: User mode, at an address."""
     regs = [0, 0, 0, 0, 0, 0, 0xFDFF, 0]
-    return lc3.Record(regs, pc, psr=0x8002, saved_ssp=0x3000, mcr=0x8000)
+    return fanthrig.Record(regs, pc, psr=0x8002, saved_ssp=0x3000, mcr=0x8000)
 
 
 def random_word(rng: random.Random) -> int:
@@ -65,10 +65,10 @@ def random_memory(rng: random.Random) -> array[int]:
     return memory
 
 
-def random_record(rng: random.Random) -> lc3.Record:
+def random_record(rng: random.Random) -> fanthrig.Record:
     """A record that every run takes."""
     interval = rng.choice([0, 0, 1, 5, 40])
-    record = lc3.Record(
+    record = fanthrig.Record(
         regs=[random_word(rng) for _ in range(4)] + [0xFFF0, 0xFE00, 0x3010, random_word(rng)],
         pc=rng.choice([0x3000, 0x3004, 0x4000, 0xFE00, 0x0100]),
         psr=rng.choice([0x8002, 0x8002, 0x0002, 0x0401, 0x8304]),
@@ -92,7 +92,7 @@ def random_keys(rng: random.Random, clock: int, steps: int) -> tuple[array[int],
     return array("Q", times), bytes(rng.getrandbits(8) for _ in times)
 
 
-def simulator(record: lc3.Record, memory: array[int], second: bool = False) -> Simulator:
+def simulator(record: fanthrig.Record, memory: array[int], second: bool = False) -> Simulator:
     """The second machine, with a record and a copy of memory."""
     return Simulator(
         memory.tolist(),
@@ -113,9 +113,9 @@ def simulator(record: lc3.Record, memory: array[int], second: bool = False) -> S
     )
 
 
-def record_of(machine: Simulator) -> lc3.Record:
+def record_of(machine: Simulator) -> fanthrig.Record:
     """The record of the second machine."""
-    return lc3.Record(
+    return fanthrig.Record(
         list(machine.regs),
         machine.pc,
         machine.psr,
@@ -133,15 +133,15 @@ def record_of(machine: Simulator) -> lc3.Record:
 
 
 def sitting_of(
-    record: lc3.Record, memory: array[int], edition: int = lc3.Edition.THIRD
-) -> lc3.Sitting:
+    record: fanthrig.Record, memory: array[int], edition: int = fanthrig.Edition.THIRD
+) -> fanthrig.Sitting:
     """A sitting at any record and memory."""
-    sitting = lc3.Sitting(monitor=False, edition=edition)
+    sitting = fanthrig.Sitting(monitor=False, edition=edition)
     machine = sitting._machine
     machine.record, machine.words[:] = record.to_c(), memory
     return sitting
 
 
-def whole_state(sitting: lc3.Sitting) -> tuple[object, ...]:
+def whole_state(sitting: fanthrig.Sitting) -> tuple[object, ...]:
     """All that two equal sittings have in common."""
     return sitting.record, sitting.memory.words.tobytes(), sitting.display_bytes, sitting.keys

@@ -9,14 +9,14 @@ from array import array
 from dataclasses import replace
 from typing import Any, Callable
 
-import lc3
-from lc3 import _library, constants
-from lc3.records import SHORT_FIELDS
+import fanthrig
+from fanthrig import _library, constants
+from fanthrig.records import SHORT_FIELDS
 
 from . import ROOT
 from .support import fresh, user
 
-HEADER = (ROOT / "include/lc3.h").read_text(encoding="utf-8")
+HEADER = (ROOT / "include/fanthrig/lc3.h").read_text(encoding="utf-8")
 NO_TIMES = array("Q")
 
 
@@ -52,10 +52,10 @@ class TheHeader(unittest.TestCase):
             if name.isupper() and name not in ("USER_ORIGIN", "USER_STACK")
         }
         ours["ACCEPTED"] = 0
-        ours.update({f"REFUSED_{refusal.name}": refusal.value for refusal in lc3.Refusal})
-        ours.update({f"REASON_{reason.name}": reason.value for reason in lc3.Reason})
-        ours.update({kind.name: kind.value for kind in lc3.Kind})
-        ours.update({stop.name: stop.value for stop in lc3.Stop if stop >= 0})
+        ours.update({f"REFUSED_{refusal.name}": refusal.value for refusal in fanthrig.Refusal})
+        ours.update({f"REASON_{reason.name}": reason.value for reason in fanthrig.Reason})
+        ours.update({kind.name: kind.value for kind in fanthrig.Kind})
+        ours.update({stop.name: stop.value for stop in fanthrig.Stop if stop >= 0})
         self.assertEqual(ours, header_constants())
 
     def test_the_layouts(self) -> None:
@@ -76,27 +76,27 @@ class TheHeader(unittest.TestCase):
         functions = set(re.findall(r"^[\w ]+ \*?(lc3_\w+)\(", HEADER, re.MULTILINE))
         self.assertEqual(set(_library.FUNCTIONS), functions)
         for name in functions:
-            self.assertIn(name[4:], lc3.__all__)
+            self.assertIn(name[4:], fanthrig.__all__)
 
     def test_the_version(self) -> None:
-        self.assertEqual(lc3.version(), lc3.VERSION)
+        self.assertEqual(fanthrig.version(), fanthrig.VERSION)
 
     def test_all_that_is_exported_is_there(self) -> None:
-        self.assertEqual(lc3.__all__, sorted(lc3.__all__))
-        for name in lc3.__all__:
-            self.assertTrue(hasattr(lc3, name), name)
+        self.assertEqual(fanthrig.__all__, sorted(fanthrig.__all__))
+        for name in fanthrig.__all__:
+            self.assertTrue(hasattr(fanthrig, name), name)
 
 
 class RefusedCalls(unittest.TestCase):
     """Each call, each of its refusals; and a refused call alters nothing."""
 
-    def refused(self, expected: int, call: Callable[..., Any], *arguments: Any) -> lc3.Refused:
+    def refused(self, expected: int, call: Callable[..., Any], *arguments: Any) -> fanthrig.Refused:
         """That a call is refused, and leaves its buffers and its record."""
         before = [
-            a.copy() if isinstance(a, lc3.Record) else bytes(a) if hasattr(a, "__len__") else a
+            a.copy() if isinstance(a, fanthrig.Record) else bytes(a) if hasattr(a, "__len__") else a
             for a in arguments
         ]
-        with self.assertRaises(lc3.Refused) as caught:
+        with self.assertRaises(fanthrig.Refused) as caught:
             call(*arguments)
         for old, new in zip(before, arguments):
             self.assertEqual(old, bytes(new) if isinstance(old, bytes) else new)
@@ -116,11 +116,15 @@ class RefusedCalls(unittest.TestCase):
             return lambda r, m, t, k, n: step(r, m, t, k, bytearray(1))
 
         def logged(r: Any, m: Any, t: Any, k: Any, n: int) -> Any:
-            return lc3.run_logged(r, m, t, k, bytearray(1), array("H", bytes(6)), n)
+            return fanthrig.run_logged(r, m, t, k, bytearray(1), array("H", bytes(6)), n)
 
-        takes_n = [(of(lc3.run), True), (of(lc3.run_long), True), (of(lc3.run_second), True)]
+        takes_n = [
+            (of(fanthrig.run), True),
+            (of(fanthrig.run_long), True),
+            (of(fanthrig.run_second), True),
+        ]
         takes_n += [(logged, True)]
-        return takes_n + [(one(lc3.step), False), (one(lc3.step_second), False)]
+        return takes_n + [(one(fanthrig.step), False), (one(fanthrig.step_second), False)]
 
     def test_runs_and_steps(self) -> None:
         for call, takes_n in self.runs():
@@ -136,13 +140,13 @@ class RefusedCalls(unittest.TestCase):
             error = self.refused(19, call, record, memory, array("Q", [7, 9, 8]), b"abc", 1)
             self.assertEqual((error.index, "times[2]" in error.text), (2, True))
             if takes_n:
-                self.refused(13, call, record, memory, NO_TIMES, b"", lc3.MAX_STEPS + 1)
-            record.clock = lc3.MAX_CLOCK
+                self.refused(13, call, record, memory, NO_TIMES, b"", fanthrig.MAX_STEPS + 1)
+            record.clock = fanthrig.MAX_CLOCK
             self.refused(13, call, record, memory, NO_TIMES, b"", 1)
 
     def test_every_wrong_field_of_a_record(self) -> None:
         wrong: dict[str, int] = {"psr": 0x0008, "kbsr": 1, "kbdr": 0x0100, "mcr": 1, "busy": 9}
-        wrong.update(timer_status=1, timer_count=1, clock=lc3.MAX_CLOCK + 1)
+        wrong.update(timer_status=1, timer_count=1, clock=fanthrig.MAX_CLOCK + 1)
         for call, _ in self.runs():
             for name, value in wrong.items():
                 record = user()
@@ -156,29 +160,29 @@ class RefusedCalls(unittest.TestCase):
         record = user()
         record.psr, record.clock = 0xFFFF, 7
         early, memory = array("Q", [0]), fresh()
-        self.refused(11, lc3.run, record, memory[1:], early, b"", bytearray(), 1 << 63)
-        self.refused(12, lc3.run, record, memory, early, b"", bytearray(), 1 << 63)
+        self.refused(11, fanthrig.run, record, memory[1:], early, b"", bytearray(), 1 << 63)
+        self.refused(12, fanthrig.run, record, memory, early, b"", bytearray(), 1 << 63)
         record.psr = 0
-        self.refused(13, lc3.run, record, memory, early, b"", bytearray(), 1 << 63)
-        self.refused(14, lc3.run, record, memory, early, b"", bytearray(), 1)
-        self.refused(15, lc3.run, record, memory, early, b"a", bytearray(), 1)
+        self.refused(13, fanthrig.run, record, memory, early, b"", bytearray(), 1 << 63)
+        self.refused(14, fanthrig.run, record, memory, early, b"", bytearray(), 1)
+        self.refused(15, fanthrig.run, record, memory, early, b"a", bytearray(), 1)
 
     def test_start(self) -> None:
         memory = fresh()
-        self.refused(11, lc3.start, b"\x30\x00", memory[1:], True, 0)
+        self.refused(11, fanthrig.start, b"\x30\x00", memory[1:], True, 0)
         for file in (b"", b"\x30", b"\x30\x00\x00"):
-            self.refused(17, lc3.start, file, memory, True, 0)
-        self.refused(18, lc3.start, b"\xFF\xFF" + bytes(4), memory, True, 0)
-        started = lc3.start(b"\xFF\xFF\x12\x34", memory, False, 0xFDFF)
+            self.refused(17, fanthrig.start, file, memory, True, 0)
+        self.refused(18, fanthrig.start, b"\xFF\xFF" + bytes(4), memory, True, 0)
+        started = fanthrig.start(b"\xFF\xFF\x12\x34", memory, False, 0xFDFF)
         self.assertEqual((started.words, memory[0xFFFF], started.record.psr), (1, 0x1234, 2))
         self.assertEqual((started.record.regs[6], started.record.saved_usp), (0x3000, 0xFDFF))
 
     def test_write(self) -> None:
         def refused(expected: int, *fields: int) -> None:
-            instruction = lc3.Instruction(*fields)  # type: ignore[arg-type]
-            self.refused(expected, lc3.write, instruction)
+            instruction = fanthrig.Instruction(*fields)  # type: ignore[arg-type]
+            self.refused(expected, fanthrig.write, instruction)
 
-        ld, br = lc3.Kind.LD, lc3.Kind.BR
+        ld, br = fanthrig.Kind.LD, fanthrig.Kind.BR
         refused(1, ld, 8, 0, 0, 256)
         for register in (-1, 255, 256, 1 << 40):
             refused(1, ld, register)
@@ -191,22 +195,22 @@ class RefusedCalls(unittest.TestCase):
 
     def test_line_page_save_and_vectors(self) -> None:
         memory = fresh()
-        self.refused(16, lc3.line, 0x14E7, bytearray(14))
-        self.refused(16, lc3.line, 0x14E7, bytearray())
-        self.refused(11, lc3.page, memory[1:], 0x3000, 1)
-        self.refused(20, lc3.page, memory, 0xFFFF, 2)
-        self.refused(20, lc3.page, memory, 0, 1 << 63)
-        self.refused(16, lc3.page, memory, 0, 1, bytearray(5))
-        self.refused(11, lc3.save, memory[1:], 0x3000, 1)
-        self.refused(18, lc3.save, memory, 0xFFFF, 2)
-        self.refused(18, lc3.save, memory, 0, 1 << 63)
-        self.refused(16, lc3.save, memory, 0, 1, bytearray(3))
-        self.refused(16, lc3.vectors, lc3.monitor_routines(), array("H", bytes(1022)))
-        self.refused(11, lc3.monitor, memory[1:])
+        self.refused(16, fanthrig.line, 0x14E7, bytearray(14))
+        self.refused(16, fanthrig.line, 0x14E7, bytearray())
+        self.refused(11, fanthrig.page, memory[1:], 0x3000, 1)
+        self.refused(20, fanthrig.page, memory, 0xFFFF, 2)
+        self.refused(20, fanthrig.page, memory, 0, 1 << 63)
+        self.refused(16, fanthrig.page, memory, 0, 1, bytearray(5))
+        self.refused(11, fanthrig.save, memory[1:], 0x3000, 1)
+        self.refused(18, fanthrig.save, memory, 0xFFFF, 2)
+        self.refused(18, fanthrig.save, memory, 0, 1 << 63)
+        self.refused(16, fanthrig.save, memory, 0, 1, bytearray(3))
+        self.refused(16, fanthrig.vectors, fanthrig.monitor_routines(), array("H", bytes(1022)))
+        self.refused(11, fanthrig.monitor, memory[1:])
 
     def test_every_refusal_was_met(self) -> None:
-        texts = {lc3.Refused(refusal).text for refusal in lc3.Refusal}
-        self.assertEqual(len(texts), len(lc3.Refusal))
+        texts = {fanthrig.Refused(refusal).text for refusal in fanthrig.Refusal}
+        self.assertEqual(len(texts), len(fanthrig.Refusal))
 
 
 class AcceptedCalls(unittest.TestCase):
@@ -214,36 +218,36 @@ class AcceptedCalls(unittest.TestCase):
 
     def test_every_word_is_read_and_written_back(self) -> None:
         for word in range(0, 65536, 7):
-            reading = lc3.read(word)
-            self.assertEqual(lc3.write(reading.instruction) ^ word, reading.mask)
-            self.assertEqual(lc3.line_length(word), len(lc3.line(word)) + 1)
+            reading = fanthrig.read(word)
+            self.assertEqual(fanthrig.write(reading.instruction) ^ word, reading.mask)
+            self.assertEqual(fanthrig.line_length(word), len(fanthrig.line(word)) + 1)
 
     def test_outputs_that_are_lent_are_filled_from_their_start(self) -> None:
         memory = fresh()
         memory[0x3000:0x3002] = array("H", [0x1021, 0x0FFE])
         output = bytearray(b"." * 40)
-        self.assertEqual(lc3.page(memory, 0x3000, 2, output), 25)
+        self.assertEqual(fanthrig.page(memory, 0x3000, 2, output), 25)
         self.assertEqual(output, b"ADD R0, R0, #1\nBRnzp #-2\n" + b"." * 15)
         output = bytearray(b"." * 8)
-        self.assertEqual(lc3.save(memory, 0x3000, 2, output), 6)
+        self.assertEqual(fanthrig.save(memory, 0x3000, 2, output), 6)
         self.assertEqual(output, bytes.fromhex("3000 1021 0FFE") + b"..")
-        self.assertEqual(lc3.save(memory, 0xFFFF, 0), b"\xFF\xFF")
-        self.assertEqual(lc3.page(memory, 0xFFFF, 0), "")
-        self.assertEqual(len(lc3.save(memory, 0, 65536)), 2 + 2 * 65536)
-        self.assertEqual(lc3.page(memory, 0, 65536).count("\n"), 65536)
+        self.assertEqual(fanthrig.save(memory, 0xFFFF, 0), b"\xFF\xFF")
+        self.assertEqual(fanthrig.page(memory, 0xFFFF, 0), "")
+        self.assertEqual(len(fanthrig.save(memory, 0, 65536)), 2 + 2 * 65536)
+        self.assertEqual(fanthrig.page(memory, 0, 65536).count("\n"), 65536)
 
     def test_the_monitor_has_the_vectors_of_its_routines(self) -> None:
-        memory, routines = fresh(), lc3.monitor_routines()
-        lc3.monitor(memory)
-        self.assertEqual(lc3.vectors(routines), memory[: lc3.VECTOR_WORDS])
-        self.assertFalse(any(memory[lc3.MONITOR_WORDS :]))
+        memory, routines = fresh(), fanthrig.monitor_routines()
+        fanthrig.monitor(memory)
+        self.assertEqual(fanthrig.vectors(routines), memory[: fanthrig.VECTOR_WORDS])
+        self.assertFalse(any(memory[fanthrig.MONITOR_WORDS :]))
         other = fresh()
-        self.assertIsNone(lc3.vectors(routines, other))
-        self.assertEqual(other[: lc3.VECTOR_WORDS], memory[: lc3.VECTOR_WORDS])
+        self.assertIsNone(fanthrig.vectors(routines, other))
+        self.assertEqual(other[: fanthrig.VECTOR_WORDS], memory[: fanthrig.VECTOR_WORDS])
 
     def test_numbers_that_do_not_fit_are_never_cut(self) -> None:
         memory = fresh()
-        calls: list[Callable[[Any], object]] = [lc3.read, lc3.line, lc3.line_length]
+        calls: list[Callable[[Any], object]] = [fanthrig.read, fanthrig.line, fanthrig.line_length]
         for call in calls:
             for word in (-1, 65536):
                 with self.assertRaisesRegex(ValueError, "word is"):
@@ -252,19 +256,19 @@ class AcceptedCalls(unittest.TestCase):
                 call(1.5)
         for name in SHORT_FIELDS:
             with self.assertRaisesRegex(ValueError, f"{name} is 65536"):
-                wrong = replace(lc3.Record(), **{name: 65536})
-                lc3.run(wrong, memory, NO_TIMES, b"", bytearray(), 0)
-        for record in (lc3.Record(regs=[0] * 7), lc3.Record(regs=[1 << 16] + [0] * 7)):
+                wrong = replace(fanthrig.Record(), **{name: 65536})
+                fanthrig.run(wrong, memory, NO_TIMES, b"", bytearray(), 0)
+        for record in (fanthrig.Record(regs=[0] * 7), fanthrig.Record(regs=[1 << 16] + [0] * 7)):
             with self.assertRaises(ValueError):
-                lc3.step(record, memory, NO_TIMES, b"", bytearray())
+                fanthrig.step(record, memory, NO_TIMES, b"", bytearray())
         for n in (-1, 1 << 64):
             with self.assertRaisesRegex(ValueError, "n is"):
-                lc3.run(user(), memory, NO_TIMES, b"", bytearray(), n)
+                fanthrig.run(user(), memory, NO_TIMES, b"", bytearray(), n)
 
     def test_a_refused_error_survives_pickling(self) -> None:
         import pickle
 
-        error = pickle.loads(pickle.dumps(lc3.Refused(15, 3, "a.obj")))
+        error = pickle.loads(pickle.dumps(fanthrig.Refused(15, 3, "a.obj")))
         self.assertEqual((error.number, error.index, error.subject), (15, 3, "a.obj"))
 
 

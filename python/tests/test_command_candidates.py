@@ -10,9 +10,9 @@ import unittest
 from pathlib import Path
 from unittest import mock
 
-from lc3.command.candidates import Found, candidate_file, found_in
-from lc3.command.messages import CommandError
-from lc3.command.regular import opened
+from fanthrig.command.candidates import Found, candidate_file, found_in
+from fanthrig.command.messages import CommandError
+from fanthrig.command.regular import opened
 
 from .command_support import process
 from .mark_support import Marking, doubling, lines_of, names, of_kind, verdicts

@@ -10,9 +10,9 @@ import unittest
 from pathlib import Path
 from unittest import mock
 
-from lc3.command import cases as of_cases
-from lc3.command.cases import Case, cases_of
-from lc3.command.messages import CommandError
+from fanthrig.command import cases as of_cases
+from fanthrig.command.cases import Case, cases_of
+from fanthrig.command.messages import CommandError
 
 from .command_support import ENVIRONMENT, HELLO, PYTHON, Folder, ran
 

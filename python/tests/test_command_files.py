@@ -12,8 +12,8 @@ import zipfile
 from pathlib import Path
 from unittest import mock
 
-import lc3
-from lc3.command.formats import other_format
+import fanthrig
+from fanthrig.command.formats import other_format
 
 from .command_support import HELLO, Folder, Ran, ran
 from .support import object_file
@@ -118,7 +118,7 @@ class Hostile(Folder):
     def test_no_permission(self) -> None:
         secret = self.file("secret.obj", HELLO)
         denied = PermissionError(errno.EACCES, "Permission denied", str(secret))
-        with mock.patch("lc3.command.files.open", side_effect=denied, create=True):
+        with mock.patch("fanthrig.command.files.open", side_effect=denied, create=True):
             self.check(ran("list", secret), secret, "permission denied")
 
     @unittest.skipIf(os.geteuid(), "only root can become another user")
@@ -174,7 +174,7 @@ class Swapped(Folder):
 
     def test_what_may_be_right_is_not_refused(self) -> None:
         # As it stands a program at x3040; the other way round one at x4030, which halts.
-        words = [lc3.word("AND R0, R0, #0"), 0x25F0, lc3.word("BRnzp #-1")]
+        words = [fanthrig.word("AND R0, R0, #0"), 0x25F0, fanthrig.word("BRnzp #-1")]
         for file in (object_file(0x3040, *words), swapped(object_file(0x4030, *words))):
             self.assertEqual(ran("run", "--steps", 9, self.file("either.obj", file)).code, 1)
         # Vectors of a class's monitor, at x0030.

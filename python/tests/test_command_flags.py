@@ -9,10 +9,10 @@ import unittest
 from collections import Counter
 from typing import Any
 
-import lc3
-from lc3.command.flags import Flag, exceptions_of
-from lc3.command.terminal import Signals
-from lc3.ending import EXCEPTIONS
+import fanthrig
+from fanthrig.command.flags import Flag, exceptions_of
+from fanthrig.command.terminal import Signals
+from fanthrig.ending import EXCEPTIONS
 
 from .mark_support import Marking, doubling
 from .support import fresh, object_file, random_word
@@ -33,10 +33,10 @@ GO_ON = (
 def forgiving_monitor() -> bytes:
     """A monitor of a class's own: the ready-made one, but programs go on after an exception."""
     memory = fresh()
-    lc3.monitor(memory)
+    fanthrig.monitor(memory)
     for vector in (0x100, 0x101, 0x102):
         memory[vector] = 0x0300
-    memory[0x300 : 0x300 + len(GO_ON)] = type(memory)("H", map(lc3.word, GO_ON))
+    memory[0x300 : 0x300 + len(GO_ON)] = type(memory)("H", map(fanthrig.word, GO_ON))
     return object_file(0, *memory[: 0x300 + len(GO_ON)])
 
 
@@ -207,12 +207,12 @@ class Counted(unittest.TestCase):
         rng, seen = random.Random(33), Counter[str]()
         for _ in range(100):
             words = [random_word(rng) for _ in range(60)]
-            sitting = lc3.Sitting(
+            sitting = fanthrig.Sitting(
                 object_file(0x3000, *words), examiner=[forgiving_monitor()], monitor=False
             )
             sitting.type("keys")
             sitting.run(700)
-            again, steps = lc3.Sitting.of(sitting.recording()), Counter[str]()
+            again, steps = fanthrig.Sitting.of(sitting.recording()), Counter[str]()
             first: dict[str, tuple[int, str]] = {}
             for step in again.trace(sitting.clock):
                 if step.reason in EXCEPTIONS:
@@ -226,7 +226,7 @@ class Counted(unittest.TestCase):
 
     def test_more_steps_than_a_log_holds(self) -> None:
         loop = object_file(0x3000, "LD R0, #-256", "BRnzp #-2")
-        sitting = lc3.Sitting(loop, examiner=[forgiving_monitor()], monitor=False)
+        sitting = fanthrig.Sitting(loop, examiner=[forgiving_monitor()], monitor=False)
         sitting.run(1_000_000)
         (flag,) = exceptions_of(sitting.recording(), Signals())
         # Ten steps a round: the exception, the routine of eight, and the branch.
@@ -238,8 +238,8 @@ class Second(Marking):
 
     def test_what_ended_the_run(self) -> None:
         memory = fresh()
-        lc3.monitor(memory)
-        monitor = self.file("monitor.obj", object_file(0, *memory[: lc3.MONITOR_WORDS]))
+        fanthrig.monitor(memory)
+        monitor = self.file("monitor.obj", object_file(0, *memory[: fanthrig.MONITOR_WORDS]))
         self.file("cases/one.expected", "")
         options = ("--edition", 2, "--no-monitor", "--with", monitor)
         for last, flags in ((".FILL xD000", ["illegal opcode exception"]), ("TRAP x25", [])):

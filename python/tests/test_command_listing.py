@@ -4,8 +4,8 @@ from __future__ import annotations
 
 import random
 
-import lc3
-from lc3.command.log import HEADER, row
+import fanthrig
+from fanthrig.command.log import HEADER, row
 
 from .command_support import HELLO, UNTIL_Q, Folder, ran
 from .support import COUNTING, object_file
@@ -26,7 +26,7 @@ class Listing(Folder):
         lines = out.decode().splitlines()
         self.assertEqual((code, len(lines)), (0, len(words)))
         for place, (line, word) in enumerate(zip(lines, words)):
-            self.assertEqual(line, f"x{0x1000 + place:04X}  x{word:04X}  {lc3.line(word)}")
+            self.assertEqual(line, f"x{0x1000 + place:04X}  x{word:04X}  {fanthrig.line(word)}")
 
     def test_several_files_and_files_of_no_words(self) -> None:
         hello, count = self.file("hello.obj", HELLO), self.file("count.obj", COUNTING)
@@ -50,7 +50,7 @@ class Logging(Folder):
     def test_a_log_is_the_trace(self) -> None:
         hello = self.file("hello.obj", HELLO)
         code, out, err = ran("log", hello)
-        traced = [row(step) for step in lc3.Sitting(hello).trace()]
+        traced = [row(step) for step in fanthrig.Sitting(hello).trace()]
         self.assertEqual(out.decode().splitlines(), [HEADER, *traced])
         self.assertEqual((code, len(traced)), (0, 152))
         self.assertEqual(err, "lc3: halted by HALT; 152 steps; PC x3002: TRAP x25\n")
@@ -145,7 +145,7 @@ class Logging(Folder):
             words = [rng.getrandbits(16) for _ in range(200)]
             file = self.file("random.obj", object_file(0x3000, *words))
             out = ran("log", "--steps", 60, "--keys", "xyz", file).out.decode()
-            sitting = lc3.Sitting(file)
+            sitting = fanthrig.Sitting(file)
             sitting.type("xyz")
             expected = [row(step) for step in sitting.trace(60)]
             self.assertEqual(out.splitlines()[1:], expected)

@@ -12,11 +12,11 @@ from collections import Counter
 from typing import Any
 from unittest import mock
 
-import lc3
-from lc3.command import marking
-from lc3.command.cases import Case
-from lc3.command.options import parser
-from lc3.command.terminal import Signals
+import fanthrig
+from fanthrig.command import marking
+from fanthrig.command.cases import Case
+from fanthrig.command.options import parser
+from fanthrig.command.terminal import Signals
 
 from .command_support import UNTIL_Q, ran
 from .mark_support import Marking, doubling, names, verdicts
@@ -75,7 +75,7 @@ class Verdicts(Marking):
         table = self.mark(path).out.decode()
         self.assertIn("byte 4, line 1: expected 'o' (x6F), got 'a' (x61)", table)
         self.assertIn("expected: 'aaHolted\\n'", table)
-        sitting = lc3.Sitting(path)
+        sitting = fanthrig.Sitting(path)
         sitting.type("a")
         sitting.run()
         own = [step for step in sitting.last_steps(1000) if step.pc >= 0x3000]
@@ -197,7 +197,7 @@ class Machines(Marking):
         path = self.file("until.obj", UNTIL_Q)
         seen = []
 
-        def spy(self_: lc3.Sitting, *arguments: int | None) -> lc3.Report:
+        def spy(self_: fanthrig.Sitting, *arguments: int | None) -> fanthrig.Report:
             """A run, with all that the machine has before and after it kept."""
             for _ in range(2):
                 words = self_.memory.words
@@ -205,9 +205,9 @@ class Machines(Marking):
                 report = None if len(seen) % 2 else usual(self_, *arguments)
             return report if report is not None else usual(self_, *arguments)
 
-        usual = lc3.Sitting.run
+        usual = fanthrig.Sitting.run
         shared = marking.Marking(self.options(), [Case("a", secret, b"kq")])
-        with mock.patch.object(lc3.Sitting, "run", spy):
+        with mock.patch.object(fanthrig.Sitting, "run", spy):
             marking.mark(shared, str(path), Signals())
         self.assertTrue(seen)
         for places in seen:

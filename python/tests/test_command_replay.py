@@ -11,8 +11,8 @@ from pathlib import Path
 from typing import Any
 from unittest import mock
 
-import lc3
-from lc3.recording import sealed
+import fanthrig
+from fanthrig.recording import sealed
 
 from .command_support import HELLO, UNTIL_Q, Folder, ran
 from .support import object_file, random_memory
@@ -40,8 +40,8 @@ class Replays(Folder):
         """A random sitting: its file, its display, its last line and its exit code."""
         memory, options, ranges = random_memory(rng), [], RANGES
         if rng.random() < 0.5:
-            words = [lc3.word(rng.choice(LIVELY)) for _ in range(40)]
-            memory[0x3000:0x3029] = array("H", [*words, lc3.word("BRnzp #-41")])
+            words = [fanthrig.word(rng.choice(LIVELY)) for _ in range(40)]
+            memory[0x3000:0x3029] = array("H", [*words, fanthrig.word("BRnzp #-41")])
             # The monitor's vectors stay as they are.
             ranges = RANGES[1:]
         else:
@@ -72,7 +72,7 @@ class Replays(Folder):
             self.assertEqual((replayed.code, replayed.out), (code, out))
             self.assertEqual(replayed.err.partition(";")[2], err.partition(";")[2])
             self.assertEqual(again.read_text(), path.read_text())
-            recording = lc3.Recording.load(path)
+            recording = fanthrig.Recording.load(path)
             shown, steps = shown + len(out), steps + recording.steps
             keys += len(recording.keys)
             self.pieces(path, recording, out)
@@ -81,16 +81,16 @@ class Replays(Folder):
         self.assertGreater(keys, 50)
         self.assertGreater(steps, 100_000)
 
-    def pieces(self, path: Path, recording: lc3.Recording, out: bytes) -> None:
+    def pieces(self, path: Path, recording: fanthrig.Recording, out: bytes) -> None:
         """The first steps alone, and the recording of these, are as in the whole."""
         rng, piece = random.Random(recording.steps), self.folder / "piece.json"
-        sitting = lc3.Sitting.of(recording)
+        sitting = fanthrig.Sitting.of(recording)
         for at in sorted(rng.randrange(recording.steps + 1) for _ in range(3)):
             sitting.run(at - sitting.clock)
             cut = ran("run", "--replay", path, "--steps", at, "--save-sitting", piece)
             self.assertEqual(cut.out, sitting.display_bytes)
             self.assertTrue(out.startswith(cut.out))
-            self.assertEqual(lc3.Recording.load(piece).end, sitting.recording().end)
+            self.assertEqual(fanthrig.Recording.load(piece).end, sitting.recording().end)
             self.assertEqual(ran("run", "--replay", piece).out, cut.out)
 
     def test_keys_of_a_pipe(self) -> None:
@@ -114,7 +114,7 @@ class Replays(Folder):
 
     def test_alterations_of_a_host(self) -> None:
         # A host that sets a halted machine going again.
-        sitting, path = lc3.Sitting(HELLO), self.folder / "sitting.json"
+        sitting, path = fanthrig.Sitting(HELLO), self.folder / "sitting.json"
         for _ in range(3):
             sitting.run(1000)
             sitting["MCR"], sitting["PC"] = 0x8000, 0x3000
@@ -183,7 +183,7 @@ class OtherEnds(Folder):
         self.assertEqual(ran("run", "--replay", endless, "--steps", 100).code, 1)
 
     def test_a_sitting_that_is_too_long(self) -> None:
-        with mock.patch("lc3.recording.LONGEST", 1000):
+        with mock.patch("fanthrig.recording.LONGEST", 1000):
             code, _, err = ran("run", "--save-sitting", self.folder / "new.json", self.hello)
         self.assertEqual((code, "new.json: the sitting is longer than" in err), (3, True))
 

@@ -18,8 +18,8 @@ import unittest
 from datetime import datetime, timezone
 from typing import Any
 
-import lc3
-from lc3.command.report import COLUMNS, cell
+import fanthrig
+from fanthrig.command.report import COLUMNS, cell
 
 from . import ROOT
 from .command_support import ENVIRONMENT, PYTHON, process, ran
@@ -101,17 +101,17 @@ class Members(Marking):
 
     def test_endings_and_verdicts_are_in_the_manual(self) -> None:
         text = " ".join(manual().partition("\n.SH RESULTS\n")[2].split())
-        for kind in lc3.EndKind:
+        for kind in fanthrig.EndKind:
             # A marking has no breakpoints, and one that is interrupted has no result.
-            if kind not in (lc3.EndKind.BREAKPOINT, lc3.EndKind.INTERRUPTED):
+            if kind not in (fanthrig.EndKind.BREAKPOINT, fanthrig.EndKind.INTERRUPTED):
                 self.assertIn(kind.value, text)
 
     def test_what_a_result_is_held_against(self) -> None:
         lines = self.lines_of_all_kinds()
         right = next(line for line in lines if line["candidate"].endswith("right.obj"))
         self.assertEqual(right["sha256"], hashlib.sha256(doubling()).hexdigest())
-        self.assertEqual(right["interface"], lc3.VERSION)
-        self.assertEqual(right["lc3"], lc3.__version__)
+        self.assertEqual(right["interface"], fanthrig.VERSION)
+        self.assertEqual(right["lc3"], fanthrig.__version__)
         (beside,) = right["options"]["with"]
         digest = hashlib.sha256(object_file(0x2000, 1)).hexdigest()
         self.assertEqual(beside, {"file": str(self.folder / "with.obj"), "sha256": digest})

@@ -7,7 +7,7 @@ import signal
 import subprocess
 import time
 
-import lc3
+import fanthrig
 
 from .command_support import ENDLESS, ENVIRONMENT, HELLO, PYTHON, UNTIL_Q, Folder, process, ran
 from .support import COUNTING, ECHO, Words, object_file
@@ -56,12 +56,12 @@ class Running(Folder):
         program, saved = self.file("echo.obj", ECHO), self.folder / "sitting.json"
         for text in ("a\u00e9\u20ac", os.fsdecode(b"\xff")):
             ran("run", "--keys", text, "--save-sitting", saved, program)
-            sitting = lc3.Sitting(program)
+            sitting = fanthrig.Sitting(program)
             sitting.type(text)
             sitting.run(1000)
             keys = bytes(key.byte for key in sitting.keys)
             self.assertEqual(keys, os.fsencode(text))
-            self.assertEqual(keys, bytes(key for _, key in lc3.Recording.load(saved).keys))
+            self.assertEqual(keys, bytes(key for _, key in fanthrig.Recording.load(saved).keys))
 
     def test_keys_of_a_pipe(self) -> None:
         program = self.file("until.obj", UNTIL_Q)
@@ -240,7 +240,7 @@ class WrongUse(Folder):
             self.assertIn(f"  lc3 {command} ", out.decode())
             self.assertIn("exit codes", out.decode())
         self.assertEqual(ran("--help").code, 0)
-        self.assertIn(str(lc3.VERSION), ran("--version").out.decode())
+        self.assertIn(str(fanthrig.VERSION), ran("--version").out.decode())
 
 
 class Processes(Folder):
@@ -266,7 +266,7 @@ class Processes(Folder):
 
     def test_closed_streams_and_a_full_disk(self) -> None:
         hello, echo = self.file("hello.obj", HELLO), self.file("echo.obj", ECHO)
-        lc3_run = f"{PYTHON[0]} -m lc3 run"
+        lc3_run = f"{PYTHON[0]} -m fanthrig run"
         for line, code, said in (
             (f"{lc3_run} {echo} <&-", 1, "no more keys come"),
             (f"{lc3_run} {hello} >&-", 0, "halted by HALT"),
@@ -274,8 +274,12 @@ class Processes(Folder):
             (f"{lc3_run} {hello} >/dev/full", 3, "standard output: no space is left"),
             (f"{lc3_run} {echo} < {hello}", 1, "no more keys come"),
             (f"{lc3_run} {echo} <&- >&- 2>&-", 1, ""),
-            (f"{PYTHON[0]} -m lc3 list {hello} >/dev/full", 3, "standard output: no space is left"),
-            (f"{PYTHON[0]} -m lc3 list {hello} >&-", 0, ""),
+            (
+                f"{PYTHON[0]} -m fanthrig list {hello} >/dev/full",
+                3,
+                "standard output: no space is left",
+            ),
+            (f"{PYTHON[0]} -m fanthrig list {hello} >&-", 0, ""),
         ):
             ended = subprocess.run(["sh", "-c", line], env=ENVIRONMENT, capture_output=True)
             self.assertEqual(ended.returncode, code, line)
@@ -296,7 +300,7 @@ class Processes(Folder):
     def test_an_input_longer_than_memory(self) -> None:
         hello, keys = self.file("hello.obj", HELLO), self.file("keys", b"")
         os.truncate(keys, 1 << 36)
-        line = f"ulimit -v 1000000; exec {PYTHON[0]} -m lc3 run {hello} < {keys}"
+        line = f"ulimit -v 1000000; exec {PYTHON[0]} -m fanthrig run {hello} < {keys}"
         ended = subprocess.run(["sh", "-c", line], env=ENVIRONMENT, capture_output=True, timeout=60)
         self.assertEqual((ended.returncode, ended.stdout), (0, b"Hi\nHalted\n"), ended.stderr)
 
@@ -307,10 +311,10 @@ class Processes(Folder):
             command = [*PYTHON, "run", "--save-sitting", str(saved), str(program)]
             ended = subprocess.run(command, stdin=keys, env=ENVIRONMENT, capture_output=True)
         self.assertEqual((ended.returncode, ended.stdout), (0, every + b"Halted\n"))
-        sitting = lc3.Sitting(program)
+        sitting = fanthrig.Sitting(program)
         sitting.type(every)
         sitting.run()
-        self.assertEqual(lc3.Sitting.replay(saved).keys, sitting.keys)
+        self.assertEqual(fanthrig.Sitting.replay(saved).keys, sitting.keys)
 
     def test_what_is_far_back_is_forgotten(self) -> None:
         # Reads 100,000 keys and then waits: how it ends is told all the same.
@@ -325,7 +329,7 @@ class Processes(Folder):
         # Shows R0 for ever.
         flood = self.file("flood.obj", object_file(0x3000, "TRAP x21", "BRnzp #-2"))
         for command in ("run", "log"):
-            line = f"{PYTHON[0]} -m lc3 {command} {flood} | head -c 3 >/dev/null"
+            line = f"{PYTHON[0]} -m fanthrig {command} {flood} | head -c 3 >/dev/null"
             ended = subprocess.run(
                 ["bash", "-c", f"set -o pipefail; {line}"], env=ENVIRONMENT, capture_output=True
             )
@@ -334,7 +338,7 @@ class Processes(Folder):
             self.assertNotIn(b"Error", ended.stderr)
         # A listing is longer than what a pipe takes.
         long = self.file("long.obj", object_file(0x3000, *[0x1021] * 20_000))
-        line = f"set -o pipefail; {PYTHON[0]} -m lc3 list {long} | head -n 1"
+        line = f"set -o pipefail; {PYTHON[0]} -m fanthrig list {long} | head -n 1"
         ended = subprocess.run(["bash", "-c", line], env=ENVIRONMENT, capture_output=True)
         self.assertEqual((ended.returncode, ended.stderr), (1, b""))
         self.assertEqual(ended.stdout, b"x3000  x1021  ADD R0, R0, #1\n")
@@ -361,14 +365,14 @@ class Processes(Folder):
                 assert running.stderr
                 self.assertIn(said, running.stderr.read())
                 self.assertEqual(running.wait(20), code)
-            replayed = lc3.Sitting.replay(saved)
+            replayed = fanthrig.Sitting.replay(saved)
             self.assertEqual(replayed["R0"], (replayed.clock + 1) // 2 & 0xFFFF)
             saved.unlink()
 
     def test_the_module_and_its_main(self) -> None:
         hello = self.file("hello.obj", HELLO)
         self.assertEqual(process("run", hello)[:2], (0, b"Hi\nHalted\n"))
-        script = "import sys; from lc3.__main__ import main; sys.exit(main())"
+        script = "import sys; from fanthrig.__main__ import main; sys.exit(main())"
         command = [PYTHON[0], "-c", script, "run", str(hello)]
         ended = subprocess.run(command, env=ENVIRONMENT, capture_output=True)
         self.assertEqual((ended.returncode, ended.stdout), (0, b"Hi\nHalted\n"))

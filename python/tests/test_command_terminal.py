@@ -10,8 +10,8 @@ import termios
 import time
 from unittest import mock
 
-import lc3
-from lc3.command import terminal
+import fanthrig
+from fanthrig.command import terminal
 
 from .command_support import HELLO, UNTIL_Q, Folder, OnTerminal, ran
 from .support import COUNTING, ECHO, object_file
@@ -35,7 +35,7 @@ class Interactive(Folder):
             self.assertEqual(shown.process.wait(20), 0)
             self.assertEqual(shown.attributes(), shown.before)
             self.assertTrue(shown.seen.startswith(b"ab\r\ncqHalted\r\nlc3: "), shown.seen)
-        sitting = lc3.Sitting.replay(saved)
+        sitting = fanthrig.Sitting.replay(saved)
         self.assertEqual(bytes(key.byte for key in sitting.keys), b"ab\ncq")
         self.assertEqual(len({key.time for key in sitting.keys}), 5)
 
@@ -101,7 +101,7 @@ class Interactive(Folder):
                 shown.close()
                 self.assertIn(shown.process.wait(20), (-signal.SIGHUP, 1))
             # What was done until then is not lost.
-            self.assertGreaterEqual(lc3.Sitting.replay(saved).clock, 0)
+            self.assertGreaterEqual(fanthrig.Sitting.replay(saved).clock, 0)
 
     def test_a_display_that_is_held_by_ctrl_s(self) -> None:
         flood = self.file("flood.obj", object_file(0x3000, "TRAP x21", "BRnzp #-2"))

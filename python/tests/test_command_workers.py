@@ -186,7 +186,7 @@ class Killed(Running):
         """A marking in which the worker is killed that comes to a candidate, where a condition on
         its ``name`` holds."""
         program = (
-            "import os, signal; from lc3.command import main, workers\n"
+            "import os, signal; from fanthrig.command import main, workers\n"
             "usual = workers.mark\n"
             "def killed(marking, name, signals):\n"
             f"    if {when}: os.kill(os.getpid(), signal.SIGKILL)\n"

@@ -10,11 +10,11 @@ import unittest
 from typing import Any, Iterator
 from unittest import mock
 
-import lc3
-from lc3 import PlaceError, Refused, Sitting
-from lc3.command.files import sitting_of
-from lc3.command.messages import CommandError
-from lc3.command.options import parser
+import fanthrig
+from fanthrig import PlaceError, Refused, Sitting
+from fanthrig.command.files import sitting_of
+from fanthrig.command.messages import CommandError
+from fanthrig.command.options import parser
 
 from .command_support import HELLO, Folder, ran
 from .support import COUNTING, object_file, random_word
@@ -72,7 +72,7 @@ class Candidates(unittest.TestCase):
         self.refused(21, HELLO, TAKE_OVER, examiner=[ANSWERS])
         self.refused(21, TAKE_OVER, HELLO, examiner=[ANSWERS])
         self.refused(21, TAKE_OVER, examiner=[ANSWERS], monitor=False)
-        self.refused(21, TAKE_OVER, mode=lc3.Mode.SUPERVISOR)
+        self.refused(21, TAKE_OVER, mode=fanthrig.Mode.SUPERVISOR)
         self.refused(21, TAKE_OVER, monitor=False, edition=2)
         self.refused(21, TAKE_OVER, pc=0x3000)
         trusted = Sitting(TAKE_OVER, anywhere=True)
@@ -111,7 +111,7 @@ class Candidates(unittest.TestCase):
         for pc in PRIVILEGED[::97]:
             with self.assertRaisesRegex(PlaceError, f"PC x{pc:04X} is refused"):
                 Sitting(HELLO, pc=pc)
-            self.assertEqual(Sitting(HELLO, pc=pc, mode=lc3.Mode.SUPERVISOR)["PC"], pc)
+            self.assertEqual(Sitting(HELLO, pc=pc, mode=fanthrig.Mode.SUPERVISOR)["PC"], pc)
             self.assertEqual(Sitting(HELLO, pc=pc, anywhere=True)["PC"], pc)
         sitting = Sitting(HELLO)
         sitting.run(5)
@@ -120,7 +120,7 @@ class Candidates(unittest.TestCase):
             sitting.start(0x0200)
         self.assertEqual((sitting.record, sitting.clock), (before, 5))
         sitting.start(0x0200, anywhere=True)
-        self.assertEqual((sitting["PC"], sitting.record.mode), (0x0200, lc3.Mode.USER))
+        self.assertEqual((sitting["PC"], sitting.record.mode), (0x0200, fanthrig.Mode.USER))
 
     def test_later_files(self) -> None:
         sitting = Sitting(HELLO, examiner=[ANSWERS])
@@ -376,14 +376,16 @@ class Commands(Folder):
 
         run, trace = Sitting.run, Sitting.trace
 
-        def spied_run(sitting: Sitting, steps: int | None = None) -> lc3.Report:
+        def spied_run(sitting: Sitting, steps: int | None = None) -> fanthrig.Report:
             """A run, looked at before and after."""
             check(sitting)
             report = run(sitting, steps)
             check(sitting)
             return report
 
-        def spied_trace(sitting: Sitting, steps: int | None = None) -> Iterator[lc3.TracedStep]:
+        def spied_trace(
+            sitting: Sitting, steps: int | None = None
+        ) -> Iterator[fanthrig.TracedStep]:
             """The same of a run a step at a time."""
             check(sitting)
             yield from trace(sitting, steps)

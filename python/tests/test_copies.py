@@ -10,8 +10,8 @@ from functools import partial
 from typing import Callable
 from unittest import mock
 
-import lc3
-from lc3 import Sitting
+import fanthrig
+from fanthrig import Sitting
 
 from .support import COUNTING, ECHO, object_file, random_keys, random_memory, random_record
 from .support import sitting_of, whole_state
@@ -88,7 +88,7 @@ class Copies(unittest.TestCase):
         sitting.breakpoints = {0x3001}
         sitting.type("abcdef")
         sitting.run()
-        self.assertIs(sitting.stop, lc3.Stop.BREAKPOINT)
+        self.assertIs(sitting.stop, fanthrig.Stop.BREAKPOINT)
         self.check(sitting, 3000)
 
     def test_in_the_middle_of_a_replay(self) -> None:
@@ -104,7 +104,7 @@ class Copies(unittest.TestCase):
     def test_random_machines(self) -> None:
         for seed in range(10):
             rng = random.Random(seed)
-            edition = rng.choice(list(lc3.Edition))
+            edition = rng.choice(list(fanthrig.Edition))
             sitting = sitting_of(random_record(rng), random_memory(rng), edition)
             times, keys = random_keys(rng, sitting.clock, 200)
             for time, key in zip(times, keys):
@@ -123,7 +123,7 @@ class Copies(unittest.TestCase):
                 made.type("more")
                 made.press(b"x", 10_000)
                 made.breakpoints.add(0x3002)
-                made.programs.append(lc3.Program("", 0, 0))
+                made.programs.append(fanthrig.Program("", 0, 0))
                 made.display_limit = 9
                 made.run(100)
                 self.assertEqual(everything(sitting), before)
@@ -164,9 +164,9 @@ class Copies(unittest.TestCase):
             pickle.dumps(sitting)
 
     def test_pickles_of_another_version_are_refused(self) -> None:
-        with mock.patch("lc3.sitting.__version__", "0.0.9"):
+        with mock.patch("fanthrig.sitting.__version__", "0.0.9"):
             other = pickle.dumps(Sitting(COUNTING))
-        expected = f"pickled by version 0.0.9 of lc3, and this is {lc3.__version__}"
+        expected = f"pickled by version 0.0.9 of fanthrig, and this is {fanthrig.__version__}"
         with self.assertRaisesRegex(ValueError, expected):
             pickle.loads(other)
 

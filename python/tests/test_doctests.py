@@ -7,13 +7,13 @@ import importlib
 import pkgutil
 import unittest
 
-import lc3
+import fanthrig
 
 
 def modules() -> list[str]:
     """The package and its modules but the command, whose import would run it."""
-    inside = [module.name for module in pkgutil.walk_packages(lc3.__path__, "lc3.")]
-    return ["lc3", *(name for name in inside if not name.endswith("__main__"))]
+    inside = [module.name for module in pkgutil.walk_packages(fanthrig.__path__, "fanthrig.")]
+    return ["fanthrig", *(name for name in inside if not name.endswith("__main__"))]
 
 
 def load_tests(

@@ -12,15 +12,15 @@ from array import array
 from dataclasses import replace
 from typing import Any, NamedTuple
 
-import lc3
-from lc3 import EndKind, Mode, Reason, Sitting
+import fanthrig
+from fanthrig import EndKind, Mode, Reason, Sitting
 
 from .support import Words, object_file
 
 HALT, PUTS, PUTSP, GETC, OUT = "TRAP x25", "TRAP x22", "TRAP x24", "TRAP x20", "TRAP x21"
 
 
-def ended(*words: str | int, steps: int | None = 100_000, **options: Any) -> lc3.Ending:
+def ended(*words: str | int, steps: int | None = 100_000, **options: Any) -> fanthrig.Ending:
     """How a program at x3000 ends."""
     sitting = Sitting(object_file(0x3000, *words), **options)
     return sitting.run(steps).ending
@@ -29,7 +29,7 @@ def ended(*words: str | int, steps: int | None = 100_000, **options: Any) -> lc3
 class Kinds(unittest.TestCase):
     """Each kind with the program's own instruction."""
 
-    def told(self, kind: EndKind, pc: int, line: str, *words: str | int) -> lc3.Ending:
+    def told(self, kind: EndKind, pc: int, line: str, *words: str | int) -> fanthrig.Ending:
         """Asserts how a program ends, at an address and its line."""
         ending = ended(*words)
         self.assertEqual((ending.kind, hex(ending.pc), ending.line), (kind, hex(pc), line))
@@ -210,7 +210,7 @@ class GoingOn(unittest.TestCase):
             first = sitting.run().ending
             for _ in range(300):
                 sitting["MCR"] = 0x8000
-                self.assertEqual(sitting.run(1000).stop, lc3.Stop.HALTED)
+                self.assertEqual(sitting.run(1000).stop, fanthrig.Stop.HALTED)
             self.assertEqual((sitting.ending.kind, sitting.ending.pc), (kind, 0x3000))
             self.assertEqual(sitting.ending, first)
             self.assertEqual(sitting.ending.record.regs, first.record.regs)
@@ -235,7 +235,7 @@ class GoingOn(unittest.TestCase):
         self.assertEqual(told[1], (EndKind.STEPS, 0x3001, OUT))
         self.assertEqual(told[2], (EndKind.HALTED, 0x3002, HALT))
         self.assertEqual(sitting.ending.kind, EndKind.EXCEPTION)
-        self.assertEqual(reports[2], lc3.Report(reports[2].steps, 0, 8, lc3.Stop.HALTED))
+        self.assertEqual(reports[2], fanthrig.Report(reports[2].steps, 0, 8, fanthrig.Stop.HALTED))
 
     def test_a_long_run(self) -> None:
         # R0 counts to 0 again and again, R1 to 100: some 13 million steps, then HALT.
@@ -261,8 +261,8 @@ def class_monitor(**routines: int) -> dict[int, array[int]]:
     waits for some thousand steps before it does so; TRAP x30 ends a program as well.
     """
     table = dict(getc=0, out=0x1100, puts=0x1200, input=0, putsp=0, halt=0x1000, trap=0x1300)
-    made = lc3.Routines(**{**table, "exception": 0x1400, "interrupt": 0x1500, **routines})
-    vectors = lc3.vectors(made)
+    made = fanthrig.Routines(**{**table, "exception": 0x1400, "interrupt": 0x1500, **routines})
+    vectors = fanthrig.vectors(made)
     vectors[0x30] = 0x1200
     stop: Words = ["LD R0, #1", "STI R0, #1", 0x0000, 0xFFFE]
     parts: dict[int, Words] = {
@@ -280,7 +280,7 @@ def class_monitor(**routines: int) -> dict[int, array[int]]:
 
 def _word(word: str | int) -> int:
     """The word of a line, or the word itself."""
-    return lc3.word(word) if isinstance(word, str) else word
+    return fanthrig.word(word) if isinstance(word, str) else word
 
 
 class OtherMonitors(unittest.TestCase):
@@ -349,7 +349,7 @@ class OtherMonitors(unittest.TestCase):
         # OUT is the class's own; PUTS is still the ready-made one.
         sitting = Sitting(object_file(0x3000, OUT, PUTS))
         sitting.memory[0x1100:0x1103] = class_monitor()[0x1100]
-        sitting.memory[0:0x200] = lc3.vectors(replace(lc3.monitor_routines(), out=0x1100))
+        sitting.memory[0:0x200] = fanthrig.vectors(replace(fanthrig.monitor_routines(), out=0x1100))
         self.assertEqual(self.told(sitting), (EndKind.STRING_REFUSED, 0x3001, PUTS))
 
     def test_none_at_all(self) -> None:
@@ -409,24 +409,24 @@ class OtherMonitors(unittest.TestCase):
 class Account(NamedTuple):
     """What single steps tell of a run: those made in User mode, and the record before the last."""
 
-    own: list[lc3.LoggedStep]
-    record: lc3.Record
+    own: list[fanthrig.LoggedStep]
+    record: fanthrig.Record
     halted: bool
 
 
 def account(file: bytes, keys: bytes, steps: int) -> Account:
     """Runs a program beside the ready-made monitor, one logged step at a time."""
     memory, log, output = array("H", bytes(131072)), array("H", [0] * 3), bytearray(8)
-    lc3.monitor(memory)
-    record = lc3.start(file, memory, True, 0xFDFF).record
-    own: list[lc3.LoggedStep] = []
+    fanthrig.monitor(memory)
+    record = fanthrig.start(file, memory, True, 0xFDFF).record
+    own: list[fanthrig.LoggedStep] = []
     before, times = record, array("Q", range(0, 40 * len(keys), 40))
     for _ in range(steps):
-        ran = lc3.run_logged(record, memory, times, keys, output, log, 1)
-        if ran.stop is lc3.Stop.HALTED and not ran.steps:
+        ran = fanthrig.run_logged(record, memory, times, keys, output, log, 1)
+        if ran.stop is fanthrig.Stop.HALTED and not ran.steps:
             break
         if record.mode is Mode.USER:
-            own.append(lc3.logged_steps(log)[0])
+            own.append(fanthrig.logged_steps(log)[0])
             before = record
         record, times, keys = ran.record, times[ran.keys :], keys[ran.keys :]
     here = record if record.mode is Mode.USER else before
@@ -456,7 +456,7 @@ class RandomPrograms(unittest.TestCase):
         """Words of which more or fewer are lively, the others random."""
         share = rng.choice([0.0, 0.5, 0.9, 1.0])
         words = [
-            lc3.word(rng.choice(self.LIVELY)) if rng.random() < share else rng.getrandbits(16)
+            fanthrig.word(rng.choice(self.LIVELY)) if rng.random() < share else rng.getrandbits(16)
             for _ in range(60)
         ]
         return object_file(rng.choice([0x3000, 0x5000, 0xFDC0]), *words)

@@ -6,7 +6,7 @@ from __future__ import annotations
 import unittest
 from array import array
 
-import lc3
+import fanthrig
 
 from . import ROOT
 from .support import ECHO, Words, fresh, object_file, user
@@ -19,7 +19,7 @@ class FourteenExamples(unittest.TestCase):
     """M15."""
 
     def step(self, word: int, at: dict[int, int] | None = None, r: dict[int, int] | None = None,
-             **fields: int) -> tuple[lc3.Record, array[int]]:
+             **fields: int) -> tuple[fanthrig.Record, array[int]]:
         """One step of a word at x3000, with words, registers and fields set."""
         memory, record = fresh(), user()
         for address, value in {**VECTORS, 0x3000: word, **(at or {})}.items():
@@ -28,13 +28,13 @@ class FourteenExamples(unittest.TestCase):
             record.regs[number] = value
         for name, value in fields.items():
             setattr(record, name, value)
-        report = lc3.step(record, memory, array("Q"), b"", bytearray())
-        self.assertEqual((report.steps, report.stop), (1, lc3.Stop.DONE))
+        report = fanthrig.step(record, memory, array("Q"), b"", bytearray())
+        self.assertEqual((report.steps, report.stop), (1, fanthrig.Stop.DONE))
         return record, memory
 
     def test_1_a_word_reads_as_an_instruction(self) -> None:
-        expected = lc3.Instruction(lc3.Kind.ADD_IMMEDIATE, 2, 3, 0, 7)
-        self.assertEqual(lc3.read(0x14E7).instruction, expected)
+        expected = fanthrig.Instruction(fanthrig.Kind.ADD_IMMEDIATE, 2, 3, 0, 7)
+        self.assertEqual(fanthrig.read(0x14E7).instruction, expected)
 
     def test_2_and_3_add(self) -> None:
         record, _ = self.step(0x1021, r={0: 0x7FFF})
@@ -90,22 +90,22 @@ class KnownPrograms(unittest.TestCase):
     def test_the_readme_s_program(self) -> None:
         words = ["LD R0, #3", "STI R0, #3", "AND R0, R0, #0", "STI R0, #2"]
         file = object_file(0x3000, *words, 0x41, 0xFE06, 0xFFFE)
-        sitting = lc3.Sitting(file, monitor=False, mode=lc3.Mode.SUPERVISOR)
-        self.assertEqual(sitting.run(1000), lc3.Report(4, 0, 1, lc3.Stop.HALTED))
+        sitting = fanthrig.Sitting(file, monitor=False, mode=fanthrig.Mode.SUPERVISOR)
+        self.assertEqual(sitting.run(1000), fanthrig.Report(4, 0, 1, fanthrig.Stop.HALTED))
         self.assertEqual(sitting.display, "A")
 
     def test_the_monitor_s_routines(self) -> None:
         # IN; OUT; LEA R0, text; PUTS; LEA R0, packed; PUTSP; HALT
         words = [0xF023, 0xF021, 0xE004, 0xF022, 0xE004, 0xF024, 0xF025]
         words += [ord("!"), 0, 0x6261, 0x0063, 0]
-        sitting = lc3.Sitting(object_file(0x3000, *words))
+        sitting = fanthrig.Sitting(object_file(0x3000, *words))
         sitting.type("q")
-        self.assertEqual(sitting.run(5000).stop, lc3.Stop.HALTED)
+        self.assertEqual(sitting.run(5000).stop, fanthrig.Stop.HALTED)
         self.assertEqual(sitting.display, "Input a character> qq!abcHalted\n")
 
     def test_the_log_of_the_host_s_example(self) -> None:
         words = [0x2004, 0xF021, 0x2203, 0x6440, 0xF025, 0x0041, 0x1000]
-        sitting = lc3.Sitting(object_file(0x3000, *words))
+        sitting = fanthrig.Sitting(object_file(0x3000, *words))
         lines = ["step  PC     word   line              reason"]
         for step in sitting.trace(1000):
             word = f"x{step.word:04X}"
@@ -118,11 +118,11 @@ class KnownPrograms(unittest.TestCase):
 
     def test_the_demonstration_s_files(self) -> None:
         data = ROOT / "crates/demo/data"
-        sitting = lc3.Sitting(data / "candidate.obj", examiner=[data / "answers.obj"])
+        sitting = fanthrig.Sitting(data / "candidate.obj", examiner=[data / "answers.obj"])
         sitting.type("ada 7\n")
-        self.assertEqual(sitting.run(10_000).stop, lc3.Stop.HALTED)
+        self.assertEqual(sitting.run(10_000).stop, fanthrig.Stop.HALTED)
         self.assertEqual(sitting.display[:6], "name? ")
-        other = lc3.Sitting(data / "candidate.obj", examiner=[data / "other_answers.obj"])
+        other = fanthrig.Sitting(data / "candidate.obj", examiner=[data / "other_answers.obj"])
         other.type("ada 7\n")
         other.run(10_000)
         self.assertEqual((other.display, other.clock), (sitting.display, sitting.clock))
@@ -133,11 +133,11 @@ class KnownPrograms(unittest.TestCase):
         main: Words = ["LD R0, #5", "STI R0, #5", "LD R0, #5", "STI R0, #5", "BRnzp #-1", 0]
         main += [10, 0xFE0A, 0x4000, 0xFE08]
         routine: Words = ["ADD R3, R3, #1", "LDI R1, #1", "RTI", 0xFE08]
-        sitting = lc3.Sitting(
+        sitting = fanthrig.Sitting(
             object_file(0x4000, *routine),
             object_file(0x3000, *main),
             monitor=False,
-            mode=lc3.Mode.SUPERVISOR,
+            mode=fanthrig.Mode.SUPERVISOR,
         )
         sitting.memory[0x0181] = 0x4000
         sitting.run(2 + 10 * 20)
@@ -147,11 +147,11 @@ class KnownPrograms(unittest.TestCase):
         # The keyboard's interrupt is enabled; its routine loads KBDR and adds the key to R3.
         routine: Words = ["LDI R1, #2", "ADD R3, R3, R1", "RTI", 0xFE02]
         main: Words = ["LD R0, #2", "STI R0, #2", "BRnzp #-1", 0x4000, 0xFE00]
-        sitting = lc3.Sitting(
+        sitting = fanthrig.Sitting(
             object_file(0x4000, *routine),
             object_file(0x3000, *main),
             monitor=False,
-            mode=lc3.Mode.SUPERVISOR,
+            mode=fanthrig.Mode.SUPERVISOR,
         )
         sitting.memory[0x0180] = 0x4000
         sitting.type(bytes([1, 2, 3, 4]))
@@ -162,14 +162,14 @@ class KnownPrograms(unittest.TestCase):
         # TRAP x40 leads to x4000, which returns by RET; LEA sets the codes.
         main: Words = [0xF040, "LEA R0, #0", "BRp #-1"]
         files = [object_file(0x4000, "ADD R1, R1, #5", "RET"), object_file(0x3000, *main)]
-        sitting = lc3.Sitting(*files, monitor=False, edition=2)
+        sitting = fanthrig.Sitting(*files, monitor=False, edition=2)
         sitting.memory[0x0040] = 0x4000
         sitting.run(50)
         self.assertEqual((sitting["R1"], sitting["PC"], sitting["R7"]), (5, 0x3002, 0x3001))
-        self.assertEqual(sitting.record.mode, lc3.Mode.USER)
+        self.assertEqual(sitting.record.mode, fanthrig.Mode.USER)
 
     def test_an_echo_loses_no_key(self) -> None:
-        sitting = lc3.Sitting(ECHO)
+        sitting = fanthrig.Sitting(ECHO)
         text = "The quick brown fox jumps over the lazy dog.\n" * 5
         sitting.type(text)
         sitting.run(100_000)

@@ -17,7 +17,7 @@ from pathlib import Path
 from types import ModuleType
 from typing import Any
 
-import lc3
+import fanthrig
 
 from . import ROOT
 
@@ -38,25 +38,27 @@ def make_script() -> ModuleType:
 MAKE = make_script()
 
 
-def sitting(name: str, *examiner: str, **settings: Any) -> lc3.Sitting:
+def sitting(name: str, *examiner: str, **settings: Any) -> fanthrig.Sitting:
     """A sitting with an example that runs, beside others that are the examiner's."""
     before = [EXAMPLES / f"{other}.obj" for other in examiner]
-    return lc3.Sitting(EXAMPLES / f"{name}.obj", examiner=before, **settings)
+    return fanthrig.Sitting(EXAMPLES / f"{name}.obj", examiner=before, **settings)
 
 
-def tasks() -> lc3.Sitting:
+def tasks() -> fanthrig.Sitting:
     """A sitting with the tasks, which have words below x3000."""
-    return sitting("tasks", mode=lc3.Mode.SUPERVISOR, anywhere=True)
+    return sitting("tasks", mode=fanthrig.Mode.SUPERVISOR, anywhere=True)
 
 
 class Programs(unittest.TestCase):
     """What each program shows, and where it stops."""
 
-    def halts(self, sat: lc3.Sitting, display: str, reason: lc3.Reason = lc3.Reason.TRAP) -> None:
+    def halts(
+        self, sat: fanthrig.Sitting, display: str, reason: fanthrig.Reason = fanthrig.Reason.TRAP
+    ) -> None:
         """Runs to the halt. The last step out of User mode was for the reason."""
-        self.assertEqual(sat.run(100_000).stop, lc3.Stop.HALTED)
+        self.assertEqual(sat.run(100_000).stop, fanthrig.Stop.HALTED)
         self.assertEqual(sat.display, display)
-        steps = [step for step in sat.last_steps(sat.clock) if step.pc >= lc3.USER_ORIGIN]
+        steps = [step for step in sat.last_steps(sat.clock) if step.pc >= fanthrig.USER_ORIGIN]
         self.assertEqual(steps[-1].reason, reason)
 
     def test_hello(self) -> None:
@@ -73,7 +75,7 @@ class Programs(unittest.TestCase):
     def test_echo_waits_for_keys(self) -> None:
         sat = sitting("echo")
         sat.type("no end")
-        self.assertEqual(sat.run(10_000).stop, lc3.Stop.DONE)
+        self.assertEqual(sat.run(10_000).stop, fanthrig.Stop.DONE)
         self.assertEqual((sat.display, sat.waits()), ("no end", True))
 
     def test_sieve(self) -> None:
@@ -89,35 +91,35 @@ class Programs(unittest.TestCase):
     def test_tasks_take_turns(self) -> None:
         sat = tasks()
         expected = "ABCDEFGHI01234567JKLMNOPQ89012345RSTUVWXYZ678901234\nHalted\n"
-        self.halts(sat, expected, lc3.Reason.TRAP)
+        self.halts(sat, expected, fanthrig.Reason.TRAP)
         reasons = [step.reason for step in sat.last_steps(sat.clock)]
-        self.assertEqual(reasons.count(lc3.Reason.TIMER), 6)
+        self.assertEqual(reasons.count(fanthrig.Reason.TIMER), 6)
 
     def test_tasks_lose_nothing_whatever_the_turn(self) -> None:
         for steps in (50, 77, 100, 131, 1000):
             sat = tasks()
             sat.memory[0x2FF8] = steps
-            self.assertEqual(sat.run(100_000).stop, lc3.Stop.HALTED)
+            self.assertEqual(sat.run(100_000).stop, fanthrig.Stop.HALTED)
             others = "".join(c for c in sat.display if not c.isdigit())
             self.assertEqual(others, "ABCDEFGHIJKLMNOPQRSTUVWXYZ\nHalted\n")
             digits = "".join(c for c in sat.display if c.isdigit())
             self.assertEqual(digits, ("0123456789" * 100)[: len(digits)])
 
     def test_tasks_need_supervisor_mode(self) -> None:
-        with self.assertRaisesRegex(lc3.Refused, r"tasks.obj: refused \(21\)"):
-            sitting("tasks", mode=lc3.Mode.SUPERVISOR)
+        with self.assertRaisesRegex(fanthrig.Refused, r"tasks.obj: refused \(21\)"):
+            sitting("tasks", mode=fanthrig.Mode.SUPERVISOR)
         sat = sitting("tasks", anywhere=True)
-        self.assertEqual((sat.run(1000).stop, sat.display), (lc3.Stop.HALTED, ""))
-        self.assertEqual(sat.last_steps(sat.clock)[0].reason, lc3.Reason.ACCESS)
+        self.assertEqual((sat.run(1000).stop, sat.display), (fanthrig.Stop.HALTED, ""))
+        self.assertEqual(sat.last_steps(sat.clock)[0].reason, fanthrig.Reason.ACCESS)
 
     def test_answers_are_not_given(self) -> None:
         sat, shown = sitting("answers", "examiner"), "The first answer is:\n"
-        self.halts(sat, shown, lc3.Reason.ACCESS)
+        self.halts(sat, shown, fanthrig.Reason.ACCESS)
         self.assertEqual(sat.memory[0x2000], ord("B"))
         other = sitting("answers", "examiner")
         for address in range(0x2000, 0x2004):
             other.memory[address] = ord("Z")
-        self.halts(other, shown, lc3.Reason.ACCESS)
+        self.halts(other, shown, fanthrig.Reason.ACCESS)
         self.assertEqual(other.record, sat.record)
         self.assertEqual(other.last_steps(other.clock), sat.last_steps(sat.clock))
 
@@ -138,7 +140,7 @@ class Listings(unittest.TestCase):
                 self.assertLessEqual(len(text), 120)
                 match = MAKE.LINE.fullmatch(text)
                 if match and not match[3].startswith(".FILL"):
-                    self.assertEqual(lc3.line(int(match[2], 16)), match[3])
+                    self.assertEqual(fanthrig.line(int(match[2], 16)), match[3])
 
     def test_each_listing_names_its_command(self) -> None:
         for name in set(NAMES) - {"examiner"}:
@@ -180,7 +182,7 @@ class Readme(unittest.TestCase):
         shown = re.findall(r"\nlc3 (.*)\n```\n\n```text\n((?:[^`].*\n)+)```\n", self.text)
         self.assertEqual([command.split()[0] for command, _ in shown], ["run", "log"])
         for command, block in shown:
-            words = [sys.executable, "-m", "lc3", *command.split()]
+            words = [sys.executable, "-m", "fanthrig", *command.split()]
             said = subprocess.run(
                 words,
                 env={**os.environ, "PYTHONPATH": str(ROOT / "python")},

@@ -18,9 +18,9 @@ from time import monotonic, sleep
 from typing import Any, Callable
 from unittest import mock
 
-import lc3
-from lc3 import InUseError, Sitting, Stop
-from lc3._library import LIBRARY
+import fanthrig
+from fanthrig import InUseError, Sitting, Stop
+from fanthrig._library import LIBRARY
 
 from . import ROOT
 from .support import COUNTING, ECHO, fresh, object_file, user, whole_state
@@ -31,7 +31,7 @@ STORING = object_file(0x3000, "ADD R0, R0, #1", "ST R0, #2", "BRnzp #-3", 0, 0)
 # Two threads with runs of different lengths: the log of one grew under the other.
 BOTH_RUN = """
 import sys, threading, time
-import lc3
+import fanthrig
 
 sys.setswitchinterval(1e-5)
 
@@ -39,11 +39,11 @@ def run(sitting, steps):
     for _ in range(3):
         try:
             sitting.run(steps)
-        except lc3.InUseError:
+        except fanthrig.InUseError:
             pass
 
 for turn in range(150):
-    sitting = lc3.Sitting(bytes.fromhex("3000 1021 0FFE"))
+    sitting = fanthrig.Sitting(bytes.fromhex("3000 1021 0FFE"))
     sitting.breakpoints.add(0x4000)
     threads = [threading.Thread(target=run, args=(sitting, n)) for n in (60_000, 200_000)]
     for thread in threads:
@@ -192,7 +192,7 @@ class InUse(unittest.TestCase):
             "a value": lambda: sitting.__setitem__("PSR", 8),
         }
         for name, use in wrong.items():
-            with self.subTest(name), self.assertRaises((ValueError, lc3.Refused)):
+            with self.subTest(name), self.assertRaises((ValueError, fanthrig.Refused)):
                 use()
         self.assertEqual(sitting.run(5).steps, 5)
 
@@ -236,7 +236,7 @@ class Handlers(unittest.TestCase):
         text, raised = "to be, or not to be" * 5, 0
         self.armed = False
         self.addCleanup(signal.setitimer, signal.ITIMER_REAL, 0)
-        for edition in lc3.Edition:
+        for edition in fanthrig.Edition:
             late, plain = self.runs(edition, text), self.runs(edition, text)
             plain.run(6000)
             signal.setitimer(signal.ITIMER_REAL, 0.0003, 0.0003)
@@ -255,11 +255,11 @@ class Handlers(unittest.TestCase):
         self.assertGreater(raised, 10)
 
     @staticmethod
-    def runs(edition: lc3.Edition, text: str) -> Sitting:
+    def runs(edition: fanthrig.Edition, text: str) -> Sitting:
         """A sitting with keys to come. By the second edition's rules a loop shows them."""
         words = ["LDI R0, #5", "BRzp #-2", "LDI R0, #4", "STI R0, #4", "BRnzp #-5"]
         file = object_file(0x3000, *words, 0, 0xFE00, 0xFE02, 0xFE06)
-        sitting = Sitting(file, mode=lc3.Mode.SUPERVISOR, edition=edition, monitor=False)
+        sitting = Sitting(file, mode=fanthrig.Mode.SUPERVISOR, edition=edition, monitor=False)
         sitting.breakpoints = {0x5000}
         sitting.type(text)
         return sitting
@@ -284,7 +284,7 @@ class Handlers(unittest.TestCase):
         sitting = Sitting(STORING)
         for number in (signal.SIGALRM, signal.SIGRTMIN):
             in_the_middle(sitting, lambda: signal.raise_signal(number))
-            self.assertEqual(sitting.run(3 * lc3.MAX_STEPS).steps, 3 * lc3.MAX_STEPS)
+            self.assertEqual(sitting.run(3 * fanthrig.MAX_STEPS).steps, 3 * fanthrig.MAX_STEPS)
         self.assertEqual(self.handled, [signal.SIGALRM, signal.SIGRTMIN])
 
     def test_a_long_run_is_ended_by_a_handler(self) -> None:
@@ -294,11 +294,11 @@ class Handlers(unittest.TestCase):
             sitting.run()
         self.assertIs(sitting.stop, Stop.INTERRUPTED)
         self.assertIn(sitting["R0"] - sitting.memory[0x3004], (0, 1))
-        self.assertIs(sitting.ending.kind, lc3.EndKind.INTERRUPTED)
+        self.assertIs(sitting.ending.kind, fanthrig.EndKind.INTERRUPTED)
         self.armed = False
         in_the_middle(sitting, lambda: signal.raise_signal(signal.SIGUSR1))
-        self.assertIs(sitting.run(3 * lc3.MAX_STEPS).ending.kind, lc3.EndKind.STEPS)
-        self.assertIs(sitting.ending.kind, lc3.EndKind.STEPS)
+        self.assertIs(sitting.run(3 * fanthrig.MAX_STEPS).ending.kind, fanthrig.EndKind.STEPS)
+        self.assertIs(sitting.ending.kind, fanthrig.EndKind.STEPS)
 
     def test_each_handler_is_called_once_and_put_back(self) -> None:
         sitting = Sitting(STORING)
@@ -324,7 +324,7 @@ class Handlers(unittest.TestCase):
 
         signal.signal(signal.SIGUSR1, change)
         in_the_middle(sitting, lambda: signal.raise_signal(signal.SIGUSR1))
-        sitting.run(3 * lc3.MAX_STEPS)
+        sitting.run(3 * fanthrig.MAX_STEPS)
         self.assertIs(signal.getsignal(signal.SIGUSR1), signal.SIG_IGN)
 
     def test_a_handler_that_uses_the_sitting(self) -> None:
@@ -341,10 +341,10 @@ class Handlers(unittest.TestCase):
         signal.signal(signal.SIGUSR1, use)
         in_the_middle(sitting, lambda: signal.raise_signal(signal.SIGUSR1))
         # In the middle of a long run it may not; when the call is over it may.
-        sitting.run(3 * lc3.MAX_STEPS)
+        sitting.run(3 * fanthrig.MAX_STEPS)
         in_the_middle(sitting, lambda: signal.raise_signal(signal.SIGUSR1))
         sitting.run(1000)
-        self.assertEqual((told, sitting.clock), (["in use", 1], 3 * lc3.MAX_STEPS + 1001))
+        self.assertEqual((told, sitting.clock), (["in use", 1], 3 * fanthrig.MAX_STEPS + 1001))
 
     def test_a_run_in_another_thread_is_not_disturbed(self) -> None:
         sitting, other = Sitting(STORING), Sitting(STORING)
@@ -367,7 +367,7 @@ class Handlers(unittest.TestCase):
 
     def test_a_step_of_the_host_s_own_record(self) -> None:
         memory, record = fresh(), user()
-        memory[0x3000] = lc3.word("ST R6, #5")
+        memory[0x3000] = fanthrig.word("ST R6, #5")
 
         def act(*lent: Any) -> Any:
             """The call, and a signal before its answer is booked."""
@@ -377,7 +377,7 @@ class Handlers(unittest.TestCase):
 
         usual = LIBRARY.lc3_step
         with mock.patch.object(LIBRARY, "lc3_step", act), self.assertRaises(Late):
-            lc3.step(record, memory, array("Q"), b"", bytearray())
+            fanthrig.step(record, memory, array("Q"), b"", bytearray())
         self.assertEqual((memory[0x3006], record.pc, record.clock), (0xFDFF, 0x3001, 1))
 
     def test_a_pipe_that_nobody_writes_can_be_left(self) -> None:
@@ -453,8 +453,8 @@ class Uses(threading.Thread):
             self.rng.choice(ways)()
         except InUseError:
             self.refused += 1
-        except lc3.Refused as refused:
-            assert refused.number is lc3.Refusal.TIME
+        except fanthrig.Refused as refused:
+            assert refused.number is fanthrig.Refusal.TIME
 
 
 if __name__ == "__main__":

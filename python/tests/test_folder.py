@@ -43,29 +43,29 @@ class Submissions(Folder):
 
     def test_as_a_module(self) -> None:
         ran, path = plant(self.folder, *NEEDED), os.fspath(ROOT / "python")
-        self.obeyed(sys.executable, "-m", "lc3", path=path)
-        self.obeyed(sys.executable, "-um", "lc3", path=path)
+        self.obeyed(sys.executable, "-m", "fanthrig", path=path)
+        self.obeyed(sys.executable, "-um", "fanthrig", path=path)
         self.assertFalse(ran.exists())
 
     def test_as_a_module_where_the_path_has_the_folder(self) -> None:
         ran = plant(self.folder, "json")
         for before in (":", ".:", f"{self.folder}:"):
-            self.obeyed(sys.executable, "-m", "lc3", path=f"{before}{ROOT / 'python'}")
+            self.obeyed(sys.executable, "-m", "fanthrig", path=f"{before}{ROOT / 'python'}")
         self.assertFalse(ran.exists())
 
     def test_other_programs_keep_their_folder(self) -> None:
         ran = plant(self.folder, "mine")
-        self.file("host/__init__.py", "import lc3, mine\n")
+        self.file("host/__init__.py", "import fanthrig, mine\n")
         self.file("host/__main__.py", "")
-        words = [sys.executable, "-m", "host", "-m", "lc3"]
+        words = [sys.executable, "-m", "host", "-m", "fanthrig"]
         done = subprocess.run(words, cwd=self.folder, env=ENVIRONMENT, capture_output=True)
         self.assertEqual((done.returncode, ran.read_text()), (0, "mine "), done.stderr)
 
     @unittest.skipIf(sys.version_info < (3, 11), "this Python has no -P")
     def test_by_safe_path(self) -> None:
         library = Path(os.__file__).parent.glob("[a-z]*.py")
-        ran = plant(self.folder, "lc3", *NEEDED, *(path.stem for path in library))
-        self.obeyed(sys.executable, "-P", "-m", "lc3", path=os.fspath(ROOT / "python"))
+        ran = plant(self.folder, "fanthrig", *NEEDED, *(path.stem for path in library))
+        self.obeyed(sys.executable, "-P", "-m", "fanthrig", path=os.fspath(ROOT / "python"))
         self.assertFalse(ran.exists())
 
 

@@ -13,19 +13,19 @@ import unittest
 from pathlib import Path
 from typing import Callable, Iterator
 
-import lc3
-from lc3.command.options import parser
+import fanthrig
+from fanthrig.command.options import parser
 
 from . import ROOT
 from .test_folder import plant
 
 PREFIX = "usr/local"
-PACKAGE = ROOT / "python" / "lc3"
+PACKAGE = ROOT / "python" / "fanthrig"
 MANUAL = ROOT / "docs" / "lc3.1"
 HELLO = ROOT / "examples" / "hello.obj"
 
 PROGRAM = """\
-#include <lc3.h>
+#include <fanthrig/lc3.h>
 #include <stdio.h>
 
 int main(void) {
@@ -39,7 +39,7 @@ int main(void) {
 
 def environment(**more: str) -> dict[str, str]:
     """An environment that leads to no module or library of its own."""
-    away = ("PYTHONPATH", "LC3_LIBRARY", "LD_LIBRARY_PATH", "MAKEFLAGS", "MFLAGS", "MAKELEVEL")
+    away = ("PYTHONPATH", "FANTHRIG_LIBRARY", "LD_LIBRARY_PATH", "MAKEFLAGS", "MFLAGS", "MAKELEVEL")
     return {**{key: value for key, value in os.environ.items() if key not in away}, **more}
 
 
@@ -95,7 +95,9 @@ def examples() -> set[str]:
     return {path.name for path in (ROOT / "examples").iterdir() if path.suffix in kinds}
 
 
-@unittest.skipUnless((ROOT / "build" / "liblc3.a").exists(), "no library: `make lib` comes first")
+@unittest.skipUnless(
+    (ROOT / "build" / "libfanthrig.a").exists(), "no library: `make lib` comes first"
+)
 class Installed(unittest.TestCase):
     """What stands where after ``make install``, and that it works from there."""
 
@@ -108,15 +110,20 @@ class Installed(unittest.TestCase):
         cls.folder = new_folder(cls.addClassCleanup) / "a place"
         make("install", cls.folder)
         cls.prefix = cls.folder / PREFIX
-        cls.package = next(cls.prefix.glob("lib/python3*/*-packages/lc3"))
+        cls.package = next(cls.prefix.glob("lib/python3*/*-packages/fanthrig"))
 
     def test_each_file_is_where_it_should_be(self) -> None:
         place = str(self.package.parent.relative_to(self.prefix))
-        expected = {f"{place}/{name}" for name in modules() | {"lc3/liblc3.path"}}
-        expected |= {f"share/doc/lc3/examples/{name}" for name in examples()}
-        expected |= {"bin/lc3", "include/lc3.h", "share/man/man1/lc3.1", "lib/pkgconfig/lc3.pc"}
+        expected = {f"{place}/{name}" for name in modules() | {"fanthrig/libfanthrig.path"}}
+        expected |= {f"share/doc/fanthrig/examples/{name}" for name in examples()}
+        expected |= {
+            "bin/lc3",
+            "include/fanthrig/lc3.h",
+            "share/man/man1/lc3.1",
+            "lib/pkgconfig/fanthrig.pc",
+        }
         expected.add("share/bash-completion/completions/lc3")
-        library = ("liblc3.a", "liblc3.so", f"liblc3.so.{lc3.VERSION}")
+        library = ("libfanthrig.a", "libfanthrig.so", f"libfanthrig.so.{fanthrig.VERSION}")
         expected |= {f"lib/{name}" for name in library}
         compiled = {name for name in files(self.prefix) if name.endswith(".pyc")}
         self.assertEqual(files(self.prefix) - compiled, expected)
@@ -127,16 +134,23 @@ class Installed(unittest.TestCase):
         for path in self.prefix.rglob("*"):
             mode = 0o755 if path.is_dir() or path.parent.name == "bin" else 0o644
             self.assertEqual((path, path.stat().st_mode & 0o777), (path, mode))
-        self.assertEqual(os.readlink(self.prefix / "lib/liblc3.so"), f"liblc3.so.{lc3.VERSION}")
-        for source, name in ((ROOT / "include/lc3.h", "include"), (MANUAL, "share/man/man1")):
+        self.assertEqual(
+            os.readlink(self.prefix / "lib/libfanthrig.so"), f"libfanthrig.so.{fanthrig.VERSION}"
+        )
+        for source, name in (
+            (ROOT / "include/fanthrig/lc3.h", "include/fanthrig"),
+            (MANUAL, "share/man/man1"),
+        ):
             installed = self.prefix / name / source.name
             self.assertEqual(installed.read_bytes(), source.read_bytes())
 
     def test_python_finds_module_and_library(self) -> None:
-        program = "import lc3; print(lc3.__file__, lc3._library.LIBRARY.path, sep='\\n')"
+        program = (
+            "import fanthrig; print(fanthrig.__file__, fanthrig._library.LIBRARY.path, sep='\\n')"
+        )
         python = (self.prefix / "bin/lc3").read_text().splitlines()[0][2:].removesuffix(" -I")
         said = obey(python, "-c", program, PYTHONPATH=str(self.package.parent))
-        library = self.prefix / f"lib/liblc3.so.{lc3.VERSION}"
+        library = self.prefix / f"lib/libfanthrig.so.{fanthrig.VERSION}"
         self.assertEqual(said.stdout.split("\n")[:2], [f"{self.package}/__init__.py", str(library)])
 
     def test_debian_s_python_looks_there_by_itself(self) -> None:
@@ -158,13 +172,15 @@ class Installed(unittest.TestCase):
         (root / "system").symlink_to(self.folder)
         (root / "program.c").write_text(PROGRAM)
         where = {"PKG_CONFIG_LIBDIR": place, "PKG_CONFIG_SYSROOT_DIR": str(root / "system")}
-        version = obey("pkg-config", "--modversion", "lc3", **where).stdout
-        self.assertEqual(version, f"{lc3.__version__}\n")
-        flags = obey("pkg-config", "--cflags", "--libs", "lc3", **where).stdout.split()
+        version = obey("pkg-config", "--modversion", "fanthrig", **where).stdout
+        self.assertEqual(version, f"{fanthrig.__version__}\n")
+        flags = obey("pkg-config", "--cflags", "--libs", "fanthrig", **where).stdout.split()
         made = obey("gcc", "-Wall", "-Werror", root / "program.c", "-o", root / "program", *flags)
         self.assertEqual((made.returncode, made.stderr), (0, ""))
         said = obey(root / "program", LD_LIBRARY_PATH=str(self.prefix / "lib"))
-        self.assertEqual((said.returncode, said.stdout), (0, f"{lc3.VERSION} ADD R2, R3, #7\n"))
+        self.assertEqual(
+            (said.returncode, said.stdout), (0, f"{fanthrig.VERSION} ADD R2, R3, #7\n")
+        )
 
     def test_the_command_runs(self) -> None:
         said = obey(self.prefix / "bin/lc3", "run", HELLO)
@@ -172,14 +188,16 @@ class Installed(unittest.TestCase):
         self.assertIn("halted by HALT", said.stderr)
 
     def test_the_command_without_its_library(self) -> None:
-        said = obey(self.prefix / "bin/lc3", "run", HELLO, LC3_LIBRARY="no/liblc3.so")
+        said = obey(self.prefix / "bin/lc3", "run", HELLO, FANTHRIG_LIBRARY="no/libfanthrig.so")
         self.assertEqual((said.returncode, said.stdout), (3, ""))
-        self.assertTrue(said.stderr.startswith("lc3: no liblc3.so of version "), said.stderr)
+        self.assertTrue(said.stderr.startswith("lc3: no libfanthrig.so of version "), said.stderr)
         self.assertNotIn("Traceback", said.stderr)
 
     def test_the_command_among_submissions(self) -> None:
         folder = new_folder(self.addCleanup)
-        ran = plant(folder, "lc3", "json", "runpy", "contextlib", "os", "re", "types", "typing")
+        ran = plant(
+            folder, "fanthrig", "json", "runpy", "contextlib", "os", "re", "types", "typing"
+        )
         for path in ("", ".", str(folder)):
             done = subprocess.run(
                 [self.prefix / "bin/lc3", "run", HELLO],
@@ -192,12 +210,12 @@ class Installed(unittest.TestCase):
             self.assertFalse(ran.exists())
 
     def test_the_command_tells_its_versions_without_its_library(self) -> None:
-        said = obey(self.prefix / "bin/lc3", "--version", LC3_LIBRARY="no/liblc3.so")
-        expected = f"lc3 {lc3.__version__}, interface {lc3.VERSION}\n"
+        said = obey(self.prefix / "bin/lc3", "--version", FANTHRIG_LIBRARY="no/libfanthrig.so")
+        expected = f"lc3 {fanthrig.__version__}, interface {fanthrig.VERSION}\n"
         self.assertEqual((said.returncode, said.stdout), (0, expected))
 
     def test_the_examples_run(self) -> None:
-        folder = self.prefix / "share/doc/lc3/examples"
+        folder = self.prefix / "share/doc/fanthrig/examples"
         said = obey(self.prefix / "bin/lc3", "run", folder / "hello.obj")
         self.assertEqual((said.returncode, said.stdout), (0, "Hello, world!\nHalted\n"))
 
@@ -216,7 +234,9 @@ class Installed(unittest.TestCase):
         self.assertEqual(obey(*marking, HELLO, HELLO.with_name("sieve.obj")).returncode, 1)
 
 
-@unittest.skipUnless((ROOT / "build" / "liblc3.a").exists(), "no library: `make lib` comes first")
+@unittest.skipUnless(
+    (ROOT / "build" / "libfanthrig.a").exists(), "no library: `make lib` comes first"
+)
 class Elsewhere(unittest.TestCase):
     """Folders of other names, and with spaces in them."""
 
@@ -229,11 +249,11 @@ class Elsewhere(unittest.TestCase):
         placed = folder / f"moved{prefix}"
         said = obey(placed / "bin/lc3", "run", HELLO)
         self.assertEqual((said.returncode, said.stdout), (0, "Hello, world!\nHalted\n"))
-        program = "import lc3; print(lc3._library.LIBRARY.path)"
+        program = "import fanthrig; print(fanthrig._library.LIBRARY.path)"
         python = (placed / "bin/lc3").read_text().split()[0][2:]
-        package = next(placed.glob("lib/python3*/*-packages/lc3"))
+        package = next(placed.glob("lib/python3*/*-packages/fanthrig"))
         found = obey(python, "-c", program, PYTHONPATH=str(package.parent)).stdout
-        self.assertEqual(found, f"{placed / libraries / f'liblc3.so.{lc3.VERSION}'}\n")
+        self.assertEqual(found, f"{placed / libraries / f'libfanthrig.so.{fanthrig.VERSION}'}\n")
         return placed
 
     def test_a_folder_for_libraries_of_any_name(self) -> None:
@@ -249,14 +269,16 @@ class Elsewhere(unittest.TestCase):
             "PKG_CONFIG_SYSROOT_DIR": str(placed.parent.parent),
         }
         (placed / "program.c").write_text(PROGRAM)
-        flags = shlex.split(obey("pkg-config", "--cflags", "--libs", "lc3", **where).stdout)
+        flags = shlex.split(obey("pkg-config", "--cflags", "--libs", "fanthrig", **where).stdout)
         made = obey("gcc", "-Wall", placed / "program.c", "-o", placed / "program", *flags)
         self.assertEqual((made.returncode, made.stderr), (0, ""))
         said = obey(placed / "program", LD_LIBRARY_PATH=str(placed / "lib of mine"))
-        self.assertEqual(said.stdout, f"{lc3.VERSION} ADD R2, R3, #7\n")
+        self.assertEqual(said.stdout, f"{fanthrig.VERSION} ADD R2, R3, #7\n")
 
 
-@unittest.skipUnless((ROOT / "build" / "liblc3.a").exists(), "no library: `make lib` comes first")
+@unittest.skipUnless(
+    (ROOT / "build" / "libfanthrig.a").exists(), "no library: `make lib` comes first"
+)
 class Uninstalled(unittest.TestCase):
     """What ``make uninstall`` leaves, by the usual prefix and by others."""
 
@@ -273,7 +295,7 @@ class Uninstalled(unittest.TestCase):
     def test_uninstalling_takes_nothing_else(self) -> None:
         folder = new_folder(self.addCleanup)
         make("install", folder)
-        package = next(folder.glob(f"{PREFIX}/lib/python3*/*-packages/lc3"))
+        package = next(folder.glob(f"{PREFIX}/lib/python3*/*-packages/fanthrig"))
         cached = package / "__pycache__" / "words.cpython-399.pyc"
         names = ("lib/other.a", "include/other.h", "bin/other")
         others = [folder / PREFIX / name for name in names]
@@ -285,15 +307,15 @@ class Uninstalled(unittest.TestCase):
 
     def test_a_prefix_in_which_no_python_looks(self) -> None:
         found = self.installed("PREFIX=/opt/lc3")
-        self.assertIn("opt/lc3/lib/python3/dist-packages/lc3/words.py", found)
+        self.assertIn("opt/lc3/lib/python3/dist-packages/fanthrig/words.py", found)
         self.assertIn("opt/lc3/bin/lc3", found)
 
     def test_a_folder_for_libraries(self) -> None:
         self.installed("PREFIX=/opt/my machines", "LIBDIR=/opt/my machines/lib64")
         found = self.installed("PREFIX=/usr", "LIBDIR=/usr/lib/x86_64-linux-gnu")
-        names = ("liblc3.a", "liblc3.so", "pkgconfig/lc3.pc")
+        names = ("libfanthrig.a", "libfanthrig.so", "pkgconfig/fanthrig.pc")
         self.assertLessEqual({f"usr/lib/x86_64-linux-gnu/{name}" for name in names}, found)
-        self.assertIn("usr/include/lc3.h", found)
+        self.assertIn("usr/include/fanthrig/lc3.h", found)
 
 
 class Manual(unittest.TestCase):
@@ -315,7 +337,7 @@ class Manual(unittest.TestCase):
 
     def test_version_and_lines(self) -> None:
         text = MANUAL.read_text(encoding="ascii")
-        self.assertIn(f'"lc3 {lc3.__version__}, interface {lc3.VERSION}"', text)
+        self.assertIn(f'"lc3 {fanthrig.__version__}, interface {fanthrig.VERSION}"', text)
         self.assertLessEqual(max(map(len, text.splitlines())), 120)
 
 

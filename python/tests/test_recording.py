@@ -12,9 +12,9 @@ from pathlib import Path
 from typing import Any, Callable, Iterator
 from unittest import mock
 
-import lc3
-from lc3 import Recording, RecordingError, ReplayError, Sitting
-from lc3.recording import RegisterAlteration, sealed
+import fanthrig
+from fanthrig import Recording, RecordingError, ReplayError, Sitting
+from fanthrig.recording import RegisterAlteration, sealed
 
 from .command_support import HELLO
 from .support import COUNTING, ECHO, object_file, random_keys, random_memory, random_record
@@ -25,7 +25,7 @@ def lived(seed: int) -> Sitting:
     """A random sitting: runs, steps, breakpoints, typed and pressed keys, and alterations."""
     rng = random.Random(seed)
     record = random_record(rng)
-    sitting = sitting_of(record, random_memory(rng), rng.choice(list(lc3.Edition)))
+    sitting = sitting_of(record, random_memory(rng), rng.choice(list(fanthrig.Edition)))
     if rng.random() < 0.4:
         sitting = Sitting(object_file(0x4000, 0xF025), ECHO)
     times, keys = random_keys(rng, sitting.clock, 400)
@@ -288,7 +288,9 @@ class Saving(unittest.TestCase):
         self.assertEqual(caught.exception.filename, "/dev/full")
 
     def test_what_is_too_long_to_be_read(self) -> None:
-        with mock.patch("lc3.recording.LONGEST", 1000), tempfile.TemporaryDirectory() as folder:
+        with mock.patch(
+            "fanthrig.recording.LONGEST", 1000
+        ), tempfile.TemporaryDirectory() as folder:
             path = Path(folder) / "long.json"
             with self.assertRaisesRegex(RecordingError, "long.json: the sitting is longer"):
                 Sitting(ECHO).save(path)

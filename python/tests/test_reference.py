@@ -6,7 +6,7 @@ import random
 import unittest
 from array import array
 
-import lc3
+import fanthrig
 
 from .support import random_keys, random_memory, random_record, record_of, simulator
 
@@ -25,7 +25,7 @@ class RandomRuns(unittest.TestCase):
         other.keys, other.room = list(zip(times, keys)), rng.choice([0, 1, 3, 100])
         output = bytearray(other.room)
         steps, stop = other.run(STEPS)
-        run = lc3.run_second if second else lc3.run
+        run = fanthrig.run_second if second else fanthrig.run
         ran = run(record, memory, times, keys, output, STEPS)
         self.assertEqual((ran.steps, int(ran.stop)), (steps, stop), seed)
         self.assertEqual(ran.record, record_of(other), seed)
@@ -52,15 +52,18 @@ class RandomRuns(unittest.TestCase):
             other.keys = list(zip(times, keys))
             other.run(STEPS)
             log = array("H", bytes(6 * STEPS))
-            ran = lc3.run_logged(record, memory, times, keys, bytearray(STEPS), log, STEPS)
+            ran = fanthrig.run_logged(record, memory, times, keys, bytearray(STEPS), log, STEPS)
             self.assertEqual(log[: ran.logged].tolist(), other.log, seed)
             self.assertEqual(ran.record, record_of(other), seed)
-            reasons |= {step.reason for step in lc3.logged_steps(log[: ran.logged])}
-        self.assertEqual(reasons, set(lc3.Reason))
+            reasons |= {step.reason for step in fanthrig.logged_steps(log[: ran.logged])}
+        self.assertEqual(reasons, set(fanthrig.Reason))
 
     def test_single_steps_equal_a_run(self) -> None:
         for seed in range(60):
-            for run, step in ((lc3.run, lc3.step), (lc3.run_second, lc3.step_second)):
+            for run, step in (
+                (fanthrig.run, fanthrig.step),
+                (fanthrig.run_second, fanthrig.step_second),
+            ):
                 rng = random.Random(seed)
                 memory, record = random_memory(rng), random_record(rng)
                 times, keys = random_keys(rng, record.clock, STEPS)

@@ -11,7 +11,7 @@ import sys
 import unittest
 from unittest import mock
 
-import lc3
+import fanthrig
 
 from . import ROOT
 
@@ -25,7 +25,7 @@ class Version(unittest.TestCase):
         self.assertRegex(VERSION, r"^\d+\.\d+\.\d+$")
 
     def test_the_module(self) -> None:
-        self.assertEqual(lc3.__version__, VERSION)
+        self.assertEqual(fanthrig.__version__, VERSION)
 
     def test_the_crates(self) -> None:
         text = (ROOT / "host/Cargo.toml").read_text(encoding="utf-8")
@@ -37,7 +37,7 @@ class Version(unittest.TestCase):
             import release
             from release import debian, trees, wheel
         names = [wheel.NAME, trees.BINARY, debian.REVISION]
-        self.assertEqual((release.VERSION, release.interface()), (VERSION, str(lc3.VERSION)))
+        self.assertEqual((release.VERSION, release.interface()), (VERSION, str(fanthrig.VERSION)))
         self.assertTrue(all(VERSION in name for name in names), names)
 
 

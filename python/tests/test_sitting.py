@@ -15,14 +15,14 @@ from pathlib import Path
 from time import perf_counter
 from typing import Any
 
-import lc3
-from lc3 import Refused, Sitting, Stop
-from lc3.sitting import File
+import fanthrig
+from fanthrig import Refused, Sitting, Stop
+from fanthrig.sitting import File
 
 from .support import COUNTING, ECHO, Words, fresh, object_file, random_keys, random_memory
 from .support import random_record, simulator, sitting_of, user, whole_state
 
-THIRD, SECOND = lc3.Edition.THIRD, lc3.Edition.SECOND
+THIRD, SECOND = fanthrig.Edition.THIRD, fanthrig.Edition.SECOND
 
 
 class Loading(unittest.TestCase):
@@ -36,7 +36,7 @@ class Loading(unittest.TestCase):
             for file in [*files, bytearray(COUNTING), memoryview(COUNTING)]:
                 sitting = Sitting(file)
                 self.assertEqual((sitting["PC"], sitting.memory[0x3001]), (0x3000, 0x0FFE))
-            self.assertEqual(Sitting(path).programs, [lc3.Program(str(path), 0x3000, 2)])
+            self.assertEqual(Sitting(path).programs, [fanthrig.Program(str(path), 0x3000, 2)])
 
     def test_refused_files_are_named(self) -> None:
         with tempfile.TemporaryDirectory() as folder:
@@ -72,7 +72,7 @@ class Loading(unittest.TestCase):
         self.assertEqual((sitting["PSR"], sitting["R6"], sitting["Saved_SSP"]),
                          (0x8002, 0xFDFF, 0x3000))
         self.assertEqual(sitting.memory[0x25], 0x026D)
-        mode = lc3.Mode.SUPERVISOR
+        mode = fanthrig.Mode.SUPERVISOR
         sitting = Sitting(COUNTING, mode=mode, pc=0x3001, stack=0x5000, monitor=False)
         self.assertEqual((sitting["PSR"], sitting["R6"], sitting["Saved_USP"]), (2, 0x3000, 0x5000))
         self.assertEqual((sitting["PC"], sitting.memory[0x25]), (0x3001, 0))
@@ -90,7 +90,7 @@ class Loading(unittest.TestCase):
         sitting.type("de")
         sitting.run(1000)
         self.assertEqual(sitting.display, "de")
-        sitting.start(0x3001, lc3.Mode.SUPERVISOR, 0x5000)
+        sitting.start(0x3001, fanthrig.Mode.SUPERVISOR, 0x5000)
         sitting.start()
         self.assertEqual((sitting["PC"], sitting["PSR"], sitting["Saved_USP"]), (0x3000, 2, 0x5000))
 
@@ -100,8 +100,8 @@ class Running(unittest.TestCase):
 
     def test_long_runs(self) -> None:
         sitting = Sitting(COUNTING)
-        steps = 3 * lc3.MAX_STEPS + 5
-        self.assertEqual(sitting.run(steps), lc3.Report(steps, 0, 0, Stop.DONE))
+        steps = 3 * fanthrig.MAX_STEPS + 5
+        self.assertEqual(sitting.run(steps), fanthrig.Report(steps, 0, 0, Stop.DONE))
         self.assertEqual((sitting.clock, sitting["R0"]), (steps, (steps + 1) // 2 & 0xFFFF))
 
     def test_a_run_without_a_number_goes_on_to_the_halt(self) -> None:
@@ -109,12 +109,12 @@ class Running(unittest.TestCase):
         self.assertEqual(sitting.run().stop, Stop.HALTED)
         self.assertTrue(sitting.halted)
         self.assertEqual(sitting.display, "Halted\n")
-        self.assertEqual(sitting.run(), lc3.Report(0, 0, 0, Stop.HALTED))
+        self.assertEqual(sitting.run(), fanthrig.Report(0, 0, 0, Stop.HALTED))
         self.assertEqual(sitting.run(0).stop, Stop.DONE)
 
     def test_steps_that_are_refused(self) -> None:
         sitting = Sitting(COUNTING)
-        for steps in (lc3.MAX_CLOCK + 1, (1 << 64) - 1):
+        for steps in (fanthrig.MAX_CLOCK + 1, (1 << 64) - 1):
             with self.assertRaises(Refused) as caught:
                 sitting.run(steps)
             self.assertEqual(caught.exception.number, 13)
@@ -125,7 +125,7 @@ class Running(unittest.TestCase):
 
     def test_the_end_of_the_clock(self) -> None:
         record = user()
-        record.clock = lc3.MAX_CLOCK - 10
+        record.clock = fanthrig.MAX_CLOCK - 10
         sitting = sitting_of(record, fresh())
         self.assertEqual(sitting.run().steps, 10)
         self.assertEqual(sitting.run().steps, 0)
@@ -166,7 +166,7 @@ class Running(unittest.TestCase):
                 self.assertEqual(log, other.log, seed)
                 self.assertEqual(b"".join(t.shown for t in traced), other.shown, seed)
                 self.assertEqual(sitting.last_steps(150), [
-                    lc3.LoggedStep(t.pc, t.word, t.reason) for t in traced
+                    fanthrig.LoggedStep(t.pc, t.word, t.reason) for t in traced
                 ], seed)
 
     def test_interrupted_runs_are_whole(self) -> None:
@@ -228,15 +228,15 @@ class Breakpoints(unittest.TestCase):
         for edition in (THIRD, SECOND):
             sitting = self.sitting(edition)
             sitting.breakpoints = {0x3000, 0x3002}
-            self.assertEqual(sitting.run(), lc3.Report(0, 0, 0, Stop.BREAKPOINT))
+            self.assertEqual(sitting.run(), fanthrig.Report(0, 0, 0, Stop.BREAKPOINT))
             # All steps were made: that comes first. The breakpoint is met by the run that follows.
-            self.assertEqual(sitting.run(2), lc3.Report(2, 0, 0, Stop.DONE))
-            self.assertEqual(sitting.run(2), lc3.Report(0, 0, 0, Stop.BREAKPOINT))
-            self.assertEqual(sitting.run(2), lc3.Report(1, 0, 0, Stop.BREAKPOINT))
+            self.assertEqual(sitting.run(2), fanthrig.Report(2, 0, 0, Stop.DONE))
+            self.assertEqual(sitting.run(2), fanthrig.Report(0, 0, 0, Stop.BREAKPOINT))
+            self.assertEqual(sitting.run(2), fanthrig.Report(1, 0, 0, Stop.BREAKPOINT))
             self.assertEqual(sitting["PC"], 0x3000)
             self.assertEqual(sitting.step().steps, 1)
             sitting.breakpoints.add(0x3001)
-            self.assertEqual(sitting.step(), lc3.Report(1, 0, 0, Stop.DONE))
+            self.assertEqual(sitting.step(), fanthrig.Report(1, 0, 0, Stop.DONE))
 
     def test_the_same_as_in_single_steps_on_random_machines(self) -> None:
         met = 0
@@ -311,7 +311,7 @@ class Keyboard(unittest.TestCase):
         words: Words = ["LDI R0, #8", "BRzp #-2", "LDI R0, #7", "ADD R2, R2, R0", "LD R1, #6"]
         words += ["ADD R1, R1, #-1", "BRp #-2", "ADD R3, R3, #1", "BRnzp #-9"]
         words += [0xFE00, 0xFE02, 2500]
-        sitting = Sitting(object_file(0x3000, *words), mode=lc3.Mode.SUPERVISOR)
+        sitting = Sitting(object_file(0x3000, *words), mode=fanthrig.Mode.SUPERVISOR)
         sitting.type(bytes(range(1, 11)))
         for _ in range(60_000):
             before = sitting.record
@@ -329,7 +329,7 @@ class Keyboard(unittest.TestCase):
         words += [0, 0, 0xFE02]
         for number in (1, 15, 16, 100, 1000, 30_000):
             words[6] = number
-            sitting = Sitting(object_file(0x3000, *words), mode=lc3.Mode.SUPERVISOR)
+            sitting = Sitting(object_file(0x3000, *words), mode=fanthrig.Mode.SUPERVISOR)
             sitting.type("ab")
             sitting.run(100_000)
             # As the docstring of Sitting has it: 32 steps after a key, then an eighth more each.
@@ -405,13 +405,13 @@ class Keyboard(unittest.TestCase):
         keys, none = bytes(range(40)), set[int]()
         for breakpoints in (none, {0x0204}):
             one, other = Sitting(ECHO), Sitting(ECHO)
-            told: list[lc3.TracedStep] = []
+            told: list[fanthrig.TracedStep] = []
             for sitting in (one, other):
                 sitting.type(keys)
                 sitting.breakpoints = breakpoints
             while len(told) < 3000:
                 told += other.trace_at_once(min(777, 3000 - len(told)))
-            traced: list[lc3.TracedStep] = []
+            traced: list[fanthrig.TracedStep] = []
             while len(traced) < 3000:
                 traced += one.trace(3000 - len(traced))
             self.assertEqual(told, traced)
@@ -427,7 +427,7 @@ class Keyboard(unittest.TestCase):
         for typed in ("", "a", "b"):
             sitting.type(typed)
             sitting.run(100)
-            self.assertEqual((sitting.waits(), sitting.idle()), (False, lc3.EndKind.LOOP))
+            self.assertEqual((sitting.waits(), sitting.idle()), (False, fanthrig.EndKind.LOOP))
         # A loop that leaves its registers as they were and counts in memory.
         words: Words = ["LD R0, #5", "ADD R0, R0, #1", "ST R0, #3", "AND R0, R0, #0", "BRnzp #-5"]
         words += [0, 0]
@@ -443,7 +443,7 @@ class Display(unittest.TestCase):
 
     def sitting(self, display_limit: int | None = None) -> Sitting:
         file = object_file(0x3000, *self.WORDS, 0xFE04, 0xFE06)
-        mode = lc3.Mode.SUPERVISOR
+        mode = fanthrig.Mode.SUPERVISOR
         return Sitting(file, mode=mode, monitor=False, display_limit=display_limit)
 
     def test_what_is_taken_may_be_forgotten(self) -> None:
@@ -464,7 +464,7 @@ class Display(unittest.TestCase):
             self.assertEqual(sitting.recording().end, whole.recording().end)
         self.assertRaisesRegex(TypeError, "forgotten its display", pickle.dumps, sitting)
         sitting.display_limit = len(taken) + 3
-        self.assertEqual(sitting.run().stop, lc3.Stop.OUTPUT_FULL)
+        self.assertEqual(sitting.run().stop, fanthrig.Stop.OUTPUT_FULL)
         self.assertEqual(len(sitting.display_bytes), 3)
         sitting.start()
         self.assertEqual((sitting.display, sitting.run(1000).shown > 10), ("", True))
@@ -507,7 +507,7 @@ class Display(unittest.TestCase):
             sitting = self.sitting(display_limit=limit)
             self.assertEqual(sitting.run().stop, Stop.OUTPUT_FULL)
             self.assertEqual(len(sitting.display), limit)
-            self.assertEqual(sitting.run(), lc3.Report(0, 0, 0, Stop.OUTPUT_FULL))
+            self.assertEqual(sitting.run(), fanthrig.Report(0, 0, 0, Stop.OUTPUT_FULL))
             sitting.display_limit = limit + 3
             self.assertEqual(sitting.run().shown, 3)
             sitting.display_limit = None
@@ -602,7 +602,7 @@ class Altering(unittest.TestCase):
                 memory[address] = 0
         memory[0x3000] = "HALT"
         self.assertEqual(memory.line(0x3000), "TRAP x25")
-        with self.assertRaises(lc3.LineError):
+        with self.assertRaises(fanthrig.LineError):
             memory[0x3000] = "STOP"
         with self.assertRaisesRegex(ValueError, "3 words are given for a range of 2"):
             memory[0x3000:0x3002] = [1, 2, 3]
@@ -633,7 +633,7 @@ class ThePast(unittest.TestCase):
         before = whole_state(sitting)
         expected = Sitting(object_file(0x3000, *words))
         expected.run(9_000_001 - 50)
-        steps = [lc3.LoggedStep(t.pc, t.word, t.reason) for t in expected.trace(50)]
+        steps = [fanthrig.LoggedStep(t.pc, t.word, t.reason) for t in expected.trace(50)]
         self.assertEqual(sitting.last_steps(50), steps)
         self.assertEqual(whole_state(sitting), before)
         self.assertEqual(whole_state(expected), before)
@@ -682,7 +682,7 @@ class ThePast(unittest.TestCase):
                 self.assertTrue(str(step))
                 record, words = after, changed
                 kinds.add(step.reason)
-        self.assertEqual(kinds, set(lc3.Reason))
+        self.assertEqual(kinds, set(fanthrig.Reason))
 
 
 if __name__ == "__main__":

@@ -8,8 +8,8 @@ import unittest
 from array import array
 from typing import Any, NamedTuple
 
-import lc3
-from lc3.records import SHORT_FIELDS
+import fanthrig
+from fanthrig.records import SHORT_FIELDS
 
 from . import ROOT
 from .support import sitting_of
@@ -20,15 +20,15 @@ FILE = ROOT / "host/tests/reference/runs.txt"
 class Stored(NamedTuple):
     """One stored run: what is lent, and what the reference answers and leaves."""
 
-    edition: lc3.Edition
-    record: lc3.Record
+    edition: fanthrig.Edition
+    record: fanthrig.Record
     memory: array[int]
     times: array[int]
     keys: bytes
     output: bytes
     n: int
     answer: tuple[int, ...]
-    after: lc3.Record
+    after: fanthrig.Record
     words: array[int]
     left: bytes
     log: list[int]
@@ -44,12 +44,12 @@ def parts(text: str) -> list[str]:
     return text.split(",") if text else []
 
 
-def record(text: str) -> lc3.Record:
+def record(text: str) -> fanthrig.Record:
     """A record of the file: words, and the clock."""
     *words, clock = parts(text)
     numbers = [int(word, 16) for word in words]
     shorts = dict(zip(SHORT_FIELDS, numbers[8:]))
-    return lc3.Record(regs=numbers[:8], clock=int(clock), **shorts)
+    return fanthrig.Record(regs=numbers[:8], clock=int(clock), **shorts)
 
 
 def planted(memory: array[int], text: str) -> array[int]:
@@ -61,7 +61,7 @@ def planted(memory: array[int], text: str) -> array[int]:
     return copy
 
 
-TEMPLATE = array("H", [(at * 0x9E37 + 0x79B9) & 0xFFFF for at in range(lc3.MEMORY_WORDS + 1)])
+TEMPLATE = array("H", [(at * 0x9E37 + 0x79B9) & 0xFFFF for at in range(fanthrig.MEMORY_WORDS + 1)])
 
 
 def stored(line: str) -> Stored:
@@ -69,7 +69,7 @@ def stored(line: str) -> Stored:
     part = dict(item.split("=") for item in line.split(" "))
     memory = planted(TEMPLATE[: int(part["length"])], part["words"])
     return Stored(
-        lc3.Edition(int(part["edition"])),
+        fanthrig.Edition(int(part["edition"])),
         record(part["record"]),
         memory,
         array("Q", map(int, parts(part["times"]))),
@@ -86,8 +86,8 @@ def stored(line: str) -> Stored:
 
 # The calls that make a run by each edition.
 CALLS = {
-    lc3.Edition.THIRD: [lc3.run, lc3.run_long],
-    lc3.Edition.SECOND: [lc3.run_second],
+    fanthrig.Edition.THIRD: [fanthrig.run, fanthrig.run_long],
+    fanthrig.Edition.SECOND: [fanthrig.run_second],
 }
 
 RUNS = [stored(line) for line in FILE.read_text(encoding="ascii").splitlines()]
@@ -102,14 +102,14 @@ class StoredRuns(unittest.TestCase):
         self.assertEqual({run.answer[0] for run in RUNS}, {0, 11, 12, 13, 14, 15, 19})
         self.assertEqual({run.answer[5] for run in ACCEPTED}, {0, 1, 2})
         reasons = {reason for run in RUNS for reason in run.log[2::3]}
-        self.assertEqual(reasons, {int(reason) for reason in lc3.Reason})
+        self.assertEqual(reasons, {int(reason) for reason in fanthrig.Reason})
         self.assertGreater(sum(run.answer[2] for run in RUNS), 5000)
 
     def answer_of(self, call: Any, *lent: Any) -> tuple[tuple[int, ...], Any]:
         """What a call answers, in the order of the file, and the run itself."""
         try:
             ran = call(*lent)
-        except lc3.Refused as refused:
+        except fanthrig.Refused as refused:
             return (int(refused.number), refused.index, 0, 0, 0, 0), None
         return (0, 0, ran.steps, ran.keys, ran.shown, int(ran.stop)), ran
 
@@ -125,12 +125,12 @@ class StoredRuns(unittest.TestCase):
 
     def test_logged_runs(self) -> None:
         for number, run in enumerate(RUNS):
-            if run.edition is lc3.Edition.SECOND:
+            if run.edition is fanthrig.Edition.SECOND:
                 continue
             memory, output = run.memory[:], bytearray(run.output)
             log = array("H", bytes(2 * len(run.log) + 6))
             lent = (run.record, memory, run.times, run.keys, output, log, run.n)
-            answer, ran = self.answer_of(lc3.run_logged, *lent)
+            answer, ran = self.answer_of(fanthrig.run_logged, *lent)
             self.assertEqual(answer, run.answer, number)
             self.assertEqual(log[: len(run.log)].tolist(), run.log, number)
             self.assertEqual(ran.logged if ran else 0, len(run.log), number)
@@ -138,7 +138,7 @@ class StoredRuns(unittest.TestCase):
 
     def test_single_steps(self) -> None:
         for number, run in enumerate(ACCEPTED):
-            step = lc3.step if run.edition is lc3.Edition.THIRD else lc3.step_second
+            step = fanthrig.step if run.edition is fanthrig.Edition.THIRD else fanthrig.step_second
             at, memory, output = run.record.copy(), run.memory[:], bytearray(run.output)
             arrived = shown = 0
             for _ in range(run.answer[2]):
@@ -153,7 +153,7 @@ class StoredRuns(unittest.TestCase):
 class StoredSittings(unittest.TestCase):
     """The same runs as sittings: in whole, in pieces, traced, and replayed."""
 
-    def sitting(self, run: Stored) -> lc3.Sitting:
+    def sitting(self, run: Stored) -> fanthrig.Sitting:
         """A sitting at the start of a run."""
         sitting = sitting_of(run.record, run.memory, run.edition)
         sitting.display_limit = len(run.output)
@@ -161,7 +161,7 @@ class StoredSittings(unittest.TestCase):
             sitting.press(bytes([key]), time)
         return sitting
 
-    def check(self, sitting: lc3.Sitting, run: Stored, number: int) -> None:
+    def check(self, sitting: fanthrig.Sitting, run: Stored, number: int) -> None:
         """That a sitting has come to the end of a run."""
         self.assertEqual(sitting.record, run.after, number)
         self.assertEqual(sitting.memory.words, memoryview(run.words), number)
@@ -174,7 +174,7 @@ class StoredSittings(unittest.TestCase):
         for number, run in enumerate(ACCEPTED):
             whole, pieces = self.sitting(run), self.sitting(run)
             steps, keys, shown, stop = run.answer[2:6]
-            expected = lc3.Report(steps, keys, shown, lc3.Stop(stop))
+            expected = fanthrig.Report(steps, keys, shown, fanthrig.Stop(stop))
             self.assertEqual(whole.run(run.n), expected)
             self.check(whole, run, number)
             rng = random.Random(number)
@@ -182,7 +182,7 @@ class StoredSittings(unittest.TestCase):
                 pieces.run(min(rng.choice([1, 2, 7, 40]), run.after.clock - pieces.clock))
             pieces.run(0)
             self.check(pieces, run, number)
-            self.check(lc3.Sitting.replay(whole.recording()), run, number)
+            self.check(fanthrig.Sitting.replay(whole.recording()), run, number)
 
     def test_traced(self) -> None:
         for number, run in enumerate(ACCEPTED):
@@ -200,7 +200,7 @@ class StoredSittings(unittest.TestCase):
             sitting.breakpoints = set(random.Random(number).sample(places, min(2, len(places))))
             met = [at for at, pc in enumerate(counters) if pc in sitting.breakpoints]
             found, end = [], run.record.clock + run.n
-            while sitting.run(end - sitting.clock).stop is lc3.Stop.BREAKPOINT:
+            while sitting.run(end - sitting.clock).stop is fanthrig.Stop.BREAKPOINT:
                 found.append(sitting.clock - run.record.clock)
             # Where the run stops before a step at a breakpoint, that is met as well.
             self.assertEqual(found[: len(met)], met, number)

@@ -5,8 +5,8 @@ from __future__ import annotations
 import random
 import unittest
 
-import lc3
-from lc3 import LineError, line, word
+import fanthrig
+from fanthrig import LineError, line, word
 
 from .support import fresh
 
@@ -19,9 +19,9 @@ class EveryWord(unittest.TestCase):
     @classmethod
     def setUpClass(cls) -> None:
         memory = fresh()
-        for number in range(lc3.MEMORY_WORDS):
+        for number in range(fanthrig.MEMORY_WORDS):
             memory[number] = number
-        cls.lines = lc3.page(memory, 0, lc3.MEMORY_WORDS).splitlines()
+        cls.lines = fanthrig.page(memory, 0, fanthrig.MEMORY_WORDS).splitlines()
 
     def test_a_line_is_the_word_s_own(self) -> None:
         for number, text in enumerate(self.lines):

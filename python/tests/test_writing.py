@@ -9,8 +9,8 @@ import tempfile
 import unittest
 from pathlib import Path
 
-from lc3 import Sitting
-from lc3.writing import write_file
+from fanthrig import Sitting
+from fanthrig.writing import write_file
 
 from .support import ECHO
 

@@ -1,5 +1,5 @@
 // The ready-made monitor for hosts in C and Rust. Every call accepts every argument; the refusals are those of
-// include/lc3.h.
+// include/fanthrig/lc3.h.
 use monitor::Routines;
 ghost use mathlib.Core.Path.{_≡_};
 ghost use Rattle.monitor.specs.Vectors.{ours};

@@ -1,5 +1,5 @@
 // Object files for hosts in C and Rust: a file loaded into lent memory and started, a candidate's file too, and one
-// written from a range of memory. The calls accept every argument; the refusals are those of include/lc3.h.
+// written from a range of memory. The calls accept every argument; the refusals are those of include/fanthrig/lc3.h.
 use machine::Machine;
 ghost use mathlib.Core.Path.{_≡_};
 ghost use Rattle.object.specs.Calls.{saveOf};

@@ -1,4 +1,4 @@
-// The flat form of an instruction, by the table of include/lc3.h.
+// The flat form of an instruction, by the table of include/fanthrig/lc3.h.
 use super::Lc3Instruction;
 use word::Instruction;
 ghost use mathlib.Core.Path.{_≡_};

@@ -5,7 +5,7 @@ use super::Rng;
 use crate::reference::bus;
 use crate::reference::figure::{self, Kind};
 use crate::reference::machine;
-use lc3::{Record, CLOCK_LIMIT, STEP_LIMIT, WORDS};
+use fanthrig::{Record, CLOCK_LIMIT, STEP_LIMIT, WORDS};
 
 /// What a run is handed, with memory as changes to a template.
 #[derive(Clone, Debug)]

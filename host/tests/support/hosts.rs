@@ -3,7 +3,7 @@
 
 use super::Rng;
 use crate::reference::machine;
-use lc3::{Record, LOG_WORDS, STEP_LIMIT};
+use fanthrig::{Record, LOG_WORDS, STEP_LIMIT};
 
 /// Interrupt enable of KBSR and TSR, and clock enable of MCR.
 pub const INTERRUPT: u16 = 0x4000;

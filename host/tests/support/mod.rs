@@ -12,8 +12,8 @@ pub mod sittings;
 
 use crate::reference::machine;
 use cases::{Case, FAMILIES};
-use lc3::ffi::{self, Answer, LoggedAnswer, Report, RunCall, StepCall};
-use lc3::Record;
+use fanthrig::ffi::{self, Answer, LoggedAnswer, Report, RunCall, StepCall};
+use fanthrig::Record;
 use std::env;
 use std::time::{SystemTime, UNIX_EPOCH};
 

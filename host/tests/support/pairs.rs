@@ -6,8 +6,8 @@ use super::candidates::USER;
 use super::hosts::{Call, Way};
 use super::{Buffers, Lent, Rng};
 use crate::reference::machine;
-use lc3::ffi::{Answer, LoggedAnswer};
-use lc3::{Record, MONITOR_WORDS, WORDS};
+use fanthrig::ffi::{Answer, LoggedAnswer};
+use fanthrig::{Record, MONITOR_WORDS, WORDS};
 use std::ops::Range;
 
 /// What output and log hold before a call.
@@ -86,7 +86,7 @@ impl Side {
         let lower = self.lower_range();
         self.buffers.memory.set(template);
         let memory = self.buffers.memory.get_array().expect("a whole memory");
-        lc3::install_monitor(memory);
+        fanthrig::install_monitor(memory);
         memory[lower].copy_from_slice(&self.lower);
         memory[USER.end..].copy_from_slice(&self.upper);
     }
@@ -165,7 +165,7 @@ impl Pair {
     pub fn start(&mut self, file: &[u8], user_stack: u16, host: impl Fn(Record) -> Record) {
         let started = [&mut self.one, &mut self.other].map(|side| {
             let memory = side.buffers.memory.get_array().expect("a whole memory");
-            let started = lc3::start_user(file, memory, user_stack);
+            let started = fanthrig::start_user(file, memory, user_stack);
             let started = started.expect("a file of User mode's words");
             side.record = host(started.record);
             started

@@ -2,7 +2,7 @@
 //! simulator too.
 
 use crate::reference::machine::{self, Call};
-use lc3::{Keys, Memory, Mode, Record, Run};
+use fanthrig::{Keys, Memory, Mode, Record, Run};
 
 /// Where the program stands.
 pub const START: u16 = 0x3000;
@@ -32,8 +32,9 @@ impl Program {
     pub fn in_mode(mode: Mode, words: &[u16], room: usize) -> Program {
         let file: Vec<u8> =
             [&[START], words].concat().into_iter().flat_map(u16::to_be_bytes).collect();
-        let mut memory = lc3::memory();
-        let mut record = lc3::start(&file, &mut memory, mode, 0xFDFF).expect("accepted").record;
+        let mut memory = fanthrig::memory();
+        let mut record =
+            fanthrig::start(&file, &mut memory, mode, 0xFDFF).expect("accepted").record;
         record.regs[5] = 0xFE00;
         Program { record, memory, output: vec![0; room], shown: 0 }
     }
@@ -46,7 +47,7 @@ impl Program {
         let call = Call { record, memory, times: &[], bytes: &[], output, n };
         let expected = machine::run(call, |_| ());
         let free = &mut self.output[self.shown..];
-        let run = lc3::run(record, &mut self.memory, Keys::NONE, free, n).expect("accepted");
+        let run = fanthrig::run(record, &mut self.memory, Keys::NONE, free, n).expect("accepted");
         assert_eq!((run.record, run.steps), (expected.record, expected.steps));
         assert_eq!((run.shown as u64, run.stop.code()), (expected.shown, expected.stop));
         assert!(self.output[self.shown..] == bytes && self.memory == words);

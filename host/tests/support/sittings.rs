@@ -5,7 +5,7 @@ use super::cases::Case;
 use super::Rng;
 use crate::reference::bus;
 use crate::reference::figure::{self, Kind};
-use lc3::{Record, WORDS};
+use fanthrig::{Record, WORDS};
 
 /// The words after a block's body: what counts its turns and leads to the next block.
 const TAIL: u16 = 7;

@@ -1,6 +1,7 @@
 """A machine in buffers that stay in place, so that a run copies nothing and checks nothing twice.
 
-``Sitting`` is made of it. A host that lends buffers of its own calls ``lc3.run`` and the others.
+``Sitting`` is made of it. A host that lends buffers of its own calls ``fanthrig.run`` and the
+others.
 """
 
 from __future__ import annotations

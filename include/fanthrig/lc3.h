@@ -58,7 +58,7 @@ __extension__ typedef _Bool lc3_bool;
 /*
  * The version of this interface. It rises by 1 whenever the layout of a struct or the meaning of a
  * call changes. The name that the shared library is loaded by (its SONAME) ends in it, as in
- * liblc3.so.3, so that no host meets another version than it was built for.
+ * libfanthrig.so.3, so that no host meets another version than it was built for.
  */
 #define LC3_VERSION 7
 

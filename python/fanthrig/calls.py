@@ -1,10 +1,10 @@
 """The calls of lc3.h, one to one, under its names without ``lc3_``.
 
 Each takes what the header says, in its order; ``keys`` are its ``bytes``. Buffers are lent: see
-``lc3.buffers``. A refused call raises ``Refused`` and has altered nothing. Nothing is kept between
-calls, and several threads may call at once. Where a handler of a signal raises in the middle of a
-run, its answer is lost, and with it the record that belongs to the memory as it is then; a step is
-finished first, and so is every call of a ``Sitting``.
+``fanthrig.buffers``. A refused call raises ``Refused`` and has altered nothing. Nothing is kept
+between calls, and several threads may call at once. Where a handler of a signal raises in the
+middle of a run, its answer is lost, and with it the record that belongs to the memory as it is
+then; a step is finished first, and so is every call of a ``Sitting``.
 
 >>> from array import array
 >>> memory = array("H", bytes(2 * MEMORY_WORDS))
@@ -81,7 +81,7 @@ def start_user(file: ReadableBuffer, memory: WriteableBuffer, user_stack: int) -
     ('0x3000', 1, '0xf025')
     >>> start_user(b"\\x01\\x02\\x01\\x03", memory, user_stack=0xFDFF)
     Traceback (most recent call last):
-    lc3.records.Refused: refused (21): the file does not lie in x3000 to xFDFF, where a \
+    fanthrig.records.Refused: refused (21): the file does not lie in x3000 to xFDFF, where a \
 candidate's belongs: give it another origin, or take fewer words
     """
     stack = whole(user_stack, WORD_LIMIT, "user_stack")
@@ -154,8 +154,8 @@ def run(
     1
     >>> run(record, memory, array("Q", [3, 9, 5]), b"abc", bytearray(), 1)
     Traceback (most recent call last):
-    lc3.records.Refused: refused (19): times[2] is below the time before it: put the keys in order \
-of time
+    fanthrig.records.Refused: refused (19): times[2] is below the time before it: put the keys in \
+order of time
     """
     return _run_by(LIBRARY.lc3_run, record, memory, times, keys, output, n)
 
@@ -285,7 +285,7 @@ def write(instruction: Instruction) -> int:
 
     Refused with 1, 2, 3.
 
-    >>> from lc3 import Kind
+    >>> from fanthrig import Kind
     >>> hex(write(Instruction(Kind.TRAP, value=0x25)))
     '0xf025'
     """

@@ -1,9 +1,10 @@
-"""The LC-3 of Patt and Patel with privilege, interrupts, a console and a timer, over liblc3.so.
+"""The LC-3 of Patt and Patel with privilege, interrupts, a console and a timer, over
+libfanthrig.so.
 
 ``Sitting`` is a machine to sit down at: load object files, type, run, look, go back.
 
->>> import lc3
->>> sitting = lc3.Sitting(bytes.fromhex("3000 F020 F021 F025"))  # GETC, OUT, HALT at x3000
+>>> import fanthrig
+>>> sitting = fanthrig.Sitting(bytes.fromhex("3000 F020 F021 F025"))  # GETC, OUT, HALT at x3000
 >>> sitting.type("A")
 >>> sitting.run(1000).stop.text
 'the machine is halted'
@@ -12,7 +13,7 @@
 
 ``word`` and ``line`` turn lines of text into words and back.
 
->>> lc3.line(0x14E7), hex(lc3.word("ADD R2, R3, #7"))
+>>> fanthrig.line(0x14E7), hex(fanthrig.word("ADD R2, R3, #7"))
 ('ADD R2, R3, #7', '0x14e7')
 
 The calls of lc3.h are here one to one, for hosts that lend buffers of their own: ``version``,
@@ -21,12 +22,13 @@ The calls of lc3.h are here one to one, for hosts that lend buffers of their own
 ``monitor_routines``, ``vectors``; with ``logged_steps`` to read a log. A call that is refused
 raises ``Refused`` and alters nothing.
 
-``__version__`` is the version of the product, and ``VERSION`` that of the interface. The library
-is looked for when it is first needed, as ``lc3._library`` says. docs/MACHINE.md has the rules of
+``__version__`` is the version of the product, and ``VERSION`` that of the interface. The library is
+looked for when it is first needed, as ``fanthrig._library`` says. docs/MACHINE.md has the rules of
 the machine.
 """
 
-# The current folder goes off the path of ``python3 -m lc3`` before another module is looked for.
+# The current folder goes off the path of ``python3 -m fanthrig`` before another module is looked
+# for.
 from . import _folder  # noqa: F401
 from ._library import LibraryError
 from .breakpoints import Breakpoints

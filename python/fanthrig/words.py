@@ -216,7 +216,8 @@ def word(text: str) -> int:
     ('0x14e7', '0xf025', '0xf025')
     >>> word("LD R8, #0")
     Traceback (most recent call last):
-    lc3.words.LineError: 'LD R8, #0': operand 1 of LD: R8 is no register; DR, R0 to R7, expected
+    fanthrig.words.LineError: 'LD R8, #0': operand 1 of LD: R8 is no register; DR, R0 to R7, \
+expected
     """
     mnemonic, operands = _parts(text)
     try:

@@ -236,7 +236,7 @@ class Recording:
 
         >>> Recording.from_json("{}")
         Traceback (most recent call last):
-        lc3.recording.RecordingError: no recording of a sitting: 'format' is missing
+        fanthrig.recording.RecordingError: no recording of a sitting: 'format' is missing
         """
         try:
             return _recording(_unsealed(strict_json(text)))
@@ -245,7 +245,7 @@ class Recording:
             raise RecordingError(f"no recording of a sitting: {problem}") from None
 
     def save(self, path: str | PathLike[str]) -> None:
-        """Writes the file, whole or not at all: see ``lc3.writing``."""
+        """Writes the file, whole or not at all: see ``fanthrig.writing``."""
         text = self.to_json()
         if len(text) > LONGEST:
             raise RecordingError(f"{path}: the sitting is longer than {LONGEST >> 20} MiB")

@@ -2,7 +2,8 @@
 
 The library takes any file of an origin and words that fit memory, and many a file of another format
 would. None is refused here that could be an object file: each format is told by bytes that no
-program begins with but by design. ``lc3.Sitting`` has none of this: it loads what it is handed.
+program begins with but by design. ``fanthrig.Sitting`` has none of this: it loads what it is
+handed.
 """
 
 from __future__ import annotations

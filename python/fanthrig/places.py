@@ -1,7 +1,7 @@
 """Where the words of object files may lie.
 
 A candidate's file lies in x3000 to xFDFF, which is what User mode reaches, with its origin too. The
-library sees to that: ``lc3.start_user``.
+library sees to that: ``fanthrig.start_user``.
 
 An examiner's file lies in privileged memory alone, below x3000 and from xFE00 on, so that no
 program in User mode reads it; and not on the words of the ready-made monitor or of its stack.
@@ -58,8 +58,8 @@ def check_examiner(program: Program, monitor: bool) -> None:
     >>> check_examiner(Program("answers.obj", 0x2000, 4), monitor=True)
     >>> check_examiner(Program("answers.obj", 0x2FFE, 4), monitor=False)
     Traceback (most recent call last):
-    lc3.places.PlaceError: answers.obj: refused: it has x3000 to x3001, which every program reads \
-and replaces: an examiner's file lies below x3000 or from xFE00 on
+    fanthrig.places.PlaceError: answers.obj: refused: it has x3000 to x3001, which every program \
+reads and replaces: an examiner's file lies below x3000 or from xFE00 on
     """
     # A file of an origin alone has its place there.
     reached = common(program.addresses or range(program.origin, program.origin + 1), USER_WORDS)
@@ -76,8 +76,8 @@ def check_apart(program: Program, others: Sequence[Program]) -> None:
 
     >>> check_apart(Program("b.obj", 0x3000, 9), [Program("a.obj", 0x3004, 2)])
     Traceback (most recent call last):
-    lc3.places.PlaceError: b.obj: refused: it overlaps a.obj at x3004 to x3005: give one of them \
-another origin, or leave one out
+    fanthrig.places.PlaceError: b.obj: refused: it overlaps a.obj at x3004 to x3005: give one of \
+them another origin, or leave one out
     """
     for other in others:
         both = common(program.addresses, other.addresses)
@@ -93,7 +93,7 @@ def check_pc(pc: int) -> None:
 
     >>> check_pc(0x0200)
     Traceback (most recent call last):
-    lc3.places.PlaceError: PC x0200 is refused: a program in User mode starts in x3000 to xFDFF
+    fanthrig.places.PlaceError: PC x0200 is refused: a program in User mode starts in x3000 to xFDFF
     """
     if pc not in USER_WORDS:
         raise PlaceError(

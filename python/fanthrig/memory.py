@@ -40,7 +40,7 @@ class Memory:
     or as a line of text. It is part of its sitting: while that is in use no word is altered, and it
     is copied with it.
 
-    >>> from lc3 import Sitting
+    >>> from fanthrig import Sitting
     >>> memory = Sitting().memory
     >>> memory[0x3000] = "ADD R2, R3, #7"
     >>> hex(memory[0x3000]), memory.line(0x3000)

@@ -11,7 +11,7 @@ from .records import WORD_LIMIT, whole
 class Breakpoints(MutableSet[int]):
     """A set of addresses, which is part of its sitting: while that is in use it is not altered.
 
-    >>> from lc3 import Sitting
+    >>> from fanthrig import Sitting
     >>> breakpoints = Sitting().breakpoints
     >>> breakpoints.add(0x3001)
     >>> breakpoints |= {0x3002}

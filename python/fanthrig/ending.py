@@ -3,7 +3,7 @@
 A program ends by HALT, by an exception, by a trap that nobody serves, or by a string that the
 monitor refuses to show; in each case the machine is halted by a store to MCR, which a routine of
 the monitor makes some steps later. Which it was is told by the step by which the program was left:
-see ``lc3.own``. That is exact for the ready-made monitor, and for every other whose routines
+see ``fanthrig.own``. That is exact for the ready-made monitor, and for every other whose routines
 return by RTI and whose HALT is TRAP x25.
 """
 

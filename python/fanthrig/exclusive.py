@@ -37,8 +37,8 @@ class Exclusive:
     ...     with use:
     ...         pass
     Traceback (most recent call last):
-    lc3.exclusive.InUseError: the sitting is in use: another thread, or this one in the middle of \
-a call, has not finished with it; a sitting is for one call at a time
+    fanthrig.exclusive.InUseError: the sitting is in use: another thread, or this one in the \
+middle of a call, has not finished with it; a sitting is for one call at a time
     """
 
     def __init__(self) -> None:

@@ -52,7 +52,7 @@ def main(argv: Sequence[str] | None = None) -> int:
     except SystemExit as ended:
         return int(ended.code or 0)
     # Each command's module is loaded when it is asked for: a short run shall not wait for all.
-    command = import_module(f"lc3.command.{options.module}")
+    command = import_module(f"fanthrig.command.{options.module}")
     try:
         code = int(command.command(options))
         sys.stdout.flush()

@@ -94,12 +94,12 @@ class Sitting:
     x3000 to xFDFF is refused with 21, whatever the mode. The files of ``examiner`` are loaded
     before; they lie in privileged memory alone, and beside the ready-made monitor. Files that
     overlap are refused. ``anywhere=True`` is for files that are all trusted: only overlaps of the
-    files are refused then. See ``lc3.places``.
+    files are refused then. See ``fanthrig.places``.
 
     >>> answers, candidate = bytes.fromhex("2000 0042"), bytes.fromhex("0102 0103")
     >>> Sitting(candidate, examiner=[answers])
     Traceback (most recent call last):
-    lc3.records.Refused: refused (21): the file does not lie in x3000 to xFDFF, where a \
+    fanthrig.records.Refused: refused (21): the file does not lie in x3000 to xFDFF, where a \
 candidate's belongs: give it another origin, or take fewer words
 
     The ready-made monitor returns by RTI. By the second edition's rules a TRAP pushes nothing for
@@ -116,7 +116,7 @@ candidate's belongs: give it another origin, or take fewer words
     grows as needed; with ``display_limit`` a run stops before the byte that is too many.
 
     **Endings.** ``ending`` tells how the last run ended, and by which instruction of the program;
-    so does the report of a run, of that run. See ``lc3.ending``.
+    so does the report of a run, of that run. See ``fanthrig.ending``.
 
     **Long sittings.** Display and keys are held whole. A host that needs neither forgets them by
     ``take_display(forget=True)`` and ``forget``.
@@ -186,8 +186,8 @@ candidate's belongs: give it another origin, or take fewer words
 
         >>> Sitting().load(b"\\x30", name="half.obj")
         Traceback (most recent call last):
-        lc3.records.Refused: half.obj: refused (17): the file has an odd number of bytes, or fewer \
-than two: an object file is an origin and words, of two bytes each
+        fanthrig.records.Refused: half.obj: refused (17): the file has an odd number of bytes, or \
+fewer than two: an object file is an origin and words, of two bytes each
         """
         if isinstance(file, (str, PathLike)):
             name = name or fspath(file)
@@ -706,8 +706,8 @@ PSR x8001 -> x0001, Saved_USP x0000 -> xFDFF, x2FFE x0000 -> x3002, x2FFF x0000 
         return logged_steps(past.log(max(past.clock - count, past.start)))
 
     def last_program_steps(self, count: int) -> list[LoggedStep]:
-        """The same without the steps of the monitor's routines: see ``lc3.own``. Fewer are told
-        where a routine has served for a million steps.
+        """The same without the steps of the monitor's routines: see ``fanthrig.own``. Fewer are
+        told where a routine has served for a million steps.
 
         >>> sitting = Sitting(bytes.fromhex("3000 1021 F021 F025"))
         >>> _ = sitting.run()
@@ -746,7 +746,7 @@ PSR x8001 -> x0001, Saved_USP x0000 -> xFDFF, x2FFE x0000 -> x3002, x2FFF x0000 
 
     @property
     def ending(self) -> Ending:
-        """How the last run ended, and where the program stood: see ``lc3.ending``.
+        """How the last run ended, and where the program stood: see ``fanthrig.ending``.
 
         >>> sitting = Sitting(bytes.fromhex("3000 1021 D000"))
         >>> _ = sitting.run()
@@ -815,7 +815,8 @@ PSR x8001 -> x0001, Saved_USP x0000 -> xFDFF, x2FFE x0000 -> x3002, x2FFF x0000 
         version = state.get("version")
         if version != __version__:
             raise ValueError(
-                f"this sitting was pickled by version {version} of lc3, and this is {__version__}: "
+                f"this sitting was pickled by version {version} of fanthrig, and this is "
+                f"{__version__}: "
                 "a pickle is for one version; keep sittings by save, and replay them"
             )
         vars(self).update(state)
@@ -826,7 +827,7 @@ PSR x8001 -> x0001, Saved_USP x0000 -> xFDFF, x2FFE x0000 -> x3002, x2FFF x0000 
 
     @exclusive
     def recording(self) -> Recording:
-        """The sitting so far as a recording: see ``lc3.recording``."""
+        """The sitting so far as a recording: see ``fanthrig.recording``."""
         if self._forgotten:
             raise ValueError("the sitting has forgotten its start, and can't be recorded")
         self._begin()
@@ -845,7 +846,7 @@ PSR x8001 -> x0001, Saved_USP x0000 -> xFDFF, x2FFE x0000 -> x3002, x2FFF x0000 
         )
 
     def save(self, path: str | PathLike[str]) -> None:
-        """Writes the sitting so far as a file: see ``lc3.recording``."""
+        """Writes the sitting so far as a file: see ``fanthrig.recording``."""
         self.recording().save(path)
 
     @classmethod

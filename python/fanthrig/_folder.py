@@ -1,9 +1,10 @@
-"""Takes the current folder off the path of ``python3 -m lc3``, before anything is imported from it.
+"""Takes the current folder off the path of ``python3 -m fanthrig``, before anything is imported
+from it.
 
 ``python3 -m`` looks for modules in the current folder first, and whoever marks stands in a folder
 of submissions: one of them may be called json.py. Python's own beginnings, as runpy, come before
-this; so there the command as it is installed is the one to use, or ``python3 -P -m lc3``, which
-look in no such folder.
+this; so there the command as it is installed is the one to use, or ``python3 -P -m fanthrig``,
+which look in no such folder.
 """
 
 # Nothing is imported here that Python has not imported by itself: not even __future__.
@@ -17,9 +18,9 @@ WITH_A_WORD = ("-X", "-W", "--check-hash-based-pycs")
 def module_of(words: list[str]) -> str:
     """The module that a command line of Python names by -m, or nothing.
 
-    >>> module_of(["python3", "-X", "dev", "-um", "lc3", "run"]), module_of(["python3", "-mpdb"])
-    ('lc3', 'pdb')
-    >>> module_of(["python3", "mark.py", "-m", "lc3"])
+    >>> module_of(["python3", "-X", "dev", "-um", "fanthrig"]), module_of(["python3", "-mpdb"])
+    ('fanthrig', 'pdb')
+    >>> module_of(["python3", "mark.py", "-m", "fanthrig"])
     ''
     """
     rest = iter(words[1:])
@@ -42,5 +43,5 @@ def command_line() -> list[str]:
 
 
 # What was found there already, as the package itself, is still found.
-if sys.argv[:1] == ["-m"] and module_of(command_line()) == "lc3":
+if sys.argv[:1] == ["-m"] and module_of(command_line()) == "fanthrig":
     sys.path[:] = [place for place in sys.path if os.path.abspath(place) != os.getcwd()]

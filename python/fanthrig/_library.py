@@ -2,13 +2,13 @@
 
 It is looked for in this order:
 
-1. the file that the environment variable ``LC3_LIBRARY`` names; nothing else is tried then;
-2. where ``make install`` has put it: the package's file ``liblc3.path`` names it, from the
+1. the file that the environment variable ``FANTHRIG_LIBRARY`` names; nothing else is tried then;
+2. where ``make install`` has put it: the package's file ``libfanthrig.path`` names it, from the
    package's folder on;
-3. beside the package: ``liblc3.so.7`` in its own folder, in the folder ``lib`` that the package is
-   installed under, or in that one's folder ``x86_64-linux-gnu``;
-4. ``build/liblc3.so`` of the source tree that the package stands in;
-5. where the system's loader looks for ``liblc3.so.7``.
+3. beside the package: ``libfanthrig.so.7`` in its own folder, in the folder ``lib`` that the
+   package is installed under, or in that one's folder ``x86_64-linux-gnu``;
+4. ``build/libfanthrig.so`` of the source tree that the package stands in;
+5. where the system's loader looks for ``libfanthrig.so.7``.
 
 A library of another version is passed over. It is looked for when it is first needed: the package
 is imported without it. Where there is none, whatever needs it fails with a ``LibraryError`` that
@@ -26,10 +26,10 @@ from typing import Any, Iterator
 
 from .constants import VERSION
 
-SONAME = f"liblc3.so.{VERSION}"
+SONAME = f"libfanthrig.so.{VERSION}"
 
 # The file of the package by which `make install` says where the library is.
-INSTALLED = "liblc3.path"
+INSTALLED = "libfanthrig.path"
 
 
 class LibraryError(ImportError):
@@ -228,11 +228,11 @@ def places() -> Iterator[str]:
     """Where the library is looked for, first to last.
 
     >>> from unittest import mock
-    >>> with mock.patch.dict("os.environ", LC3_LIBRARY="mine/liblc3.so"):
+    >>> with mock.patch.dict("os.environ", FANTHRIG_LIBRARY="mine/libfanthrig.so"):
     ...     list(places())
-    ['mine/liblc3.so']
+    ['mine/libfanthrig.so']
     """
-    named = os.environ.get("LC3_LIBRARY")
+    named = os.environ.get("FANTHRIG_LIBRARY")
     if named:
         yield named
         return
@@ -245,7 +245,7 @@ def places() -> Iterator[str]:
         if folder.name == "lib":
             yield str(folder / SONAME)
             yield str(folder / "x86_64-linux-gnu" / SONAME)
-    yield str(package.parent.parent / "build" / "liblc3.so")
+    yield str(package.parent.parent / "build" / "libfanthrig.so")
     yield SONAME
 
 
@@ -255,7 +255,7 @@ def load() -> Library:
         if ctypes.sizeof(struct) != size:
             raise LibraryError(
                 f"{struct.__doc__} has {ctypes.sizeof(struct)} bytes here, not {size}: "
-                "liblc3.so is for x86-64 with the System V calling convention"
+                "libfanthrig.so is for x86-64 with the System V calling convention"
             )
     tried = []
     for place in places():
@@ -264,8 +264,8 @@ def load() -> Library:
         except OSError as error:
             tried.append(f"{place}: {error}")
     raise LibraryError(
-        f"no liblc3.so of version {VERSION} was found; build it with `make lib`, or name it in the "
-        "environment variable LC3_LIBRARY. Tried:\n  " + "\n  ".join(tried)
+        f"no libfanthrig.so of version {VERSION} was found; build it with `make lib`, or name it "
+        "in the environment variable FANTHRIG_LIBRARY. Tried:\n  " + "\n  ".join(tried)
     )
 
 
