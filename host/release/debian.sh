@@ -15,8 +15,13 @@ case ,$(findmnt -no OPTIONS /dev/shm | head -n 1), in
 esac
 place=$(mktemp -d)
 trap 'rm -rf "$place"' EXIT
-debootstrap --variant=minbase --include=python3,gcc,libc6-dev,pkgconf,man-db bookworm "$place" \
-    "${DEBIAN_MIRROR:-http://deb.debian.org/debian}" >build/debootstrap.log 2>&1 ||
+fresh_debian() {
+    rm -rf "$place" && mkdir "$place"
+    debootstrap --variant=minbase --include=python3,gcc,libc6-dev,pkgconf,man-db bookworm "$place" \
+        "${DEBIAN_MIRROR:-http://deb.debian.org/debian}" >build/debootstrap.log 2>&1
+}
+# A mirror may fail for a while.
+fresh_debian || { sleep 10 && fresh_debian; } || { sleep 60 && fresh_debian; } ||
     { tail -n 5 build/debootstrap.log >&2; fail "no fresh Debian: see build/debootstrap.log"; }
 
 mkdir "$place/release"

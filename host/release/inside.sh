@@ -31,7 +31,7 @@ same "$(bash -c '. /usr/share/bash-completion/completions/lc3
 --registers" "the completion of commands and options"
 
 # Beside Debian's liblc3: no common file, no common name that a linker sees, and one program with both.
-quietly apt-get install --yes --no-install-recommends liblc3-dev
+quietly apt-get install --option Acquire::Retries=5 --yes --no-install-recommends liblc3-dev
 files_of() { dpkg --listfiles "$@" | while read -r file; do [ -d "$file" ] || echo "$file"; done | sort -u; }
 files_of $ours >our-files
 files_of liblc3-dev $(dpkg-query -W -f '${Depends}' liblc3-dev | sed 's/ .*//') >their-files
