@@ -68,6 +68,7 @@ from .constants import (
 )
 from .ending import EndKind, Ending, SittingReport
 from .exclusive import InUseError
+from .formats import FormatError
 from .log import LoggedStep, logged_steps
 from .memory import Line, Memory
 from .places import PlaceError
@@ -99,6 +100,7 @@ __all__ = [
     "Edition",
     "EndKind",
     "Ending",
+    "FormatError",
     "InUseError",
     "Instruction",
     "Key",

@@ -418,6 +418,7 @@ def _recording(data: dict[str, Any]) -> Recording:
     )
     begun = recording.start.clock
     _in_order([time for time, _ in recording.keys], begun, "keys")
+    # They may lie beyond the end, as in the first part of a replay that was saved.
     _in_order([change.clock for change in recording.alterations], begun, "alterations")
     if _whole(data["steps"], MAX_CLOCK, "steps") != recording.steps:
         raise ValueError("its steps are not those from its start to its end")

@@ -23,6 +23,7 @@ from .constants import KBSR_READY, MAX_CLOCK, MAX_STEPS, MCR_CLOCK, MEMORY_WORDS
 from .constants import PSR_USER, USER_STACK, __version__
 from .ending import EndKind, Ending, SittingReport, ending_of
 from .exclusive import Exclusive, exclusive
+from .formats import FormatError, other_format
 from .log import LoggedStep, logged_steps
 from .machine import MEMORY_BYTES, Machine
 from .memory import Line, Memory
@@ -178,7 +179,8 @@ candidate's belongs: give it another origin, or take fewer words
         self, file: File, name: str = "", examiner: bool = False, anywhere: bool | None = None
     ) -> Program:
         """Loads an object file: a path, or the bytes themselves. The record stays as it is, so
-        ``start`` follows where the file is to run.
+        ``start`` follows where the file is to run. A file that is plainly of another format raises
+        ``FormatError``, which says what to do.
 
         It is a candidate's file, or the ``examiner``'s, and lies where such a file may unless it
         may lie ``anywhere``; without a word on that, as the sitting was made. Files that are loaded
@@ -194,6 +196,9 @@ fewer than two: an object file is an origin and words, of two bytes each
             # Not in exclusive use: a pipe may keep its reader waiting, and Ctrl-C shall end that.
             with open(file, "rb") as stream:
                 file = stream.read(LONGEST_FILE)
+            problem = other_format(file)
+            if problem:
+                raise FormatError(f"{name}: refused: {problem}")
         return self._load(file, name, examiner, self._anywhere if anywhere is None else anywhere)
 
     @exclusive

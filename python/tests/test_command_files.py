@@ -13,7 +13,7 @@ from pathlib import Path
 from unittest import mock
 
 import fanthrig
-from fanthrig.command.formats import other_format
+from fanthrig.formats import other_format
 
 from .command_support import HELLO, Folder, Ran, ran
 from .support import object_file
@@ -157,6 +157,12 @@ class Hostile(Folder):
             self.assertIn(code, (0, 1, 3, 4))
             self.assertEqual((err.count("\n"), err[:5]), (1, "lc3: "))
 
+    def test_the_module_says_so_too(self) -> None:
+        for data, said in ((LC3TOOLS, "lc3tools"), (TEXT, "it is text"), (ZIPPED, "ZIP archive")):
+            path = self.file("other.obj", data)
+            with self.assertRaisesRegex(fanthrig.FormatError, f"other.obj: refused: .*{said}"):
+                fanthrig.Sitting(path)
+
 
 class Swapped(Folder):
     """Files with the low byte of each word first."""
@@ -203,6 +209,8 @@ class Formats(unittest.TestCase):
         # A few words of printable bytes alone are no text yet.
         self.assertEqual(other_format(object_file(0x3030, 0x3131, 0x4142)), "")
         self.assertEqual(other_format(HELLO), "")
+        # So are the words of a string for PUTSP.
+        self.assertEqual(other_format(b"@@ehll oowlr!d"), "")
         # What begins as another format may still be a program.
         for begins in (0x1C30, 0x15C0), (0x7F45, 0x4C46), (0x504B, 0x0304):
             self.assertEqual(other_format(object_file(*begins, 0x5020, 0xF025)), "")

@@ -186,6 +186,16 @@ class OtherEnds(Folder):
         with mock.patch("fanthrig.recording.LONGEST", 1000):
             code, _, err = ran("run", "--save-sitting", self.folder / "new.json", self.hello)
         self.assertEqual((code, "new.json: the sitting is longer than" in err), (3, True))
+        self.assertFalse((self.folder / "new.json").exists())
+
+    def test_a_sitting_with_too_many_keys(self) -> None:
+        echo = self.file("echo.obj", object_file(0x3000, "TRAP x20", "TRAP x21", "BRnzp #-3"))
+        path = self.folder / "echo.json"
+        with mock.patch("fanthrig.command.seat.MOST_SAVED_KEYS", 5):
+            code, _, err = ran("run", "--save-sitting", path, echo, keys=b"abcdef")
+        self.assertEqual((code, "too long to be saved" in err), (1, True))
+        # What was made until then is saved.
+        self.assertEqual(ran("run", "--replay", path).code, 1)
 
     def test_no_file_that_is_read_is_overwritten(self) -> None:
         before, names = self.hello.read_bytes(), ("symbolic", "hard", "hello.obj")

@@ -9,7 +9,6 @@
 
 ``options``     what may stand on the command line
 ``files``       object files and saved sittings as the command takes them
-``formats``     files that are plainly something else
 ``seat``        a sitting with keyboard and display, run until something ends it
 ``terminal``    where keys come from, and signals
 ``messages``    what is said to people, and the exit codes
@@ -28,6 +27,7 @@ from __future__ import annotations
 
 import errno
 import os
+import signal
 import sys
 from importlib import import_module
 from typing import Sequence
@@ -51,9 +51,10 @@ def main(argv: Sequence[str] | None = None) -> int:
         options = parser().parse_args(argv)
     except SystemExit as ended:
         return int(ended.code or 0)
-    # Each command's module is loaded when it is asked for: a short run shall not wait for all.
-    command = import_module(f"fanthrig.command.{options.module}")
     try:
+        _take_interrupts()
+        # Each command's module is loaded when it is asked for: a short run shall not wait for all.
+        command = import_module(f"fanthrig.command.{options.module}")
         code = int(command.command(options))
         sys.stdout.flush()
         return code
@@ -76,6 +77,13 @@ def main(argv: Sequence[str] | None = None) -> int:
     except KeyboardInterrupt:
         say("stopped by Ctrl-C")
         return int(Code.NOT_HALTED)
+
+
+def _take_interrupts() -> None:
+    """Has Ctrl-C raise ``KeyboardInterrupt``, as it was before the installed command let it end
+    the process while that began."""
+    if signal.getsignal(signal.SIGINT) is signal.SIG_DFL:
+        signal.signal(signal.SIGINT, signal.default_int_handler)
 
 
 def _set_up_streams() -> None:

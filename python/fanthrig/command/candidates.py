@@ -15,8 +15,8 @@ import stat
 from dataclasses import dataclass
 from typing import Iterator, Sequence
 
+from ..formats import other_format
 from ..sitting import LONGEST_FILE
-from .formats import other_format
 from .messages import CommandError, of_os_error
 from .regular import LINK, opened
 

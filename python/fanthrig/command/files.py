@@ -7,11 +7,11 @@ import os
 from os import PathLike, fspath
 from typing import Sequence
 
+from ..formats import SWAPPED, is_swapped, other_format
 from ..places import PlaceError
 from ..records import Edition, Mode, Refusal, Refused
 from ..recording import REPLAY_STEPS, Program, Recording, RecordingError
 from ..sitting import LONGEST_FILE, Sitting
-from .formats import SWAPPED, is_swapped, other_format
 from .messages import Code, CommandError, of_os_error
 
 # A longer file of keys is taken for one that never ends.

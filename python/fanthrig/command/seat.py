@@ -21,6 +21,10 @@ from .terminal import Keyboard, Signals, die, standard_keyboard
 WAITS = "the program waits for a key, and no more keys come"
 LOOPS = "the program goes round in a loop that not even a key can end"
 NOBODY_READS = "nobody reads the display any more"
+MANY_KEYS = "stopped: a sitting with more keys is too long to be saved"
+
+# The most keys of a sitting that is saved: a recording has to be read back.
+MOST_SAVED_KEYS = 1 << 20
 
 
 class Pace(NamedTuple):
@@ -66,7 +70,10 @@ def sit(
     look = sitting.clock + apart
     while True:
         keys = keys or (keyboard.poll() if len(sitting.typed) < keyboard.ahead else b"")
+        if keyboard.most < len(keys):
+            return replace(sitting.ending, kind=EndKind.INTERRUPTED, text=MANY_KEYS)
         if keys:
+            keyboard.most -= len(keys)
             # Only then: even to type nothing is to depart from a replay.
             sitting.type(keys)
             apart, keys = pace.first, b""
@@ -142,6 +149,7 @@ def seat_of(options: argparse.Namespace, signals: Signals) -> Seat:
         seat = Seat(sitting, keyboard, end, asked, forgets=forgets)
     if options.save_sitting is not None:
         _check_saving(options)
+        seat.keyboard.most = MOST_SAVED_KEYS
     return seat
 
 
@@ -154,8 +162,12 @@ def _check_saving(options: argparse.Namespace) -> None:
     if any(same_file(path, options.save_sitting) for path in inputs):
         text = f"--save-sitting would overwrite {options.save_sitting}: name another file"
         raise CommandError(text, Code.WRONG_USE)
+    is_new = not os.path.lexists(options.save_sitting)
     with open(options.save_sitting, "ab"):
         pass
+    if is_new:
+        # A run that is killed, or can't be saved, leaves no empty file.
+        os.unlink(options.save_sitting)
 
 
 def check_use(options: argparse.Namespace) -> None:

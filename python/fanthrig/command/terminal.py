@@ -105,6 +105,8 @@ class Keyboard:
     are asked for where fewer than ``ahead`` are typed and not taken."""
 
     ahead = 1
+    # The most keys that are typed.
+    most = sys.maxsize
 
     def __init__(self, first: bytes = b"") -> None:
         """The keys."""

@@ -2,16 +2,16 @@
 
 The library takes any file of an origin and words that fit memory, and many a file of another format
 would. None is refused here that could be an object file: each format is told by bytes that no
-program begins with but by design. ``fanthrig.Sitting`` has none of this: it loads what it is
-handed.
+program begins with but by design. Bytes that a host hands to ``fanthrig.Sitting`` are not looked
+at: they are what the host says.
 """
 
 from __future__ import annotations
 
 import unicodedata
 
-from ..places import USER_WORDS
-from ..recording import from_high_first
+from .places import USER_WORDS
+from .recording import from_high_first
 
 LC3TOOLS = (
     "it is an object file of lc3tools, which has a format of its own: assemble its source with the "
@@ -37,6 +37,10 @@ SHORTEST_TEXT = 8
 SERVICES = range(0xF020, 0xF026)
 
 
+class FormatError(ValueError):
+    """A file of another format, and what to do with it."""
+
+
 def other_format(data: bytes) -> str:
     """What a file plainly is that is no object file, with what to do; empty where it may be one.
 
@@ -57,9 +61,14 @@ def other_format(data: bytes) -> str:
 
 
 def _is_text(data: bytes) -> bool:
-    """Whether a file is text: characters of UTF-8 throughout, and none of control but those that
-    end lines and the like; or of Latin-1 where an assembler's .ORIG is among them."""
-    if len(data) < SHORTEST_TEXT:
+    """Whether a file is text: lines of characters of UTF-8, and none of control but those that end
+    lines and the like; or of Latin-1 where an assembler's .ORIG is among them. Text without the end
+    of a line may be the words of a string, two characters in each.
+
+    >>> _is_text(b"@@ehll oowlr!d")
+    False
+    """
+    if len(data) < SHORTEST_TEXT or not (b"\n" in data or b"\r" in data):
         return False
     try:
         text = data.decode("utf-8-sig")
