@@ -69,7 +69,8 @@ class Ending:
     the run, or that is obeyed next where nothing did; ``word`` is its word, or nothing where User
     mode may not fetch it. ``reason`` is the trap, exception or interrupt by which the program was
     left, and ``vector`` the trap's vector. ``record`` is the record as the program had it at
-    ``pc``.
+    ``pc``; but where a routine has served for so long that the step is not found, R0 to R5 and R7
+    are the routine's, and ``registers_known`` is false.
     """
 
     kind: EndKind
@@ -79,6 +80,7 @@ class Ending:
     reason: Reason | None = None
     vector: int | None = None
     record: Record = field(default_factory=Record, repr=False, compare=False)
+    registers_known: bool = field(default=True, repr=False, compare=False)
 
     @property
     def line(self) -> str:
@@ -171,7 +173,7 @@ def _at(kind: EndKind, text: str, machine: Machine, left: Left | None) -> Ending
         return Ending(kind, text, record.pc, word, record=record)
     step, vector = left.step, vector_of(left.step)
     reason = step.reason if vector is None else Reason.TRAP
-    return Ending(kind, text, step.pc, step.word, reason, vector, left.record)
+    return Ending(kind, text, step.pc, step.word, reason, vector, left.record, left.found)
 
 
 def _crash(machine: Machine, left: Left, halted: bool) -> Ending | None:

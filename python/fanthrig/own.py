@@ -9,18 +9,20 @@ By the second edition's rules a TRAP is no entry but a call, from which RET retu
 mode: there the steps in privileged memory, x0000 to x2FFF and from xFE00 on, are the monitor's.
 
 All is read from the log of the last steps, backwards, and no further than ``LOOKED_THROUGH`` says.
-Where a routine has served for longer, the PC that its entry saved on the supervisor stack still
-names the program's instruction. A program in User mode can alter neither log nor stack.
+Where a routine has served a program in User mode for longer, its entry is looked for from the last
+snapshot in User mode on: see ``fanthrig.entries``. Where that is too far back as well, the PC that
+the entry saved on the supervisor stack still names the program's instruction. A program in User
+mode can alter neither log nor stack.
 """
 
 from __future__ import annotations
 
-import re
 from array import array
 from itertools import islice
-from typing import Iterator, NamedTuple
+from typing import Iterator, NamedTuple, Sequence
 
 from .constants import LOG_WORDS, PSR_USER
+from .entries import FARTHEST, entries_since, entry_places
 from .log import LoggedStep, logged_steps
 from .past import Past
 from .records import Edition, Mode, Reason, Record
@@ -45,21 +47,20 @@ PSR_BITS = 0x8707
 # The exceptions that an opcode raises in User mode.
 _RAISED = {8: Reason.PRIVILEGE, 13: Reason.ILLEGAL}
 
-# The opcode of RTI in the high byte of a word, low byte first.
-_RTI = re.compile(rb"(?s)(?:..)*?.[\x80-\x8f]")
-
 # What a step does to the routines that are open.
 NOTHING, CALLS, ENTERS, RETURNS = range(4)
 
 
 class Left(NamedTuple):
     """The step by which the program was left: its log, the registers before it, and the entries
-    that are open inside of it, the first one first."""
+    that are open inside of it, the first one first. Where the step was not ``found``, only PC, PSR
+    and R6 are those before it, and its clock is that of the end."""
 
     clock: int
     step: LoggedStep
     record: Record
     inner: tuple[LoggedStep, ...] = ()
+    found: bool = True
 
     @property
     def in_user_mode(self) -> bool:
@@ -87,12 +88,12 @@ def left_by(past: Past) -> Left | None:
         found = _left_since(near, first)
         if found is not None and found.in_user_mode:
             return found
-    return _left_by_frame(past) or found
+    return _left_far_back(past) or _left_by_frame(past) or found
 
 
 def last_own_steps(past: Past, count: int) -> list[LoggedStep]:
-    """The last steps of the program, at most so many. Fewer are told where a routine of the
-    monitor has served for longer than the log is looked through."""
+    """The last steps of the program, at most so many. Fewer are told where routines of the monitor
+    have served for longer than the log is looked through."""
     left = left_by(past)
     steps = list(_last_own(past, count, left).values())
     return [left.step] if left is not None and not steps else steps
@@ -106,6 +107,9 @@ def last_own_clocks(past: Past, count: int) -> list[int]:
 def _last_own(past: Past, count: int, left: Left | None) -> dict[int, LoggedStep]:
     """The last steps of the program by their numbers, as far as the log is looked through."""
     steps: dict[int, LoggedStep] = {}
+    third = past.edition is Edition.THIRD
+    if third and left is not None and left.found and left.in_user_mode:
+        past = _near_part(past.until(left.clock + 1))
     for first in _beginnings(past):
         near = past.nearer(first)
         log = near.log(first)
@@ -142,24 +146,45 @@ def _beginnings(past: Past) -> Iterator[int]:
             return
 
 
+def _near_part(past: Past) -> Past:
+    """A past without its start where that is far back."""
+    far = len(past.marks) > 1 and past.clock - past.start > FARTHEST
+    return past._replace(marks=past.marks[1:]) if far else past
+
+
 def _step(log: array[int], place: int) -> LoggedStep:
     """One step of a log."""
     return logged_steps(log[place * LOG_WORDS : (place + 1) * LOG_WORDS])[0]
 
 
 def _left_since(past: Past, first: int) -> Left | None:
-    """The step by which the program was left, from the log from a clock on: the last open one that
-    was made in User mode; else the last one outside of privileged memory; else the first."""
-    log = past.log(first)
+    """The step by which the program was left, from the log from a clock on."""
+    return _left_in(past, past.log(first), range(first, past.clock))
+
+
+def _left_far_back(past: Past) -> Left | None:
+    """The same of a program in User mode, from all entries since the last snapshot in that mode."""
+    marks = [mark.snapshot.clock for mark in past.marks if mark.in_user_mode]
+    if past.edition is Edition.SECOND or not marks:
+        return None
+    entries = entries_since(past, marks[-1])
+    left = None if entries is None else _left_in(past, entries.log, entries.clocks)
+    return left if left is not None and left.in_user_mode else None
+
+
+def _left_in(past: Past, log: array[int], clocks: Sequence[int]) -> Left | None:
+    """The step by which the program was left, from a log of steps of these numbers: the last open
+    one that was made in User mode; else the last one outside of privileged memory; else the
+    first."""
     inner: list[LoggedStep] = []
     found: Left | None = None
     places = list(open_places(log, past.edition))
     # Where there are more, the first of all is looked at as well: with it the trouble began.
     for place in places[:MOST_OPEN] + places[MOST_OPEN:][-1:]:
-        step = _step(log, place)
-        record = past.machine_at(first + place).plain_record()
-        here = Left(first + place, step, record, tuple(reversed(inner)))
-        if _in_user_mode(past, first + place):
+        step, clock = _step(log, place), clocks[place]
+        record = past.machine_at(clock).plain_record()
+        here = Left(clock, step, record, tuple(reversed(inner)))
+        if past.edition is Edition.THIRD and here.in_user_mode:
             return here
         if found is None or privileged(found.step.pc):
             found = here
@@ -185,7 +210,8 @@ def _left_by_frame(past: Past) -> Left | None:
     record = machine.plain_record()
     record.pc, record.psr, record.regs[6] = at, psr, record.saved_usp
     step = LoggedStep(at, machine.words[at], reason)
-    return None if reason is Reason.INSTRUCTION else Left(past.clock, step, record)
+    left = Left(past.clock, step, record, found=False)
+    return None if reason is Reason.INSTRUCTION else left
 
 
 def effect(word: int, reason: int, edition: Edition) -> int:
@@ -216,7 +242,8 @@ def open_places(log: array[int], edition: Edition) -> Iterator[int]:
     [2]
     """
     returned = 0
-    for place in _places(log) if edition is Edition.SECOND else _busy_places(log):
+    second = edition is Edition.SECOND
+    for place in _places(log) if second else reversed(entry_places(log)):
         what = effect(log[LOG_WORDS * place + 1], log[LOG_WORDS * place + 2], edition)
         if what == RETURNS:
             returned += 1
@@ -232,7 +259,7 @@ def _user_places(past: Past, log: array[int], first: int) -> Iterator[int]:
     user = _in_user_mode(past, past.clock)
     returned_to: list[bool] = []
     for block in _blocks(log):
-        if not user and not _is_busy(log, block):
+        if not user and not entry_places(log[LOG_WORDS * block.start : LOG_WORDS * block.stop]):
             continue
         for place in reversed(block):
             what = effect(log[LOG_WORDS * place + 1], log[LOG_WORDS * place + 2], Edition.THIRD)
@@ -262,26 +289,12 @@ def _places(log: array[int]) -> Iterator[int]:
     return reversed(range(len(log) // LOG_WORDS))
 
 
-def _busy_places(log: array[int]) -> Iterator[int]:
-    """The same without those blocks in which nothing is entered or returned from."""
-    for block in _blocks(log):
-        if _is_busy(log, block):
-            yield from reversed(block)
-
-
 def _blocks(log: array[int]) -> Iterator[range]:
     """The steps of a log in blocks, the last one first."""
     end = len(log) // LOG_WORDS
     while end > 0:
         yield range(max(end - BLOCK, 0), end)
         end -= BLOCK
-
-
-def _is_busy(log: array[int], block: range) -> bool:
-    """Whether a block has an entry or an RTI, by the third edition's rules."""
-    part = slice(LOG_WORDS * block.start, LOG_WORDS * block.stop)
-    words, reasons = log[part][1::LOG_WORDS], log[part][2::LOG_WORDS]
-    return any(reasons.tobytes()) or _RTI.match(words.tobytes()) is not None
 
 
 class OwnSteps:

@@ -3,9 +3,10 @@
 from __future__ import annotations
 
 from array import array
-from typing import NamedTuple, Sequence
+from typing import Iterator, NamedTuple, Sequence
 
-from .constants import MAX_STEPS
+from ._library import RecordStruct
+from .constants import MAX_STEPS, PSR_USER
 from .machine import LOGGED_AT_ONCE, Machine, Snapshot
 from .recording import Alteration, RecordingError
 from .records import Edition, Stop
@@ -16,6 +17,11 @@ class Mark(NamedTuple):
 
     snapshot: Snapshot
     made: int
+
+    @property
+    def in_user_mode(self) -> bool:
+        """Whether the machine was in User mode."""
+        return bool(RecordStruct.from_buffer_copy(self.snapshot.record).psr & PSR_USER)
 
 
 class Past(NamedTuple):
@@ -50,19 +56,33 @@ class Past(NamedTuple):
         machine, made = self._followed(clock)
         return self._replace(marks=(self.marks[0], Mark(machine.snapshot(), made)))
 
+    def until(self, clock: int) -> Past:
+        """The past that led to an earlier clock, before anything was altered there."""
+        made = self.made
+        while made and self.alterations[made - 1].clock >= clock:
+            made -= 1
+        marks = tuple(mark for mark in self.marks if mark.snapshot.clock < clock)
+        return self._replace(marks=marks, made=made, clock=clock)
+
     def log(self, first: int) -> array[int]:
         """The words of the log of the steps from a clock on, three for each step."""
-        machine, made = self._followed(first)
         log: array[int] = array("H")
+        for _, part in self.logs(first):
+            log += part
+        return log
+
+    def logs(self, first: int) -> Iterator[tuple[Machine, array[int]]]:
+        """The same in parts of at most ``LOGGED_AT_ONCE`` steps, each with the machine as it stands
+        after them."""
+        machine, made = self._followed(first)
         for place in range(made, self.made + 1):
             alteration = self.alterations[place] if place < self.made else None
             goal = self.clock if alteration is None else alteration.clock
             while machine.record.clock < goal:
                 n = min(goal - machine.record.clock, LOGGED_AT_ONCE)
-                log += _whole(*machine.advance_logged(n))
+                yield machine, _whole(*machine.advance_logged(n))
             if alteration is not None:
                 alteration.make(machine)
-        return log
 
     def _followed(self, clock: int) -> tuple[Machine, int]:
         """A machine that stands at a clock, with all that was altered there, and how many

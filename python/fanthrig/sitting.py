@@ -47,6 +47,9 @@ LONGEST_FILE = 2 + 2 * MEMORY_WORDS + 2
 # Steps between two snapshots that the log of the last steps is made from.
 MARK_EVERY = 1 << 20
 
+# The keys that are not forgotten for the sake of a snapshot in User mode.
+MOST_KEYS = 1 << 16
+
 # The first steps of a run with breakpoints that are made at once; they double from call to call.
 FIRST_SEARCH = 256
 
@@ -450,8 +453,9 @@ fewer than two: an object file is an origin and words, of two bytes each
 
     @exclusive
     def forget(self) -> None:
-        """Forgets the keys that have arrived, but for the last million steps, and the start: for a
-        host that never records the sitting, so that a long one takes no memory.
+        """Forgets the start and the keys that have arrived, but for the last million steps, and for
+        the time since the program was seen in User mode: for a host that never records the
+        sitting, so that a long one takes no memory.
 
         >>> sitting = Sitting(bytes.fromhex("3000 1021 0FFE"))
         >>> for _ in range(4):
@@ -460,9 +464,10 @@ fewer than two: an object file is an origin and words, of two bytes each
         Traceback (most recent call last):
         ValueError: the sitting has forgotten its start, and can't be recorded
         """
-        if len(self._marks) < 3:
+        place = self._first_needed()
+        if place <= 0:
             return
-        machine, (snapshot, made) = self._machine, self._marks[1]
+        machine, (snapshot, made) = self._machine, self._marks[place]
         arrived = snapshot.arrived
         # New lists: what tells of the past still has the old ones.
         machine.times, machine.keys = machine.times[arrived:], machine.keys[arrived:]
@@ -470,9 +475,20 @@ fewer than two: an object file is an origin and words, of two bytes each
         self._alterations, self._made = self._alterations[made:], self._made - made
         self._marks = [
             Mark(mark._replace(arrived=mark.arrived - arrived), before - made)
-            for mark, before in self._marks[1:]
+            for mark, before in self._marks[place:]
         ]
         self._forgotten = True
+
+    def _first_needed(self) -> int:
+        """The first of the marks that the last steps are told from: the last but one, or one before
+        in User mode, unless that means to hold many keys."""
+        last = len(self._marks) - 2
+        user = [place for place in range(last) if self._marks[place].in_user_mode]
+        if not user:
+            return last
+        keys = self._machine.arrived - self._marks[user[-1]].snapshot.arrived
+        seen_since = any(mark.in_user_mode for mark in self._marks[last:])
+        return last if seen_since or keys > MOST_KEYS else user[-1]
 
     @property
     def display_limit(self) -> int | None:
@@ -682,8 +698,9 @@ PSR x8001 -> x0001, Saved_USP x0000 -> xFDFF, x2FFE x0000 -> x3002, x2FFF x0000 
             self._look, self._since, self._left = self._left.look, self._left.since, None
         if clock - self._marks[-1].snapshot.clock >= MARK_EVERY:
             self._mark()
-            # The start is kept, and two more: the log may reach back beyond the last.
-            del self._marks[1:-2]
+            # The start is kept, the last one in User mode, and two more: the log may reach back
+            # beyond the last.
+            self._marks[1:-2] = [mark for mark in self._marks[1:-2] if mark.in_user_mode][-1:]
 
     def _mark(self) -> None:
         """Takes a snapshot. In User mode the supervisor stack's pointer is seen as well."""
@@ -712,7 +729,7 @@ PSR x8001 -> x0001, Saved_USP x0000 -> xFDFF, x2FFE x0000 -> x3002, x2FFF x0000 
 
     def last_program_steps(self, count: int) -> list[LoggedStep]:
         """The same without the steps of the monitor's routines: see ``fanthrig.own``. Fewer are
-        told where a routine has served for a million steps.
+        told where routines have served for most of a million steps.
 
         >>> sitting = Sitting(bytes.fromhex("3000 1021 F021 F025"))
         >>> _ = sitting.run()

@@ -153,6 +153,17 @@ class Running(Folder):
             self.assertIn("PSR x8001  User mode, priority 0, P", lines[4])
             self.assertIn("MCR x0000", lines[5])
 
+    def test_registers_of_a_program_that_was_served_for_long(self) -> None:
+        words = ("ADD R0, R0, #7", "TRAP x20", "TRAP x25")
+        program = self.file("getc7.obj", object_file(0x3000, *words))
+        for steps in (1000, 5_000_000):
+            lines = ran("run", "--registers", "--steps", steps, program).err.splitlines()
+            self.assertEqual(lines[0], "the program's own registers, before its last instruction:")
+            self.assertIn("R0 x0007      7", lines[1])
+            log = ran("log", "--program", "--last", 2, "--steps", steps, program).out
+            rows = [row.split()[:2] for row in log.splitlines()[1:]]
+            self.assertEqual(rows, [[b"0", b"x3000"], [b"1", b"x3001"]])
+
     def test_crashes(self) -> None:
         crashes: dict[str | int, str] = {
             "RTI": "stopped by the privilege exception; 3 steps; PC x3000: RTI",

@@ -14,6 +14,7 @@ from typing import Any, NamedTuple
 
 import fanthrig
 from fanthrig import EndKind, Mode, Reason, Sitting
+from fanthrig.command.messages import own_registers
 
 from .support import Words, object_file
 
@@ -109,8 +110,8 @@ class Kinds(unittest.TestCase):
             self.assertEqual((ending.kind, ending.pc), (EndKind.STRING_REFUSED, 0x3001))
             self.assertEqual(ending.record.regs[0], 0x3002)
             self.assertEqual((ending.record.regs[6], ending.record.psr), (0xFDFF, 0x8002))
-            steps = sitting.last_program_steps(10)
-            self.assertEqual(steps[-1].line, trap)
+            lines = [step.line for step in sitting.last_program_steps(10)]
+            self.assertEqual(lines, ["LEA R0, #1", trap])
 
     def test_stores_to_mcr(self) -> None:
         store: Words = ["AND R0, R0, #0", "STI R0, #0", 0xFFFE]
@@ -199,6 +200,53 @@ class Registers(unittest.TestCase):
             ending = ended("ADD R1, R1, #3", "ADD R2, R2, #-4", "ADD R3, R3, #5", trap)
             self.assertEqual(ending.record.regs[:4], [0, 3, 0xFFFC, 5])
             self.assertEqual(ending.record.regs[6], 0xFDFF)
+
+
+class LongService(unittest.TestCase):
+    """A routine that serves for more steps than a log is looked through."""
+
+    def test_a_long_wait(self) -> None:
+        for steps in (1000, 5_000_000, 50_000_000):
+            for forgets in (False, True):
+                sitting = Sitting(object_file(0x3000, "ADD R0, R0, #7", GETC, HALT))
+                while sitting.clock < steps:
+                    sitting.run(min(steps - sitting.clock, 1 << 20))
+                    if forgets:
+                        sitting.forget()
+                ending = sitting.ending
+                self.assertEqual((ending.pc, ending.record.regs[0]), (0x3001, 7), steps)
+                self.assertTrue(ending.registers_known)
+                self.assertEqual(sitting.last_program_clocks(5), [0, 1])
+                lines = [step.line for step in sitting.last_program_steps(1)]
+                self.assertEqual(lines, [GETC])
+
+    def test_a_long_wait_late_in_a_long_run(self) -> None:
+        # R0 counts down 300 times from xFFFF; then a key is read, and no other one comes.
+        count: Words = ["LD R1, #6", "ADD R0, R0, #-1", "BRnp #-2", "ADD R1, R1, #-1", "BRp #-4"]
+        sitting = Sitting(object_file(0x3000, *count, GETC, GETC, 300))
+        sitting.run(1000)
+        sitting.type("k")
+        sitting.run(60_000_000)
+        self.assertEqual((sitting.ending.pc, sitting.ending.record.regs[0]), (0x3006, ord("k")))
+        own = sitting.last_program_steps(3)
+        self.assertEqual([step.line for step in own], ["BRp #-4", GETC, GETC])
+        clocks = sitting.last_program_clocks(2)
+        self.assertEqual(sitting.ending.record.clock, clocks[1])
+
+    def test_an_entry_that_is_too_far_back(self) -> None:
+        # TRAP x30 counts R1 and R0 down for some 20 million steps.
+        routine: Words = ["LD R1, #5", "ADD R0, R0, #-1", "BRnp #-2", "ADD R1, R1, #-1", "BRp #-4"]
+        sitting = Sitting(object_file(0x3000, "ADD R3, R3, #7", "TRAP x30", HALT))
+        words = array("H", [_word(word) for word in [*routine, "RTI", 150]])
+        sitting.memory[0x1000:0x1007], sitting.memory[0x30] = words, 0x1000
+        ending = sitting.run(15_000_000).ending
+        self.assertEqual((ending.pc, ending.line), (0x3001, "TRAP x30"))
+        self.assertFalse(ending.registers_known)
+        heading = own_registers(sitting, ending).splitlines()[0]
+        self.assertIn("R0 to R5 and R7 the serving routine's", heading)
+        self.assertEqual([step.line for step in sitting.last_program_steps(3)], ["TRAP x30"])
+        self.assertTrue(sitting.run().ending.registers_known)
+        self.assertEqual((sitting.ending.kind, sitting.ending.record.regs[3]), (EndKind.HALTED, 7))
 
 
 class GoingOn(unittest.TestCase):

@@ -116,6 +116,9 @@ def end_line(ending: Ending, steps: int) -> str:
 # Said above the registers where a routine of the monitor made the last steps.
 OWN_REGISTERS = "the program's own registers, before its last instruction:"
 
+# The same where it has served for so long that the program's last instruction was not found.
+FEW_REGISTERS = "PC, PSR and R6 are the program's own, R0 to R5 and R7 the serving routine's:"
+
 DEVICES = ("KBSR", "KBDR", "MCR", "TSR", "TIR")
 
 
@@ -149,7 +152,8 @@ def own_registers(sitting: Sitting, ending: Ending) -> str:
     if not ending.served:
         return registers(sitting)
     own = _processor(ending.record, ending.line)
-    return "\n".join([OWN_REGISTERS, *own, _devices(sitting)])
+    heading = OWN_REGISTERS if ending.registers_known else FEW_REGISTERS
+    return "\n".join([heading, *own, _devices(sitting)])
 
 
 def _processor(record: Record, line: str) -> list[str]:
