@@ -17,7 +17,7 @@ from .calls import line, monitor
 from .constants import MCR_CLOCK, MEMORY_WORDS, MONITOR_WORDS, PSR_USER, VECTOR_WORDS
 from .log import LoggedStep, logged_steps
 from .machine import Machine
-from .own import Left, left_by, privileged
+from .own import Left, left_by, privileged, strayed_by
 from .past import Past
 from .records import Edition, Reason, Record, Report, Stop
 from .steps import STORES
@@ -70,7 +70,9 @@ class Ending:
     mode may not fetch it. ``reason`` is the trap, exception or interrupt by which the program was
     left, and ``vector`` the trap's vector. ``record`` is the record as the program had it at
     ``pc``; but where a routine has served for so long that the step is not found, R0 to R5 and R7
-    are the routine's, and ``registers_known`` is false.
+    are the routine's, and ``registers_known`` is false. ``strayed`` tells of a program that came
+    into privileged memory otherwise than by an entry, as by a JMP: ``pc`` is that of its last
+    instruction outside.
     """
 
     kind: EndKind
@@ -81,6 +83,7 @@ class Ending:
     vector: int | None = None
     record: Record = field(default_factory=Record, repr=False, compare=False)
     registers_known: bool = field(default=True, repr=False, compare=False)
+    strayed: bool = field(default=False, repr=False)
 
     @property
     def line(self) -> str:
@@ -95,7 +98,7 @@ class Ending:
     @property
     def served(self) -> bool:
         """Whether the program was left for a routine of the monitor, which made the last steps."""
-        return self.reason not in (None, Reason.INSTRUCTION)
+        return self.strayed or self.reason not in (None, Reason.INSTRUCTION)
 
     @property
     def finished(self) -> bool:
@@ -161,7 +164,7 @@ def ending_of(past: Past, stop: Stop) -> Ending:
         Stop.BREAKPOINT: EndKind.BREAKPOINT,
         Stop.INTERRUPTED: EndKind.INTERRUPTED,
     }.get(stop, EndKind.STEPS)
-    return _at(kind, stop.text, machine, left)
+    return _at(kind, stop.text, machine, left or strayed_by(past))
 
 
 def _at(kind: EndKind, text: str, machine: Machine, left: Left | None) -> Ending:
@@ -173,7 +176,8 @@ def _at(kind: EndKind, text: str, machine: Machine, left: Left | None) -> Ending
         return Ending(kind, text, record.pc, word, record=record)
     step, vector = left.step, vector_of(left.step)
     reason = step.reason if vector is None else Reason.TRAP
-    return Ending(kind, text, step.pc, step.word, reason, vector, left.record, left.found)
+    told = (kind, text, step.pc, step.word, reason, vector, left.record)
+    return Ending(*told, registers_known=left.found, strayed=left.strayed)
 
 
 def _crash(machine: Machine, left: Left, halted: bool) -> Ending | None:
@@ -218,9 +222,12 @@ def _halted_itself(past: Past, machine: Machine) -> Ending:
     if past.clock > past.start:
         step = logged_steps(past.log(past.clock - 1))[0]
         if step.word is not None and step.word >> 12 in STORES:
+            text, strayed = "halted by a store to MCR", strayed_by(past)
+            if strayed is not None and privileged(step.pc):
+                text += f" in privileged memory, at x{step.pc:04X}"
+                return _at(EndKind.MCR, text, machine, strayed)
             before = past.machine_at(past.clock - 1).plain_record()
-            store = Left(past.clock - 1, step, before)
-            return _at(EndKind.MCR, "halted by a store to MCR", machine, store)
+            return _at(EndKind.MCR, text, machine, Left(past.clock - 1, step, before))
     return _at(EndKind.MCR, "halted from outside", machine, None)
 
 

@@ -54,13 +54,15 @@ NOTHING, CALLS, ENTERS, RETURNS = range(4)
 class Left(NamedTuple):
     """The step by which the program was left: its log, the registers before it, and the entries
     that are open inside of it, the first one first. Where the step was not ``found``, only PC, PSR
-    and R6 are those before it, and its clock is that of the end."""
+    and R6 are those before it, and its clock is that of the end. It is no entry where the program
+    has ``strayed`` into privileged memory."""
 
     clock: int
     step: LoggedStep
     record: Record
     inner: tuple[LoggedStep, ...] = ()
     found: bool = True
+    strayed: bool = False
 
     @property
     def in_user_mode(self) -> bool:
@@ -89,6 +91,24 @@ def left_by(past: Past) -> Left | None:
         if found is not None and found.in_user_mode:
             return found
     return _left_far_back(past) or _left_by_frame(past) or found
+
+
+def strayed_by(past: Past) -> Left | None:
+    """The step by which a program that no routine serves came into privileged memory, to obey what
+    stands there: its last one outside. Nothing where it is not there or began there; and a program
+    in User mode can't, but by the second edition's rules."""
+    here = past.machine_at(past.clock).record.pc
+    if past.stack_base is not None or privileged(past.first_pc) or not privileged(here):
+        return None
+    for first in _beginnings(past):
+        near = past.nearer(first)
+        log = near.log(first)
+        outside = (place for place in _places(log) if not privileged(log[LOG_WORDS * place]))
+        place = next(outside, None)
+        if place is not None:
+            record = near.machine_at(first + place).plain_record()
+            return Left(first + place, _step(log, place), record, strayed=True)
+    return None
 
 
 def last_own_steps(past: Past, count: int) -> list[LoggedStep]:

@@ -41,6 +41,8 @@ class Past(NamedTuple):
     clock: int
     # The supervisor stack's pointer while the program runs in User mode, where it has done so.
     stack_base: int | None
+    # PC before the first step.
+    first_pc: int
 
     @property
     def start(self) -> int:

@@ -260,6 +260,7 @@ fewer than two: an object file is an origin and words, of two bytes each
         self._passed: tuple[int, int] | None = None
         self._forgotten = False
         self._stack_base: int | None = None
+        self._first_pc = at
         self._run_past: Past | None = None
         self.stop = Stop.DONE
 
@@ -631,6 +632,7 @@ PSR x8001 -> x0001, Saved_USP x0000 -> xFDFF, x2FFE x0000 -> x3002, x2FFF x0000 
         """Keeps the machine as it stands before the first step: there the recording begins."""
         if not self._marks:
             self._mark()
+            self._first_pc = self._machine.record.pc
 
     def _go(self, end: int) -> Stop:
         """Runs to a clock, in as many calls as it takes, unless something stops it."""
@@ -764,6 +766,7 @@ PSR x8001 -> x0001, Saved_USP x0000 -> xFDFF, x2FFE x0000 -> x3002, x2FFF x0000 
             machine.keys,
             machine.record.clock,
             self._stack_base,
+            self._first_pc,
         )
 
     @property

@@ -454,6 +454,38 @@ class OtherMonitors(unittest.TestCase):
             self.assertEqual(self.told(sitting)[:2], (kind, pc))
 
 
+class Strayed(unittest.TestCase):
+    """A program that jumps into privileged memory is told by its own last instruction."""
+
+    JUMP: Words = ["ADD R3, R3, #7", "AND R0, R0, #0", "JMP R0"]
+
+    def test_the_second_edition(self) -> None:
+        sitting = Sitting(object_file(0x3000, *self.JUMP), monitor=False, edition=2)
+        stop: Words = ["AND R0, R0, #0", "ADD R3, R0, #1", "STI R0, #0", 0xFFFE]
+        sitting.memory[0x0300:0x0304] = array("H", [_word(word) for word in stop])
+        ending = sitting.run(10_000).ending
+        self.assertEqual((ending.kind, ending.line), (EndKind.MCR, "JMP R0"))
+        text = "halted by a store to MCR in privileged memory, at x0302; PC x3002: JMP R0"
+        self.assertEqual((str(ending), ending.record.regs[3]), (text, 7))
+        self.assertEqual((ending.strayed, ending.served), (True, True))
+        self.assertEqual(sitting.last_program_steps(1)[0].pc, ending.pc)
+        self.assertIn("R3 x0007", own_registers(sitting, ending))
+
+    def test_supervisor_mode(self) -> None:
+        # Through the vector table to the first routine of the monitor, which waits for a key.
+        sitting = Sitting(object_file(0x3000, *self.JUMP), mode=Mode.SUPERVISOR)
+        ending = sitting.run(5000).ending
+        self.assertEqual((ending.kind, ending.pc, ending.line), (EndKind.STEPS, 0x3002, "JMP R0"))
+        self.assertTrue(ending.strayed)
+
+    def test_a_program_that_began_in_privileged_memory(self) -> None:
+        store: Words = ["JSR #3", "AND R0, R0, #0", "STI R0, #0", 0xFFFE, "JMP R7"]
+        sitting = Sitting(object_file(0x2FFC, *store), mode=Mode.SUPERVISOR, anywhere=True)
+        ending = sitting.run(100).ending
+        self.assertEqual((ending.kind, ending.pc), (EndKind.MCR, 0x2FFE))
+        self.assertFalse(ending.strayed)
+
+
 class Account(NamedTuple):
     """What single steps tell of a run: those made in User mode, and the record before the last."""
 
