@@ -49,7 +49,7 @@ class Stop(IntEnum):
             Stop.OUTPUT_FULL: "the output is full",
             Stop.LOG_FULL: "the log is full",
             Stop.BREAKPOINT: "the next instruction is at a breakpoint",
-            Stop.INTERRUPTED: "Ctrl-C was pressed",
+            Stop.INTERRUPTED: "interrupted by a signal",
         }[self]
 
 

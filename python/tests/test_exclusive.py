@@ -295,6 +295,7 @@ class Handlers(unittest.TestCase):
         self.assertIs(sitting.stop, Stop.INTERRUPTED)
         self.assertIn(sitting["R0"] - sitting.memory[0x3004], (0, 1))
         self.assertIs(sitting.ending.kind, fanthrig.EndKind.INTERRUPTED)
+        self.assertEqual(sitting.ending.text, "interrupted by a signal")
         self.armed = False
         in_the_middle(sitting, lambda: signal.raise_signal(signal.SIGUSR1))
         self.assertIs(sitting.run(3 * fanthrig.MAX_STEPS).ending.kind, fanthrig.EndKind.STEPS)
