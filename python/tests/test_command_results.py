@@ -20,6 +20,7 @@ from typing import Any
 
 import fanthrig
 from fanthrig.command.report import COLUMNS, cell
+from fanthrig.command.seat import NOBODY_READS, WAITS
 
 from . import ROOT
 from .command_support import ENVIRONMENT, PYTHON, process, ran
@@ -105,6 +106,12 @@ class Members(Marking):
             # A marking has no breakpoints, and one that is interrupted has no result.
             if kind not in (fanthrig.EndKind.BREAKPOINT, fanthrig.EndKind.INTERRUPTED):
                 self.assertIn(kind.value, text)
+
+    def test_every_end_of_a_run_is_in_the_manual(self) -> None:
+        text = " ".join(manual().partition('\n.SH "HOW A RUN ENDS"\n')[2].split())
+        stops = [fanthrig.Stop.DONE.text, fanthrig.Stop.OUTPUT_FULL.text]
+        for told in (*stops, WAITS.partition(",")[0], "stopped by Ctrl-C", NOBODY_READS):
+            self.assertIn(told, text)
 
     def test_what_a_result_is_held_against(self) -> None:
         lines = self.lines_of_all_kinds()
