@@ -11,9 +11,10 @@ import unittest
 from array import array
 from dataclasses import replace
 from typing import Any, NamedTuple
+from unittest import mock
 
 import fanthrig
-from fanthrig import EndKind, Mode, Reason, Sitting
+from fanthrig import EndKind, Edition, Mode, Reason, Sitting, own
 from fanthrig.command.messages import own_registers
 
 from .support import Words, object_file
@@ -219,6 +220,17 @@ class LongService(unittest.TestCase):
                 self.assertEqual(sitting.last_program_clocks(5), [0, 1])
                 lines = [step.line for step in sitting.last_program_steps(1)]
                 self.assertEqual(lines, [GETC])
+
+    def test_many_keys_are_forgotten_all_the_same(self) -> None:
+        for most, forgotten in ((1, False), (0, True)):
+            sitting = Sitting(object_file(0x3000, GETC, GETC, HALT))
+            sitting.type("k")
+            sitting.run(5_000_000)
+            with mock.patch("fanthrig.sitting.MOST_KEYS", most):
+                sitting.forget()
+            self.assertEqual(sitting.keys == [], forgotten)
+            ending = sitting.run(1).ending
+            self.assertEqual((ending.pc, ending.registers_known), (0x3001, not forgotten))
 
     def test_a_long_wait_late_in_a_long_run(self) -> None:
         # R0 counts down 300 times from xFFFF; then a key is read, and no other one comes.
@@ -555,6 +567,10 @@ class RandomPrograms(unittest.TestCase):
             self.assertEqual((ending.kind, ending.pc), expected(told), file.hex())
             self.assertEqual(ending.record.regs, told.record.regs)
             self.assertEqual(ending.record.psr, told.record.psr)
+            # The same where the entry lies farther back than the log is looked through.
+            with mock.patch.object(own, "LOOKED_THROUGH", dict.fromkeys(Edition, (1, 1, 1))):
+                far = sitting.ending
+            self.assertEqual((far, far.record), (ending, ending.record))
             count = rng.choice([1, 10, 1000])
             self.assertEqual(sitting.last_program_steps(count), told.own[-count:])
             kinds[ending.kind] += 1
