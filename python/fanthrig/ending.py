@@ -22,6 +22,9 @@ from .past import Past
 from .records import Edition, Reason, Record, Report, Stop
 from .steps import STORES
 
+# The vectors of traps, at the start of the vector table.
+TRAPS = VECTOR_WORDS // 2
+
 HALT_VECTOR = 0x25
 
 # The traps that show a string, by their vectors.
@@ -234,7 +237,7 @@ def _halted_itself(past: Past, machine: Machine) -> Ending:
 def has_service(words: array[int], vector: int) -> bool:
     """Whether a trap has a routine of its own: its vector word is not the one that most of the
     256 have, nor x0000. TRAP x25 is HALT wherever it leads."""
-    table = words[: VECTOR_WORDS // 2]
+    table = words[:TRAPS]
     routine = table[vector]
     return routine != 0 and (vector == HALT_VECTOR or 2 * table.count(routine) <= len(table))
 

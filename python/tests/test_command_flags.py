@@ -10,9 +10,9 @@ from collections import Counter
 from typing import Any
 
 import fanthrig
-from fanthrig.command.flags import Flag, exceptions_of
+from fanthrig.command.flags import Flag, counted_flags
 from fanthrig.command.terminal import Signals
-from fanthrig.ending import EXCEPTIONS
+from fanthrig.ending import EXCEPTIONS, has_service
 
 from .mark_support import Marking, doubling
 from .support import fresh, object_file, random_word
@@ -188,6 +188,19 @@ class Survived(Marking):
         self.assertIn("LD R0, #-256 in one, and 1 more\n", done.out.decode())
         self.assertIn("\n1 of 1 candidates right; 1 flagged\n", done.out.decode())
 
+    def test_traps_without_a_service_that_return(self) -> None:
+        # All traps but those that the program needs lead to an RTI alone.
+        memory = fresh()
+        fanthrig.monitor(memory)
+        memory[0x300] = fanthrig.word("RTI")
+        for vector in {*range(0x100)} - {0x20, 0x21, 0x25}:
+            memory[vector] = 0x300
+        self.monitor = self.file("monitor.obj", object_file(0, *memory[:0x301]))
+        self.assertEqual(self.flags(doubling()), [[], []])
+        attempts = then_doubling("TRAP x26", "TRAP xFF", "TRAP x26")
+        flag = ["trap without service", 0x3000, "TRAP x26", 3]
+        self.assertEqual(self.flags(attempts), [[flag], [flag]])
+
     def test_supervisor_mode(self) -> None:
         # The program gives the illegal opcode a routine of its own, goes on, and sets it back.
         alter = ["LEA R0, #8", "LDI R1, #15", "STI R0, #14", ".FILL xD000", "STI R1, #12"]
@@ -212,23 +225,29 @@ class Counted(unittest.TestCase):
             )
             sitting.type("keys")
             sitting.run(700)
-            again, steps = fanthrig.Sitting.of(sitting.recording()), Counter[str]()
+            recording, steps = sitting.recording(), Counter[str]()
+            again = fanthrig.Sitting.of(recording)
             first: dict[str, tuple[int, str]] = {}
             for step in again.trace(sitting.clock):
-                if step.reason in EXCEPTIONS:
-                    steps[step.reason.text] += 1
-                    first.setdefault(step.reason.text, (step.pc, step.line))
-            flags = exceptions_of(sitting.recording(), Signals())
+                name = step.reason.text if step.reason in EXCEPTIONS else ""
+                if step.reason is fanthrig.Reason.TRAP:
+                    served = has_service(recording.memory, (step.word or 0) & 0xFF)
+                    name = "" if served else "trap without service"
+                if name:
+                    steps[name] += 1
+                    first.setdefault(name, (step.pc, step.line))
+            flags = counted_flags(recording, Signals())
             self.assertEqual({flag.flag: flag.times for flag in flags}, steps)
             self.assertEqual([(flag.pc, flag.line) for flag in flags], list(first.values()))
             seen += steps
-        self.assertEqual(set(seen), {reason.text for reason in EXCEPTIONS})
+        exceptions = {reason.text for reason in EXCEPTIONS}
+        self.assertEqual(set(seen), exceptions | {"trap without service"})
 
     def test_more_steps_than_a_log_holds(self) -> None:
         loop = object_file(0x3000, "LD R0, #-256", "BRnzp #-2")
         sitting = fanthrig.Sitting(loop, examiner=[forgiving_monitor()], monitor=False)
         sitting.run(1_000_000)
-        (flag,) = exceptions_of(sitting.recording(), Signals())
+        (flag,) = counted_flags(sitting.recording(), Signals())
         # Ten steps a round: the exception, the routine of eight, and the branch.
         self.assertEqual(flag, Flag("access exception", 0x3000, "LD R0, #-256", 100_000))
 
