@@ -119,6 +119,23 @@ class Halts(Marking):
         flag = "privilege exception at x3002: RTI"
         self.assertEqual((one["verdict"], one["told"]), ("wrong display", [flag]))
 
+    def test_an_attempt_in_the_last_steps(self) -> None:
+        # The monitor has no step left, or too few, to halt the machine.
+        for first, flag in (
+            (".FILL xD000", "illegal opcode exception"),
+            ("LD R0, #-256", "access exception"),
+            ("RTI", "privilege exception"),
+            ("TRAP x26", "trap without service"),
+        ):
+            content = object_file(0x3000, first)
+            for steps in (1, 2):
+                one = self.one(content, "--steps", steps)
+                self.assertEqual((one["verdict"], one["ending"]), ("not halted", "steps made"))
+                self.assertEqual(one["told"], [f"{flag} at x3000: {first}"])
+            self.assertEqual(self.one(content, "--steps", 0)["told"], [])
+        # A routine that serves the program is no attempt.
+        self.assertEqual(self.one(doubling(), "--steps", 2)["told"], [])
+
     def test_the_text_book_s_loop(self) -> None:
         # A program that polls DSR itself, as the second edition's does.
         one = self.one(object_file(0x3000, "LDI R1, #2", "BRzp #-2", "TRAP x25", 0xFE04))

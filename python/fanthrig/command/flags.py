@@ -3,7 +3,8 @@
 A flag is an exception, above all the access exception of a program that reaches for privileged
 memory; a trap without a service; or a string that the monitor refused to show.
 
-With the ready-made monitor each of these halts the machine, so that how the run ended tells all.
+With the ready-made monitor each of these halts the machine, so that how the run ended tells all;
+where the steps were made before it could, the entry that is open does.
 A monitor of the class's own may go on after an exception or a trap without a service, and a
 program in Supervisor mode may alter the monitor. There the run is made once more with a log, and
 every exception and every such trap is counted. By the second edition's rules no run is logged, and
@@ -61,19 +62,28 @@ def flags_of(
     options: argparse.Namespace, sitting: Sitting, ending: Ending, signals: Signals
 ) -> tuple[Flag, ...]:
     """The flags of a candidate's run that has ended, in the order in which they came first."""
-    flags = []
+    flags: list[Flag] = []
     halts_at_each = options.monitor and not options.supervisor
-    if not halts_at_each and options.edition == Edition.THIRD:
+    counted = not halts_at_each and options.edition == Edition.THIRD
+    if counted:
         flags = counted_flags(sitting.recording(), signals)
-    if ending.kind.crash and not (flags and ending.kind is EndKind.EXCEPTION):
-        flags.append(_last(ending))
+    last = _last(ending, array("H", sitting.memory[:TRAPS]))
+    # Every exception is counted, also one in a routine that serves the program.
+    told = counted and ending.kind is EndKind.EXCEPTION
+    if last is not None and not told and last.flag not in {flag.flag for flag in flags}:
+        flags.append(last)
     return tuple(flags)
 
 
-def _last(ending: Ending) -> Flag:
-    """The flag of what ended a run."""
-    named = ending.kind.value if ending.reason not in EXCEPTIONS else ending.reason.text
-    return Flag(named, ending.pc, ending.line)
+def _last(ending: Ending, table: array[int]) -> Flag | None:
+    """The flag of what ended a run, or of what was under way when its steps were made. It is told
+    with the vector words of the traps."""
+    name = ending.kind.value if ending.kind.crash else ""
+    if ending.reason in EXCEPTIONS:
+        name = ending.reason.text
+    elif not name and ending.vector is not None and not has_service(table, ending.vector):
+        name = EndKind.TRAP_WITHOUT_SERVICE.value
+    return Flag(name, ending.pc, ending.line) if name else None
 
 
 def counted_flags(recording: Recording, signals: Signals) -> list[Flag]:
