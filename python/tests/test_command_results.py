@@ -248,11 +248,24 @@ class Streams(Marking):
     def test_closed_streams(self) -> None:
         right = self.file("right.obj", doubling())
         command = f'{" ".join(PYTHON)} mark --cases {self.cases} {right}'
-        for closed in (">&-", "2>&-", "<&-", "<&- >&- 2>&-"):
+        said = b"lc3: standard output: it is closed: give it a file, a pipe or a terminal\n"
+        for closed, code, err in (
+            ("2>&-", 0, b""),
+            ("<&-", 0, b""),
+            # Results that nobody can have are no success.
+            (">&-", 3, said),
+            ("--json >&-", 3, said),
+            ("--csv >&-", 3, said),
+            ("--one >&-", 3, said),
+            ("<&- >&-", 3, said),
+            ("<&- >&- 2>&-", 3, b""),
+            # Open, but to be read.
+            ("1</dev/null", 3, said),
+        ):
             ended = subprocess.run(
                 ["bash", "-c", f"{command} {closed}"], env=ENVIRONMENT, capture_output=True
             )
-            self.assertEqual((ended.returncode, ended.stderr), (0, b""))
+            self.assertEqual((ended.returncode, ended.stderr), (code, err), closed)
 
     def test_a_latin_terminal(self) -> None:
         path = self.file("\u4e2d\u00e9.obj", doubling())

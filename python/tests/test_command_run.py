@@ -277,20 +277,23 @@ class Processes(Folder):
 
     def test_closed_streams_and_a_full_disk(self) -> None:
         hello, echo = self.file("hello.obj", HELLO), self.file("echo.obj", ECHO)
-        lc3_run = f"{PYTHON[0]} -m fanthrig run"
+        silent = self.file("silent.obj", object_file(0x3000, "BRnzp #-1"))
+        lc3 = f"{PYTHON[0]} -m fanthrig"
+        lc3_run, closed = f"{lc3} run", "lc3: standard output: it is closed: "
         for line, code, said in (
             (f"{lc3_run} {echo} <&-", 1, "no more keys come"),
-            (f"{lc3_run} {hello} >&-", 0, "halted by HALT"),
+            (f"{lc3_run} {hello} >&-", 3, closed),
+            (f"{lc3} log {hello} >&-", 3, closed),
+            (f"{lc3} list {hello} >&-", 3, closed),
+            (f"{lc3} --version >&-", 3, closed),
+            (f"{lc3} --help >/dev/full", 3, "standard output: no space is left"),
+            # Where nothing is shown, nothing is lost.
+            (f"{lc3_run} {silent} >&-", 1, "goes round in a loop"),
             (f"{lc3_run} {hello} 2>&-", 0, ""),
             (f"{lc3_run} {hello} >/dev/full", 3, "standard output: no space is left"),
             (f"{lc3_run} {echo} < {hello}", 1, "no more keys come"),
             (f"{lc3_run} {echo} <&- >&- 2>&-", 1, ""),
-            (
-                f"{PYTHON[0]} -m fanthrig list {hello} >/dev/full",
-                3,
-                "standard output: no space is left",
-            ),
-            (f"{PYTHON[0]} -m fanthrig list {hello} >&-", 0, ""),
+            (f"{lc3} list {hello} >/dev/full", 3, "standard output: no space is left"),
         ):
             ended = subprocess.run(["sh", "-c", line], env=ENVIRONMENT, capture_output=True)
             self.assertEqual(ended.returncode, code, line)
@@ -351,7 +354,8 @@ class Processes(Folder):
         long = self.file("long.obj", object_file(0x3000, *[0x1021] * 20_000))
         line = f"set -o pipefail; {PYTHON[0]} -m fanthrig list {long} | head -n 1"
         ended = subprocess.run(["bash", "-c", line], env=ENVIRONMENT, capture_output=True)
-        self.assertEqual((ended.returncode, ended.stderr), (1, b""))
+        said = b"lc3: standard output can't be written to any more: whoever read it is gone\n"
+        self.assertEqual((ended.returncode, ended.stderr), (3, said))
         self.assertEqual(ended.stdout, b"x3000  x1021  ADD R0, R0, #1\n")
 
     def test_signals(self) -> None:

@@ -33,7 +33,7 @@ from importlib import import_module
 from typing import Sequence
 
 from .._library import LibraryError
-from .messages import Code, CommandError, let_go, of_os_error, say, tell
+from .messages import GONE, Code, CommandError, let_go, of_os_error, say, tell
 from .options import parser
 
 
@@ -48,14 +48,7 @@ def main(argv: Sequence[str] | None = None) -> int:
     """
     _set_up_streams()
     try:
-        options = parser().parse_args(argv)
-    except SystemExit as ended:
-        return int(ended.code or 0)
-    try:
-        _take_interrupts()
-        # Each command's module is loaded when it is asked for: a short run shall not wait for all.
-        command = import_module(f"fanthrig.command.{options.module}")
-        code = int(command.command(options))
+        code = _obeyed(argv)
         sys.stdout.flush()
         return code
     except CommandError as error:
@@ -67,9 +60,10 @@ def main(argv: Sequence[str] | None = None) -> int:
         return int(Code.REFUSED)
     except BrokenPipeError:
         let_go(sys.stdout)
-        return int(Code.NOT_HALTED)
+        say(GONE)
+        return int(Code.REFUSED)
     except OSError as error:
-        if error.filename is None and error.errno == errno.ENOSPC:
+        if error.filename is None and error.errno in (errno.ENOSPC, errno.EBADF):
             error.filename = "standard output"
             let_go(sys.stdout)
         say(of_os_error(error))
@@ -77,6 +71,18 @@ def main(argv: Sequence[str] | None = None) -> int:
     except KeyboardInterrupt:
         say("stopped by Ctrl-C")
         return int(Code.NOT_HALTED)
+
+
+def _obeyed(argv: Sequence[str] | None) -> int:
+    """Obeys a command line, and answers the exit code; errors are for others to tell."""
+    try:
+        options = parser().parse_args(argv)
+    except SystemExit as ended:
+        return int(ended.code or 0)
+    _take_interrupts()
+    # Each command's module is loaded when it is asked for: a short run shall not wait for all.
+    command = import_module(f"fanthrig.command.{options.module}")
+    return int(command.command(options))
 
 
 def _take_interrupts() -> None:
@@ -91,7 +97,9 @@ def _set_up_streams() -> None:
     and has bytes in the names of files that are no text written as escapes."""
     for name, mode in (("stdin", "r"), ("stdout", "w"), ("stderr", "w")):
         if getattr(sys, name) is None:
-            setattr(sys, name, open(os.devnull, mode))
+            # What is to be shown must not vanish: there the first write is refused.
+            flags = os.O_WRONLY if name == "stderr" else os.O_RDONLY
+            setattr(sys, name, open(os.open(os.devnull, flags), mode))
     for stream in (sys.stdout, sys.stderr):
         if hasattr(stream, "reconfigure"):
             stream.reconfigure(errors="backslashreplace")

@@ -13,6 +13,9 @@ from ..records import Record
 from ..sitting import Sitting
 
 
+GONE = "standard output can't be written to any more: whoever read it is gone"
+
+
 class Code(IntEnum):
     """How the command ends."""
 
@@ -73,6 +76,7 @@ def let_go(stream: IO[Any]) -> None:
 
 _TO_DO = {
     errno.ENOENT: "no such file: check its name",
+    errno.EBADF: "it is closed: give it a file, a pipe or a terminal",
     errno.EISDIR: "it is a directory: name the files in it, as in DIRECTORY/*.obj",
     errno.ENOTDIR: "no such file: a part of its path is no directory",
     errno.EACCES: "permission denied: ask its owner for it, or change its mode by chmod",

@@ -5,7 +5,8 @@ from __future__ import annotations
 import argparse
 import os
 import re
-from typing import Any, NoReturn, Sequence
+import sys
+from typing import IO, Any, NoReturn, Sequence
 
 from ..constants import MAX_CLOCK, USER_STACK, VERSION, __version__
 from ..records import WORD_LIMIT
@@ -149,6 +150,14 @@ class Parser(argparse.ArgumentParser):
     def error(self, message: str) -> NoReturn:
         """Says what is wrong with a command line, and ends the command."""
         super().error(plain(message))
+
+    def _print_message(self, message: str, file: IO[str] | None = None) -> None:
+        """Writes help, the version or an error. ``argparse`` says nothing where that fails; of
+        standard output it is told."""
+        if file is not None and file is sys.stdout:
+            file.write(message)
+        else:
+            super()._print_message(message, file)
 
 
 def _wrapped(text: str, width: int = 80) -> str:

@@ -10,7 +10,7 @@ import select
 import sys
 import time
 
-from .messages import CommandError, let_go, of_os_error, tell
+from .messages import GONE, CommandError, let_go, of_os_error, tell
 from .terminal import Signals
 
 # A pipe that has room at all has room for so many bytes.
@@ -21,8 +21,6 @@ PATIENCE = 0.1
 
 # The columns of the bar.
 WIDTH = 30
-
-GONE = "standard output can't be written to any more: whoever read it is gone"
 
 
 class Output:
