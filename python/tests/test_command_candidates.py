@@ -123,9 +123,25 @@ class Walk(Marking):
         self.assertEqual(lost, "it is a symbolic link that leads to nothing")
         self.assertEqual(set(told) - refused, {"away.obj", "l.obj", "m.obj", "right.obj"})
         # A link that is named is followed by the same rule.
-        self.assertEqual(verdicts(self.marked(self.top / "l.obj")), ["refused"])
+        self.assertEqual(verdicts(self.marked(self.top / "l.obj", right)), ["refused", "right"])
         (line,) = self.marked("--follow-links", self.top / "l.obj", code=0)
         self.assertEqual(line["verdict"], "right")
+
+    def test_nothing_but_links(self) -> None:
+        right = self.file("students/right.obj", doubling())
+        file, folder = self.folder / "file.obj", self.folder / "folder"
+        file.symlink_to(right)
+        folder.symlink_to(self.top)
+        link = "nothing to mark: it is a symbolic link: --follow-links has it followed"
+        for named in ([file], [folder], [folder, file], [folder, self.folder / "cases"]):
+            done = self.mark(*named)
+            self.assertEqual(done, (3, b"", f"lc3: {named[0]}: {link}\n"))
+        for named in ([file], [folder], [folder, file]):
+            followed = self.marked("--follow-links", *named, code=0)
+            self.assertEqual(verdicts(followed), ["right"] * len(named))
+        # Of many that are marked one by one each has its line.
+        done = self.mark("--one", file)
+        self.assertEqual((done.code, verdicts(lines_of(done.out))), (0, ["refused"]))
 
     def test_loops_of_links(self) -> None:
         self.file("students/a/x.obj", doubling())

@@ -38,12 +38,13 @@ class Found:
     passed_over: str = ""
 
 
-def found_in(names: Sequence[str], links: bool) -> list[Found]:
+def found_in(names: Sequence[str], links: bool, one: bool = False) -> list[Found]:
     """All files that the names of a command line stand for, in order.
 
     A name that is not there, or no candidate at all, is a mistake of the command line, and nothing
     is marked. Where only some of the folders have no candidate, each of these stands in the list as
-    a candidate itself, and to read it tells why it is refused.
+    a candidate itself, and to read it tells why it is refused. So does a symbolic link that is not
+    followed; also where ``one`` file of many is marked by itself, whose line is looked for.
     """
     found: list[Found] = []
     without = []
@@ -51,11 +52,13 @@ def found_in(names: Sequence[str], links: bool) -> list[Found]:
         _check_there(name)
         files = list(_walked(name, links))
         if all(file.passed_over for file in files):
-            without.append(name)
+            without.append((name, NO_CANDIDATE))
             files = [Found(name), *(file for file in files if file.name != name)]
+        elif os.path.islink(name) and not (links or one):
+            without.append((name, LINK))
         found += files
     if len(without) == len(names):
-        raise CommandError(f"{without[0]}: nothing to mark: {NO_CANDIDATE}")
+        raise CommandError(": nothing to mark: ".join(without[0]))
     return found
 
 

@@ -27,8 +27,9 @@ from .workers import marked
 def command(options: argparse.Namespace) -> Code:
     """Marks as the options have it, and answers the exit code."""
     try:
-        found = found_in(options.candidates, options.follow_links)
-        if options.form == "one" and len(found) != 1:
+        one = options.form == "one"
+        found = found_in(options.candidates, options.follow_links, one)
+        if one and len(found) != 1:
             text = f"--one marks one file, and {len(found)} are named or found in the folders"
             raise CommandError(text + "; leave out --one, or run it once for each", Code.WRONG_USE)
         marking = marking_of(options)
@@ -41,7 +42,7 @@ def command(options: argparse.Namespace) -> Code:
         if signals.caught:
             done = f"{total.marked} of {total.candidates} candidates are marked"
             return _stopped(signals.caught, f"stopped by {signals.name}; {done}")
-    return Code.HALTED if total.whole or options.form == "one" else Code.NOT_HALTED
+    return Code.HALTED if total.whole or one else Code.NOT_HALTED
 
 
 def _stopped(number: int, text: str) -> Code:
