@@ -14,7 +14,7 @@ from fanthrig.command.candidates import Found, candidate_file, found_in
 from fanthrig.command.messages import CommandError
 from fanthrig.command.regular import opened
 
-from .command_support import process
+from .command_support import ENVIRONMENT, PYTHON, process
 from .mark_support import Marking, doubling, lines_of, names, of_kind, verdicts
 
 
@@ -228,6 +228,23 @@ class Special(Marking):
         self.assertEqual(verdicts(of_kind("candidate", lines)), ["refused", "right", "refused"])
         (passed,) = of_kind("passed over", lines)
         self.assertEqual(Path(passed["candidate"]).name, "fifo.txt")
+
+    def test_they_are_refused_beside_the_candidates(self) -> None:
+        right = self.file("right.obj", doubling())
+        for kind, path in self.special().items():
+            said = f"lc3: {path}: refused: it is a {kind.partition('/')[0]}, "
+            for option in ("--with", "--data", "--cases"):
+                # The last of an option given twice is the one that counts.
+                done = process("mark", "--cases", self.cases, option, path, right)
+                self.assertEqual((done.code, done.out, done.err[: len(said)]), (3, b"", said))
+
+    def test_pipes_of_the_shell_beside_the_candidates(self) -> None:
+        right, data = self.file("right.obj", doubling()), self.file("data.obj", b"\x40\0\0\7")
+        lc3_mark = f"{PYTHON[0]} -m fanthrig mark --cases {self.cases}"
+        for pipe in (f"--data <(sleep 0.1; cat {data})", f"--data /dev/stdin < <(cat {data})"):
+            line = f"{lc3_mark} {right} {pipe}"
+            ended = subprocess.run(["bash", "-c", line], env=ENVIRONMENT, capture_output=True)
+            self.assertEqual((ended.returncode, ended.stderr), (0, b""))
 
     def test_one_that_takes_a_file_s_place(self) -> None:
         path = self.file("right.obj", doubling())

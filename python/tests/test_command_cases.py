@@ -117,12 +117,13 @@ class Cases(Folder):
             self.assertEqual(len(cases_of(str(self.folder / "cases"))), 2)
 
     def test_memory_is_bounded(self) -> None:
-        sparse = self.file("sparse/a.expected", "")
+        sparse, long = self.file("sparse/a.expected", ""), self.file("long.json", "")
         os.truncate(sparse, 1 << 36)
+        os.truncate(long, 1 << 36)
         # As many objects as a file of this length can have.
         dense = self.file("dense.json", b"[" + b"{}," * ((1 << 24) // 3 - 2) + b"{}]")
         for cases, said in (
-            ("/dev/zero", "it is longer than 16 MiB"),
+            (long, "it is longer than 16 MiB"),
             (sparse.parent, "it is longer than 64 MiB"),
             (dense, "case 1 has no 'expected'"),
         ):

@@ -109,7 +109,7 @@ class Hostile(Folder):
             (("mark", "--cases", good, good), f"{good}: no cases: it is not JSON"),
             (("run", "--replay", "/dev/zero"), "/dev/zero: no recording of a sitting: over"),
             (("run", "--keys", "@/dev/zero", good), "/dev/zero: refused: it is longer than"),
-            (("mark", "--cases", "/dev/zero", good), "/dev/zero: refused: it is longer than"),
+            (("mark", "--cases", "/dev/zero", good), "/dev/zero: refused: it is a device"),
         ):
             code, out, err = ran(*arguments)
             self.assertEqual((code, out, err.count("\n")), (3, b"", 1), (arguments, err))

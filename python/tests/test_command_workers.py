@@ -167,9 +167,11 @@ class AsTheyCome(Running):
         self.assertEqual(names(whole[0]), list(map(str, paths)))
 
     def test_ctrl_c_before_anything_is_marked(self) -> None:
-        os.mkfifo(self.folder / "never")
-        command = [*PYTHON, "mark", "--cases", str(self.folder / "never"), str(self.right)]
-        with subprocess.Popen(command, stderr=subprocess.PIPE, env=ENVIRONMENT) as running:
+        # A pipe into which nothing is written.
+        command = [*PYTHON, "mark", "--cases", "/dev/stdin", str(self.right)]
+        with subprocess.Popen(
+            command, stdin=subprocess.PIPE, stderr=subprocess.PIPE, env=ENVIRONMENT
+        ) as running:
             time.sleep(1)
             running.send_signal(signal.SIGINT)
             self.assertEqual(running.wait(20), -2)

@@ -15,7 +15,6 @@ import stat
 from dataclasses import dataclass
 from typing import Iterator, Sequence
 
-from ..formats import other_format
 from ..sitting import LONGEST_FILE
 from .messages import CommandError, of_os_error
 from .regular import LINK, opened
@@ -136,10 +135,3 @@ def _why_none(folder: str) -> str:
     except OSError as error:
         return of_os_error(error)
     return f"{folder}: refused: {NO_CANDIDATE}"
-
-
-def check_format(path: str, data: bytes) -> None:
-    """That a candidate's file is not plainly something else than an object file."""
-    problem = other_format(data)
-    if problem:
-        raise CommandError(f"{path}: refused: {problem}")

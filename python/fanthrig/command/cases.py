@@ -121,8 +121,8 @@ def _steps(digits: bytes, name: str) -> int:
 
 
 def _of_json(file: Path) -> list[Case]:
-    """The cases of a JSON file, which may be a pipe."""
-    with open(file, "rb") as stream:
+    """The cases of a JSON file, which may be a pipe of the shell's."""
+    with opened(str(file), links=True, pipes=True) as stream:
         text = _Reader(LONGEST_JSON).read(file, stream)
     try:
         data = strict_json(text)

@@ -13,6 +13,7 @@ from ..records import Edition, Mode, Refusal, Refused
 from ..recording import REPLAY_STEPS, Program, Recording, RecordingError
 from ..sitting import LONGEST_FILE, Sitting
 from .messages import Code, CommandError, of_os_error
+from .regular import opened
 
 # A longer file of keys is taken for one that never ends.
 LONGEST = 1 << 24
@@ -26,7 +27,8 @@ NO_SECOND_MONITOR = (
 
 
 def object_file(path: str) -> bytes:
-    """The bytes of an object file; of a longer file no more than is needed to refuse it."""
+    """The bytes of an object file, which may be a pipe; of a longer file no more than is needed to
+    refuse it."""
     try:
         with open(path, "rb") as stream:
             data = stream.read(LONGEST_FILE)
@@ -35,15 +37,30 @@ def object_file(path: str) -> bytes:
     except ValueError as error:
         # A name with a byte 0 in it is no name of a file.
         raise CommandError(f"{path!r}: {error}: check its name") from None
+    check_format(path, data)
+    return data
+
+
+def check_format(path: str, data: bytes) -> None:
+    """That a file is not plainly something else than an object file."""
     problem = other_format(data)
     if problem:
         raise CommandError(f"{path}: refused: {problem}")
-    return data
 
 
 def object_files(paths: Sequence[str]) -> list[tuple[str, bytes]]:
     """Object files by their names, each with its bytes."""
     return [(path, object_file(path)) for path in paths]
+
+
+def shared_files(paths: Sequence[str]) -> list[tuple[str, bytes]]:
+    """The same for a marking, which nobody sits beside: none can keep it waiting for ever."""
+    files = []
+    for path in paths:
+        with opened(path, links=True, pipes=True) as stream:
+            files.append((path, stream.read(LONGEST_FILE)))
+        check_format(*files[-1])
+    return files
 
 
 def whole_file(path: str | PathLike[str]) -> bytes:

@@ -14,7 +14,7 @@ from typing import Iterator, Sequence
 from .audit import audit_of
 from .candidates import Found, found_in
 from .cases import cases_of
-from .files import check_edition, object_files, sitting_of
+from .files import check_edition, shared_files, sitting_of
 from .marking import Marking, Result
 from .messages import Code, CommandError, say
 from .options import processors
@@ -57,7 +57,7 @@ def marking_of(options: argparse.Namespace) -> Marking:
     candidate."""
     check_edition(options)
     cases = cases_of(options.cases)
-    examiner, data = object_files(options.with_files), object_files(options.data_files)
+    examiner, data = shared_files(options.with_files), shared_files(options.data_files)
     sitting_of(options, examiner, data)
     return Marking(options, cases, examiner, data)
 

@@ -15,9 +15,9 @@ from ..ending import Ending, EndKind
 from ..records import Stop
 from ..sitting import LONGEST_FILE, Sitting
 from .audit import now, sha256
-from .candidates import candidate_file, check_format
+from .candidates import candidate_file
 from .cases import Case
-from .files import sitting_of
+from .files import check_format, sitting_of
 from .flags import Flag, flags_of
 from .messages import CommandError, readable
 from .seat import MARKING, sit

@@ -1,4 +1,4 @@
-"""Files that others have handed in, opened so that none of them can keep a process waiting.
+"""The files of a marking, opened so that none of them can keep a process waiting.
 
 A FIFO without a writer, a terminal or a device may never answer, and to open some devices sets them
 going. What is no regular file is refused without being opened. Where such a thing takes a file's
@@ -13,6 +13,10 @@ from contextlib import contextmanager
 from typing import BinaryIO, Iterator
 
 from .messages import CommandError, of_os_error
+
+# How shells name a pipe that is open already, as <(..) makes one. It has a writer, or its end is
+# there.
+OPEN_PIPES = ("/dev/fd/", "/proc/self/fd/", "/dev/stdin")
 
 LINK = "it is a symbolic link: --follow-links has it followed"
 
@@ -35,23 +39,26 @@ def other_kind(mode: int) -> str:
     return next((text for test, text in _OTHERS if test(mode)), "")
 
 
-def _check(path: str, mode: int) -> None:
-    """That a mode is that of a regular file."""
+def _check(path: str, mode: int, pipes: bool) -> None:
+    """That a mode is that of a regular file, or where ``pipes`` is set of an open pipe."""
     problem = other_kind(mode)
-    if problem:
+    pipe = pipes and stat.S_ISFIFO(mode) and path.startswith(OPEN_PIPES)
+    if problem and not pipe:
         raise CommandError(f"{path}: refused: {problem}")
 
 
 @contextmanager
-def opened(path: str, links: bool) -> Iterator[BinaryIO]:
-    """A regular file, opened to be read; symbolic links are followed where ``links`` is set.
-    Whatever else it is, and whatever the system refuses, is a ``CommandError``."""
+def opened(path: str, links: bool, pipes: bool = False) -> Iterator[BinaryIO]:
+    """A regular file, opened to be read; symbolic links are followed where ``links`` is set, and
+    the shell's pipes are read where ``pipes`` is. Whatever else it is, and whatever the system
+    refuses, is a ``CommandError``."""
     flags = os.O_RDONLY | os.O_NONBLOCK | os.O_NOCTTY | os.O_CLOEXEC
     try:
-        _check(path, os.stat(path, follow_symlinks=links).st_mode)
+        _check(path, os.stat(path, follow_symlinks=links).st_mode, pipes)
         descriptor = os.open(path, flags if links else flags | os.O_NOFOLLOW)
         try:
-            _check(path, os.fstat(descriptor).st_mode)
+            _check(path, os.fstat(descriptor).st_mode, pipes)
+            os.set_blocking(descriptor, True)
             with open(descriptor, "rb", closefd=False) as stream:
                 yield stream
         finally:
