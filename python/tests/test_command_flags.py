@@ -72,7 +72,7 @@ class Halts(Marking):
         table = self.mark(*options, path).out.decode()
         self.assertEqual(table.count("; flagged: "), bool(flags))
         self.assertEqual("1 flagged\n" in table, bool(flags))
-        self.assertTrue(all(flag in table for flag in flags[:1]))
+        self.assertTrue(all(flag in table for flag in flags))
         return {**one, "told": flags}
 
     def test_right_displays_and_every_kind_of_crash(self) -> None:
@@ -202,8 +202,19 @@ class Survived(Marking):
         done = self.mark("--no-monitor", "--with", self.monitor, path)
         self.assertEqual(done.code, 0)
         self.assertIn("  2/2  right; flagged: access exception at x3000", done.out.decode())
-        self.assertIn("LD R0, #-256 in one, and 1 more\n", done.out.decode())
+        self.assertIn("LD R0, #-256 in one and 1 more case\n", done.out.decode())
         self.assertIn("\n1 of 1 candidates right; 1 flagged\n", done.out.decode())
+
+    def test_the_table_names_every_flag(self) -> None:
+        # With the key of the first case one attempt more.
+        program = ["TRAP x20", "TRAP x21", "TRAP x21", ".FILL xD000", "LD R1, #4"]
+        program += ["ADD R0, R0, R1", "BRn #1", "LD R0, #-256", "TRAP x25"]
+        content = object_file(0x3000, *program, -ord("a") & 0xFFFF)
+        path = self.file("candidate.obj", content)
+        table = self.mark("--no-monitor", "--with", self.monitor, path).out.decode()
+        flags = "illegal opcode exception at x3003: .FILL xD000 in one and 1 more case"
+        flags += "; access exception at x3007: LD R0, #-256 in one\n"
+        self.assertIn(f"  2/2  right; flagged: {flags}", table)
 
     def test_traps_without_a_service_that_return(self) -> None:
         # All traps but those that the program needs lead to an RTI alone.

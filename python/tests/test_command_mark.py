@@ -90,6 +90,7 @@ class Verdicts(Marking):
         self.assertEqual(long["results"][0]["difference"]["expected"], ord("H"))
         self.assertEqual(flood["verdict"], "wrong display")
         self.assertEqual(flood["results"][0]["ending"], "output limit")
+        self.assertEqual(flood["results"][0]["ended"], "more was shown than is expected")
         self.assertLess(flood["results"][0]["steps"], 1000)
         # All that is expected, and one byte more.
         self.file("cases/one.expected", "aa")
@@ -109,6 +110,9 @@ class Verdicts(Marking):
         for steps, expected in ((1, ["not halted", "right"]), (20000, ["right", "right"])):
             (result,) = self.marked("--steps", steps, path, code=int("not halted" in expected))
             self.assertEqual(verdicts(result["results"]), expected)
+        table = self.mark("--steps", 1, path).out.decode()
+        self.assertIn("; 1 step; PC x3000: TRAP x20\n", table)
+        self.assertIn("  the last line obeyed:\n    x3000  xF020  TRAP x20 ", table)
         count = self.file("count.obj", COUNTING)
         (result,) = self.marked("--steps", 12345, count)
         self.assertEqual([one["steps"] for one in result["results"]], [12345, 20000])

@@ -8,7 +8,7 @@ stop a candidate that shows more.
 from __future__ import annotations
 
 import argparse
-from dataclasses import dataclass
+from dataclasses import dataclass, replace
 from typing import NamedTuple, Sequence
 
 from ..ending import Ending, EndKind
@@ -24,6 +24,8 @@ from .seat import MARKING, sit
 from .terminal import Keyboard, Signals
 
 RIGHT, WRONG, NOT_HALTED, REFUSED = "right", "wrong display", "not halted", "refused"
+
+TOO_MUCH = "more was shown than is expected"
 
 # The program's own lines obeyed last that are told of a case that failed.
 LAST_LINES = 10
@@ -128,7 +130,8 @@ def play(sitting: Sitting, keys: bytes, steps: int, most: int, signals: Signals)
         """Makes steps."""
         return sitting.run(count).stop
 
-    return sit(sitting, Keyboard(keys), signals, steps, advance, MARKING)
+    ending = sit(sitting, Keyboard(keys), signals, steps, advance, MARKING)
+    return replace(ending, text=TOO_MUCH) if ending.kind is EndKind.OUTPUT_LIMIT else ending
 
 
 def verdict_of(ending: Ending, halted: bool, same: bool, any_halt: bool) -> str:

@@ -106,6 +106,15 @@ def readable(byte: int | None) -> str:
     return "the end" if byte is None else f"{repr(bytes([byte]))[1:]} (x{byte:02X})"
 
 
+def counted(number: int, noun: str) -> str:
+    """A number of things.
+
+    >>> counted(1, "step"), counted(0, "step")
+    ('1 step', '0 steps')
+    """
+    return f"{number} {noun}" if number == 1 else f"{number} {noun}s"
+
+
 def end_line(ending: Ending, steps: int) -> str:
     """The line at the end of a run: how it ended, the steps, and the program's PC with its line.
 
@@ -113,8 +122,7 @@ def end_line(ending: Ending, steps: int) -> str:
     >>> end_line(sitting.run(3).ending, 3)
     'all steps asked for were made; 3 steps; PC x3001: BRnzp #-2'
     """
-    made = f"{steps} step" if steps == 1 else f"{steps} steps"
-    return f"{ending.text}; {made}; {ending.place}"
+    return f"{ending.text}; {counted(steps, 'step')}; {ending.place}"
 
 
 # Said above the registers where a routine of the monitor made the last steps.

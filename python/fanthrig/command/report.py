@@ -16,8 +16,9 @@ from typing import Any, Iterator, Sequence
 from .audit import Audit, now
 from .candidates import Found
 from .cases import Case
+from .flags import Flag
 from .marking import REFUSED, RIGHT, CaseResult, Result
-from .messages import plain
+from .messages import counted, plain
 
 PASSED_OVER = "passed over"
 
@@ -254,8 +255,7 @@ def _sums(total: Total) -> str:
     if total.flagged:
         parts.append(f"{total.flagged} flagged")
     if total.passed_over:
-        files = "file" if total.passed_over == 1 else "files"
-        parts.append(f"{total.passed_over} {files} passed over")
+        parts.append(f"{counted(total.passed_over, 'file')} passed over")
     if total.stopped_by:
         left = total.candidates - total.marked
         parts.append(f"{left} not marked: stopped by {total.stopped_by}")
@@ -269,26 +269,39 @@ def _verdict(result: Result) -> str:
         return problem if problem.startswith(REFUSED) else f"{REFUSED}: {problem}"
     failed = [one.case for one in result.results if one.verdict != RIGHT]
     verdict = f"{result.verdict} in {failed[0]}" if failed else RIGHT
-    flagged = result.flagged
-    if flagged:
-        more = f", and {len(flagged) - 1} more" if len(flagged) > 1 else ""
-        verdict += f"; flagged: {flagged[0][1]} in {flagged[0][0]}{more}"
-    return verdict
+    flags = "; ".join(_flags(result.flagged))
+    return f"{verdict}; flagged: {flags}" if flags else verdict
+
+
+def _flags(flagged: Sequence[tuple[str, Flag]]) -> Iterator[str]:
+    """Every flag of a candidate once, as it was in the first case that has it.
+
+    >>> flag = Flag("privilege exception", 0x3000, "RTI")
+    >>> list(_flags([("one", flag), ("two", flag)]))
+    ['privilege exception at x3000: RTI in one and 1 more case']
+    """
+    cases: dict[tuple[str, int, str], list[tuple[str, Flag]]] = {}
+    for case, flag in flagged:
+        cases.setdefault((flag.flag, flag.pc, flag.line), []).append((case, flag))
+    for (case, flag), *others in cases.values():
+        more = f" and {counted(len(others), 'more case')}" if others else ""
+        yield f"{flag} in {case}{more}"
 
 
 def _failure(candidate: str, one: CaseResult) -> Iterator[str]:
     """The lines that tell of a case that failed."""
     yield f"{candidate}, case {plain(one.case)}: {one.verdict}"
-    yield f"  {one.ended}; {one.steps} steps; PC x{one.pc:04X}: {one.line or 'not fetched'}"
+    steps, line = counted(one.steps, "step"), one.line or "not fetched"
+    yield f"  {one.ended}; {steps}; PC x{one.pc:04X}: {line}"
     yield from (f"  flagged: {flag}" for flag in one.flags)
     if one.difference is not None:
         yield f"  {one.difference}"
         yield f"    expected: {one.difference.expected_text!r}"
         yield f"    got:      {one.difference.got_text!r}"
     if one.last:
-        yield f"  the last {len(one.last)} lines obeyed:"
-    for line in one.last:
-        yield f"    {line}"
+        lines = "line" if len(one.last) == 1 else f"{len(one.last)} lines"
+        yield f"  the last {lines} obeyed:"
+    yield from (f"    {last}" for last in one.last)
 
 
 FORMS = {None: Table, "csv": Csv, "json": Json, "one": One}
