@@ -300,6 +300,13 @@ class Processes(Folder):
             self.assertIn(said, ended.stderr.decode())
             self.assertNotIn(b"Traceback", ended.stderr)
 
+    def test_object_files_of_pipes(self) -> None:
+        hello = self.file("hello.obj", HELLO)
+        for command in ("run", "list", "log"):
+            line = f"{PYTHON[0]} -m fanthrig {command} <(sleep 0.1; cat {hello})"
+            ended = subprocess.run(["bash", "-c", line], env=ENVIRONMENT, capture_output=True)
+            self.assertEqual(ended.returncode, 0, ended.stderr)
+
     def test_an_input_that_nobody_may_read(self) -> None:
         # So nohup leaves standard input, where it was a terminal.
         for content, code, said in ((HELLO, 0, "halted by HALT"), (ECHO, 1, "no more keys come")):
