@@ -1,4 +1,4 @@
--- `step::access::after_instruction` meets its contract: the PSR that it is handed is the one that the codes give.
+-- `parts::access::after_instruction` meets its contract: the PSR that it is handed is the one that the codes give.
 use Rattle.machine.specs.Outcome.{afterInstruction}
 use Rattle.parts.proofs.access.after_instruction.Statement.{statement}
 use Rattle.parts.proofs.access.after_instruction.Tie as tie

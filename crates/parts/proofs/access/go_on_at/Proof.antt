@@ -1,4 +1,4 @@
--- `step::access::go_on_at` meets its contract: an instruction that keeps the codes.
+-- `parts::access::go_on_at` meets its contract: an instruction that keeps the codes.
 use mathlib.Core.Path.{refl}
 use Rattle.machine.specs.Psr.{kept, recoded}
 use borrow.Author.Needs.{needs}

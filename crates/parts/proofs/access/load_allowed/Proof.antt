@@ -1,4 +1,4 @@
--- `step::access::load_allowed` meets its contract: the value loaded goes to its register.
+-- `parts::access::load_allowed` meets its contract: the value loaded goes to its register.
 use mathlib.Core.Path.{_∙_}
 use borrow.Author.Needs.{needs}
 use Rattle.parts.proofs.access.load_allowed.Statement.{statement}

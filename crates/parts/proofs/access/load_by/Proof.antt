@@ -1,4 +1,4 @@
--- `step::access::load_by` meets its contract: the pointer is denied as the definition denies it, or loaded, and the
+-- `parts::access::load_by` meets its contract: the pointer is denied as the definition denies it, or loaded, and the
 -- data access is denied or made in the same way.
 use mathlib.Core.Path.{_≡_, refl, ap, _∙_}
 use borrow.Author.Needs.{needs}

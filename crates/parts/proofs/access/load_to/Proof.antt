@@ -1,4 +1,4 @@
--- `step::access::load_to` meets its contract: the address is denied as the definition denies it, or the value loaded
+-- `parts::access::load_to` meets its contract: the address is denied as the definition denies it, or the value loaded
 -- goes to its register.
 use mathlib.Core.Path.{refl, ap, _∙_}
 use borrow.Author.Needs.{needs}

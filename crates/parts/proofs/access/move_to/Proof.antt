@@ -1,4 +1,4 @@
--- `step::access::move_to` meets its contract: the register and the codes are those of its callees, and the rest is
+-- `parts::access::move_to` meets its contract: the register and the codes are those of its callees, and the rest is
 -- `after_instruction`.
 use Rattle.machine.specs.Psr.{setFrom}
 use Rattle.machine.specs.Outcome.{afterInstruction}

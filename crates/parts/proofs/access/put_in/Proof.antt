@@ -1,4 +1,4 @@
--- `step::access::put_in` meets its contract: the register is that of its callee, and the rest is `after_instruction`.
+-- `parts::access::put_in` meets its contract: the register is that of its callee, and the rest is `after_instruction`.
 use mathlib.Core.Path.{refl}
 use Rattle.machine.specs.Psr.{kept, recoded}
 use Rattle.machine.specs.Outcome.{afterInstruction}

@@ -1,4 +1,4 @@
--- `step::access::store_at` meets its contract: the address is denied as the definition denies it, or the rest is
+-- `parts::access::store_at` meets its contract: the address is denied as the definition denies it, or the rest is
 -- `store`.
 use mathlib.Core.Path.{refl, ap, _∙_}
 use borrow.Author.Needs.{needs}

@@ -1,4 +1,4 @@
--- `step::access::store_by` meets its contract: the pointer is denied as the definition denies it, or loaded, and the
+-- `parts::access::store_by` meets its contract: the pointer is denied as the definition denies it, or loaded, and the
 -- rest is `store_at`.
 use mathlib.Core.Path.{refl, ap, _∙_}
 use borrow.Author.Needs.{needs}

@@ -1,4 +1,4 @@
--- `step::devices::after_load` meets its contract: two addresses clear ready, and no other alters anything.
+-- `parts::devices::after_load` meets its contract: two addresses clear ready, and no other alters anything.
 use borrow.Author.Needs.{needs}
 use borrow.Author.Tests.{ne-eqb}
 use Rattle.machine.specs.Devices.{kbsrAfterLoad, timerStatusAfterLoad, afterLoad}

@@ -1,4 +1,4 @@
--- `step::devices::count_down` meets its contract: by the three cases of the display.
+-- `parts::devices::count_down` meets its contract: by the three cases of the display.
 use Prim.Native.Nat.{_+_}
 use Rattle.machine.specs.Step.{busyAfter, afterTick}
 use Rattle.parts.specs.Delivery.{shownBy}

@@ -1,4 +1,4 @@
--- `step::devices::display_status` meets its contract: by the two cases of the count.
+-- `parts::devices::display_status` meets its contract: by the two cases of the count.
 use borrow.Author.Tests.{eq-eqb, ne-eqb}
 use Rattle.parts.proofs.devices.display_status.Statement.{statement}
 use Rattle.parts.proofs.devices.display_status.Tie as tie

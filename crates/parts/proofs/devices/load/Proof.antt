@@ -1,4 +1,4 @@
--- `step::devices::load` meets its contract: each arm of the match knows its address; the last one knows that it is no
+-- `parts::devices::load` meets its contract: each arm of the match knows its address; the last one knows that it is no
 -- device's.
 use borrow.Author.Needs.{needs}
 use Rattle.machine.specs.Edition.{editionOf}

@@ -1,4 +1,4 @@
--- `step::devices::one_step_less` meets its contract: a count of 0 stays, and any other falls by 1.
+-- `parts::devices::one_step_less` meets its contract: a count of 0 stays, and any other falls by 1.
 use Prim.Native.Nat.{_+_}
 use Rattle.machine.specs.Step.{busyAfter, afterTick}
 use borrow.Author.Needs.{needs}

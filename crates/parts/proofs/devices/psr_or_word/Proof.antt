@@ -1,4 +1,4 @@
--- `step::devices::psr_or_word` meets its contract: by the edition.
+-- `parts::devices::psr_or_word` meets its contract: by the edition.
 use borrow.Author.Needs.{needs}
 use Rattle.parts.proofs.devices.psr_or_word.Statement.{statement}
 use Rattle.parts.proofs.devices.psr_or_word.Tie as tie

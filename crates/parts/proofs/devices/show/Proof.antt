@@ -1,4 +1,4 @@
--- `step::devices::show` meets its contract: a busy display is left alone; otherwise by the two cases of the output's
+-- `parts::devices::show` meets its contract: a busy display is left alone; otherwise by the two cases of the output's
 -- length.
 use native.Mathlib.Omega.{arith}
 use lib.ListN.{length}

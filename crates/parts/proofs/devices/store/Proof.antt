@@ -1,4 +1,4 @@
--- `step::devices::store` meets its contract: each arm of the match knows its address; the last one knows that it is no
+-- `parts::devices::store` meets its contract: each arm of the match knows its address; the last one knows that it is no
 -- device's.
 use mathlib.Core.Path.{refl, ap}
 use mathlib.Core.Logic.{⊎-elim, inl, inr}

@@ -1,4 +1,4 @@
--- `step::devices::store_psr` meets its contract: by the edition, whether xFFFC is the PSR's address.
+-- `parts::devices::store_psr` meets its contract: by the edition, whether xFFFC is the PSR's address.
 use mathlib.Core.Path.{ap}
 use Rattle.machine.specs.declared.Machine.{Machine}
 use Rattle.machine.specs.Edition.{editionOf}

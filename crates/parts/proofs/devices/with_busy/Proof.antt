@@ -1,4 +1,4 @@
--- `step::devices::with_busy` meets its contract: by those of the two that it calls.
+-- `parts::devices::with_busy` meets its contract: by those of the two that it calls.
 use borrow.Author.Needs.{needs}
 use Rattle.parts.proofs.devices.with_busy.Statement.{statement}
 use Rattle.parts.proofs.devices.with_busy.Tie as tie

@@ -1,4 +1,4 @@
--- `step::devices::with_kbsr` meets its contract: by those of the two that it calls.
+-- `parts::devices::with_kbsr` meets its contract: by those of the two that it calls.
 use borrow.Author.Needs.{needs}
 use Rattle.parts.proofs.devices.with_kbsr.Statement.{statement}
 use Rattle.parts.proofs.devices.with_kbsr.Tie as tie

@@ -1,4 +1,4 @@
--- `step::devices::with_mcr` meets its contract: by those of the two that it calls.
+-- `parts::devices::with_mcr` meets its contract: by those of the two that it calls.
 use borrow.Author.Needs.{needs}
 use Rattle.parts.proofs.devices.with_mcr.Statement.{statement}
 use Rattle.parts.proofs.devices.with_mcr.Tie as tie

@@ -1,4 +1,4 @@
--- `step::devices::with_psr` meets its contract: by computation.
+-- `parts::devices::with_psr` meets its contract: by computation.
 use mathlib.Core.Path.{refl}
 use Rattle.parts.proofs.devices.with_psr.Statement.{statement}
 use Rattle.parts.proofs.devices.with_psr.Tie as tie

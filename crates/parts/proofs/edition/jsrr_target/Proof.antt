@@ -1,4 +1,4 @@
--- `step::edition::jsrr_target` meets its contract: by the edition, and by the test of the base register.
+-- `parts::edition::jsrr_target` meets its contract: by the edition, and by the test of the base register.
 use borrow.Author.Tests.{eq-eqb, ne-eqb}
 use borrow.Author.Needs.{needs}
 use Rattle.parts.proofs.edition.jsrr_target.Statement.{statement}

@@ -1,4 +1,4 @@
--- `step::edition::lea_plan` meets its contract: by the edition.
+-- `parts::edition::lea_plan` meets its contract: by the edition.
 use Rattle.parts.proofs.edition.lea_plan.Statement.{statement}
 use Rattle.parts.proofs.edition.lea_plan.Tie as tie
 

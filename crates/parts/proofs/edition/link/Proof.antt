@@ -1,4 +1,4 @@
--- `step::edition::link` meets its contract: the register and the PC are those of its callees.
+-- `parts::edition::link` meets its contract: the register and the PC are those of its callees.
 use mathlib.Core.Path.{ap, _∙_}
 use Rattle.machine.specs.declared.Machine.{Machine}
 use Rattle.machine.specs.Edition.{linked}

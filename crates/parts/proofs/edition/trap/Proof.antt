@@ -1,4 +1,4 @@
--- `step::edition::trap` meets its contract: by the edition, each of them its callee.
+-- `parts::edition::trap` meets its contract: by the edition, each of them its callee.
 use mathlib.Core.Path.{refl, ap}
 use Rattle.machine.specs.declared.Rule.the-variants.{Instruction}
 use Rattle.machine.specs.Edition.{linked}

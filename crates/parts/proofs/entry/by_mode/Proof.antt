@@ -1,4 +1,4 @@
--- `step::entry::by_mode` meets its contract: by the two cases of bit 15.
+-- `parts::entry::by_mode` meets its contract: by the two cases of bit 15.
 use borrow.Author.Tests.{le-leb, lt-leb}
 use Rattle.machine.specs.Psr.{inUserMode}
 use Rattle.parts.proofs.entry.by_mode.Statement.{statement}

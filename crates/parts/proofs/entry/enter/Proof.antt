@@ -1,4 +1,4 @@
--- `step::entry::enter` meets its contract: each part of the record and of memory is what a callee answers, in the order
+-- `parts::entry::enter` meets its contract: each part of record and memory is what a callee answers, in the order
 -- of the pushes and the vector word.
 use Rattle.machine.specs.Entry.{stackPointerOnEntry, userStackOnEntry, afterEntry, entry}
 use borrow.Author.Needs.{needs}

@@ -1,4 +1,4 @@
--- `step::entry::interrupt` meets its contract: an entry with the interrupt's vector as its reason.
+-- `parts::entry::interrupt` meets its contract: an entry with the interrupt's vector as its reason.
 use mathlib.Core.Path.{refl}
 use borrow.Author.Needs.{needs}
 use Rattle.machine.specs.Outcome.{interrupt}

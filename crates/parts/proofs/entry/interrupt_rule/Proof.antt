@@ -1,4 +1,4 @@
--- `step::entry::interrupt_rule` meets its contract: by the cases of its test.
+-- `parts::entry::interrupt_rule` meets its contract: by the cases of its test.
 use borrow.Author.Tests.{eq-eqb, ne-eqb}
 use Rattle.parts.proofs.entry.interrupt_rule.Statement.{statement}
 use Rattle.parts.proofs.entry.interrupt_rule.Tie as tie

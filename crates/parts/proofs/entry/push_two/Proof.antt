@@ -1,4 +1,4 @@
--- `step::entry::push_two` meets its contract: the two stores, one after the other.
+-- `parts::entry::push_two` meets its contract: the two stores, one after the other.
 use borrow.Author.Needs.{needs}
 use Rattle.machine.specs.Entry.{pushed}
 use Rattle.parts.proofs.entry.push_two.Statement.{statement}

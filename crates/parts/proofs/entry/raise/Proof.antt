@@ -1,4 +1,4 @@
--- `step::entry::raise` meets its contract: an entry with the PSR's bit 15 cleared.
+-- `parts::entry::raise` meets its contract: an entry with the PSR's bit 15 cleared.
 use borrow.Author.Needs.{needs}
 use Rattle.machine.specs.Entry.{raised}
 use Rattle.parts.proofs.entry.raise.Statement.{statement}

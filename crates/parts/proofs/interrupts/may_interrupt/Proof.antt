@@ -1,4 +1,4 @@
--- `step::interrupts::may_interrupt` meets its contract: by the cases of its test.
+-- `parts::interrupts::may_interrupt` meets its contract: by the cases of its test.
 use borrow.Author.Tests.{le-leb, lt-leb}
 use Rattle.parts.proofs.interrupts.may_interrupt.Statement.{statement}
 use Rattle.parts.proofs.interrupts.may_interrupt.Tie as tie

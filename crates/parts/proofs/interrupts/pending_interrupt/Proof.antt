@@ -1,4 +1,4 @@
--- `step::interrupts::pending_interrupt` meets its contract: by the cases of its tests.
+-- `parts::interrupts::pending_interrupt` meets its contract: by the cases of its tests.
 use mathlib.Core.Path.{sym, _∙_}
 use borrow.Author.Tests.{le-leb, lt-leb, le-ltb, lt-ltb}
 use borrow.Author.Needs.{needs}

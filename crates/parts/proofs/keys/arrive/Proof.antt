@@ -1,4 +1,4 @@
--- `step::keys::arrive` meets its contract: between two turns of the loop, the keys still to come make the whole
+-- `parts::keys::arrive` meets its contract: between two turns of the loop, the keys still to come make the whole
 -- arrival.
 use Prim.Native.Nat.{ℕ, _-_}
 use mathlib.Core.Path.{_≡_, refl, sym, _∙_}

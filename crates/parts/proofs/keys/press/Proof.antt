@@ -1,4 +1,4 @@
--- `step::keys::press` meets its contract: by computation.
+-- `parts::keys::press` meets its contract: by computation.
 use mathlib.Core.Path.{refl}
 use Rattle.machine.specs.Keys.{readyAfter, lastKey, afterKeys}
 use borrow.Author.Needs.{needs}

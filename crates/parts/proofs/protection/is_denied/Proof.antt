@@ -1,4 +1,4 @@
--- `step::protection::is_denied` meets its contract: by the edition.
+-- `parts::protection::is_denied` meets its contract: by the edition.
 use borrow.Author.Needs.{needs}
 use Rattle.machine.specs.Protection.{deniedBy}
 use Rattle.parts.proofs.protection.is_denied.Statement.{statement}

@@ -1,4 +1,4 @@
--- `step::protection::is_out_of_reach` meets its contract: by the cases of its tests.
+-- `parts::protection::is_out_of_reach` meets its contract: by the cases of its tests.
 use borrow.Author.Tests.{lt-ltb, le-ltb, le-leb, lt-leb}
 use Rattle.machine.specs.Psr.{inUserMode}
 use Rattle.machine.specs.Protection.{privileged}

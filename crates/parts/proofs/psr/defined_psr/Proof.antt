@@ -1,4 +1,4 @@
--- `step::psr::defined_psr` meets its contract: by computation.
+-- `parts::psr::defined_psr` meets its contract: by computation.
 use mathlib.Core.Path.{refl}
 use borrow.Author.Needs.{needs}
 use Rattle.machine.specs.Psr.{definedPsr}

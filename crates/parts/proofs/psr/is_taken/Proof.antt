@@ -1,4 +1,4 @@
--- `step::psr::is_taken` meets its contract: the tested codes are those of `bit_and`.
+-- `parts::psr::is_taken` meets its contract: the tested codes are those of `bit_and`.
 use borrow.Author.Needs.{needs}
 use Rattle.machine.specs.Psr.{isTaken}
 use Rattle.parts.proofs.psr.is_taken.Statement.{statement}

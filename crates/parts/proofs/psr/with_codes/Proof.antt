@@ -1,4 +1,4 @@
--- `step::psr::with_codes` meets its contract: by the three cases of the value.
+-- `parts::psr::with_codes` meets its contract: by the three cases of the value.
 use native.Mathlib.Omega.{arith}
 use borrow.Author.Needs.{needs}
 use borrow.Author.Tests.{eq-eqb, ne-eqb, lt-ltb, le-ltb}

@@ -1,4 +1,4 @@
--- `step::return_from::after_return` meets its contract: by the two cases of the popped PSR's bit 15.
+-- `parts::return_from::after_return` meets its contract: by the two cases of the popped PSR's bit 15.
 use borrow.Author.Tests.{le-leb, lt-leb}
 use Rattle.machine.specs.Psr.{inUserMode}
 use Rattle.machine.specs.Return.{afterReturn}

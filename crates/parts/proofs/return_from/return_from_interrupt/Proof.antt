@@ -1,4 +1,4 @@
--- `step::return_from::return_from_interrupt` meets its contract: the two words popped are those of the lent memory, or
+-- `parts::return_from::return_from_interrupt` meets its contract: the two words popped are those of the lent memory, or
 -- the exception is raised.
 use mathlib.Core.Path.{refl, ap, _∙_}
 use borrow.Author.Needs.{needs}

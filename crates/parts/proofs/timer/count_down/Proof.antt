@@ -1,4 +1,4 @@
--- `step::timer::count_down` meets its contract: a timer that is off stays, and the count of any other falls.
+-- `parts::timer::count_down` meets its contract: a timer that is off stays, and the count of any other falls.
 use borrow.Author.Tests.{eq-eqb, ne-eqb}
 use borrow.Author.Needs.{needs}
 use Rattle.machine.specs.Timer.{ticked, afterTimer}

@@ -1,4 +1,4 @@
--- `step::timer::fall` meets its contract: by the two cases of the count.
+-- `parts::timer::fall` meets its contract: by the two cases of the count.
 use borrow.Author.Tests.{le-leb, lt-leb}
 use borrow.Author.Needs.{needs}
 use Rattle.parts.proofs.timer.fall.Statement.{statement}

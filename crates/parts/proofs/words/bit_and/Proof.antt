@@ -1,4 +1,4 @@
--- `step::words::bit_and` meets its contract: the law of the bitwise and at 16 bits.
+-- `parts::words::bit_and` meets its contract: the law of the bitwise and at 16 bits.
 use Rattle.machine.proofs.WordLaws.{and-bits}
 use Rattle.parts.proofs.words.bit_and.Statement.{statement}
 use Rattle.parts.proofs.words.bit_and.Tie as tie
