@@ -1,0 +1,70 @@
+-- What is left in lent buffers, by computation.
+use mathlib.Core.Path.{refl}
+use Rattle.word.specs.Reading.{readOf}
+use Rattle.word.specs.FixedBits.{fixedOf}
+use Rattle.machine.specs.Rules.{fetchedWordBy}
+use Rattle.run.proofs.Opened.{opened as run-opened}
+use Rattle.logging.specs.Log.{nextRule, entryOf, lacksRoom}
+use Rattle.logging.specs.LoggedRun.{beginLogged, stoppedBy, stepLogged, oneMoreLogged, loggedRunOf}
+use Rattle.logging.specs.LoggedCall.{loggedAdmitted, loggedCallOf}
+use Rattle.object.specs.File.{bytesOf}
+use Rattle.object.specs.Calls.{wrongSize, beyondMemory, tooShort, saveRefusal, saveAccepted, saveBy, saveOf}
+use Rattle.start.proofs.Opened.{opened as start-opened}
+use Rattle.monitor.specs.declared.Routines.{Routines}
+use Rattle.monitor.specs.Install.{vectorsOf, installOf}
+use Rattle.text.specs.Operands.{digits, decimal}
+use Rattle.line.specs.Line.{lineOf}
+use Rattle.line.specs.Page.{linesOf, pageOf}
+use Rattle.numbers.specs.Buffers.{LinesAndPages, ObjectFiles, MonitorRefusals, LastStepLogged, BuffersHold}
+
+lines-and-pages : LinesAndPages
+unfolding readOf fixedOf digits decimal lineOf linesOf pageOf
+lines-and-pages = record {
+  fits-and-rest-as-lent = refl;
+  fits-exactly = refl;
+  does-not-fit = refl;
+  wrong-size-first = refl;
+  beyond-memory = refl;
+  beyond-by-count = refl;
+  beyond-by-first = refl;
+  too-short = refl;
+  last-line = refl;
+  two-lines = refl;
+  last-digits = refl;
+}
+
+object-files : ObjectFiles
+unfolding start-opened bytesOf wrongSize beyondMemory tooShort saveRefusal saveAccepted saveBy saveOf
+object-files = record {
+  rest-as-lent = refl;
+  save-11 = refl;
+  save-18 = refl;
+  save-16 = refl;
+  save-16-long = refl;
+  file-in-output = refl;
+  load-11-even = refl;
+  save-11-even = refl;
+  load-11 = refl;
+  start-11 = refl;
+  start-user-11 = refl;
+  start-user-17 = refl;
+  start-user-18 = refl;
+  start-user-21 = refl;
+}
+
+monitor : (r : Routines) → MonitorRefusals r
+unfolding vectorsOf installOf
+monitor r = record { vectors-16 = refl; install-11 = refl }
+
+last-step-logged : LastStepLogged
+unfolding run-opened fetchedWordBy nextRule entryOf lacksRoom beginLogged stoppedBy stepLogged oneMoreLogged
+    loggedRunOf loggedAdmitted loggedCallOf
+last-step-logged = record { made = refl; written = refl; log = refl }
+
+pub buffers-hold : BuffersHold
+buffers-hold = record {
+  lines-and-pages = lines-and-pages;
+  object-files = object-files;
+  monitor = monitor;
+  last-step-logged = last-step-logged;
+}

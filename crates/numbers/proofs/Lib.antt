@@ -1,0 +1,4 @@
+-- The tables hold, by computing them.
+pub mod Numbers
+pub mod Answers
+pub mod Buffers

@@ -1,0 +1,6 @@
+-- The rows hold, by computing them.
+pub mod OtherRecords
+pub mod Registers
+pub mod Notions
+pub mod Logged
+pub mod Calls

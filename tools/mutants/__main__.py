@@ -1,0 +1,129 @@
+"""python3 -m mutants [--root DIR] [--extra] [--list] [CRATE/MODULE[.NAME] ..]
+
+Alters every definition, or those named, and prints the score, what survives, and what of
+unchanged.txt is out of date.
+It ends with 1 where something survives that does not stand in unchanged.txt.
+"""
+from __future__ import annotations
+
+import argparse
+import os
+import sys
+from collections import Counter
+from dataclasses import replace
+from pathlib import Path
+from typing import Dict, Iterator, List
+
+from .alterations import Alteration, Alterer
+from .conditions import Conditions, allow_conditions
+from .judge import NO_DEFINITION, ROW, SURVIVES, THEOREM, Judge, Verdict
+from .modules import Repository
+from .roots import altered
+
+UNCHANGED = Path(__file__).with_name('unchanged.txt')
+
+
+def options() -> argparse.Namespace:
+    parser = argparse.ArgumentParser(prog='mutants', description='Would a wrong rule be noticed?')
+    parser.add_argument('names', nargs='*', metavar='CRATE/MODULE[.NAME]', help='alter these alone')
+    parser.add_argument('--root', type=Path, default=Path('.'), help='the repository')
+    parser.add_argument('--extra', action='store_true',
+                        help='also values that lose bits, and needless conditions')
+    parser.add_argument('--list', action='store_true', help='print the alterations and judge none')
+    parser.add_argument('--verdicts', default=os.devnull, help='write each verdict to this file')
+    return parser.parse_args()
+
+
+def all_alterations(repository: Repository, names: List[str], extra: bool) -> Iterator[Alteration]:
+    alterer, conditions = Alterer(repository), Conditions(repository)
+    for definition in altered(repository):
+        place = f'{definition.module.crate}/{definition.module.name}'
+        called = {place, f'{place}.{definition.name}', definition.module.crate}
+        if names and not called & set(names):
+            continue
+        found = list(alterer.alterations(definition))
+        if extra:
+            found += conditions.alterations(definition)
+        yield from numbered(found)
+
+
+def numbered(alterations: List[Alteration]) -> Iterator[Alteration]:
+    """Those of one definition that read alike, told apart by their order in the text."""
+    seen: 'Counter[str]' = Counter()
+    for alteration in sorted(alterations, key=lambda each: (each.start, each.end)):
+        text = str(alteration)
+        seen[text] += 1
+        yield replace(alteration, number=seen[text])
+
+
+def reasons() -> Dict[str, str]:
+    """The survivors that change nothing, each with the reason above it in unchanged.txt."""
+    found: Dict[str, str] = {}
+    reason: List[str] = []
+    above = ''
+    for line in UNCHANGED.read_text().splitlines():
+        if line.startswith('#'):
+            above = ' '.join(filter(None, [above, line[1:].strip()]))
+        elif line.strip():
+            reason, above = [above] if above else reason, ''
+            found[line.strip()] = reason[0]
+        else:
+            above = ''
+    return found
+
+
+def score(verdicts: List[Verdict], known: Dict[str, str]) -> List[str]:
+    """The figures, for each file and for all."""
+    columns = ('tried', 'by a row', 'by a theorem', 'change nothing', 'survive')
+    counts: Dict[str, 'Counter[str]'] = {}
+    for verdict in verdicts:
+        module = verdict.alteration.definition.module
+        names = {ROW: 'by a row', THEOREM: 'by a theorem'}
+        otherwise = 'change nothing' if str(verdict.alteration) in known else 'survive'
+        column = names.get(verdict.kind, otherwise)
+        for place in (f'{module.crate}/{module.name}', 'all'):
+            counts.setdefault(place, Counter()).update(['tried', column])
+    order = sorted(counts, key=lambda place: (place == 'all', place))
+    lines = ['| File | ' + ' | '.join(columns) + ' |', '|---' * (len(columns) + 1) + '|']
+    for place in order:
+        lines.append(' | '.join([f'| {place}', *(str(counts[place][c]) for c in columns)]) + ' |')
+    return lines
+
+
+def judged(judge: Judge, alterations: Iterator[Alteration], record: str) -> Iterator[Verdict]:
+    """The verdicts, each written down as soon as it is known."""
+    with open(record, 'w', buffering=1) as file:
+        for verdict in map(judge.verdict, alterations):
+            if verdict.kind != NO_DEFINITION:
+                file.write(f'{verdict.kind} | {verdict.by} | {verdict.alteration}\n')
+                yield verdict
+
+
+def main() -> int:
+    sys.setrecursionlimit(5000)
+    chosen = options()
+    repository = Repository(chosen.root)
+    if chosen.extra:
+        allow_conditions(repository)
+    if chosen.list:
+        print('\n'.join(map(str, all_alterations(repository, chosen.names, chosen.extra))))
+        return 0
+    judge = Judge(repository)
+    found = judge.found
+    print(f'{len(found.tables)} rows; {len(found.laws)} theorems on samples; '
+          f'{len(found.untried)} not tried on samples')
+    alterations = all_alterations(repository, chosen.names, chosen.extra)
+    verdicts = list(judged(judge, alterations, chosen.verdicts))
+    known = reasons()
+    print('\n'.join(score(verdicts, known)))
+    surviving = {str(v.alteration) for v in verdicts if v.kind == SURVIVES}
+    for line in sorted(surviving - set(known)):
+        print('survives:', line)
+    if not chosen.names:
+        for line in sorted(set(known) - surviving):
+            print('in unchanged.txt, and survives no longer:', line)
+    return 1 if surviving - set(known) else 0
+
+
+if __name__ == '__main__':
+    sys.exit(main())
