@@ -4,7 +4,7 @@ use Prim.Native.Nat.{ℕ}
 use mathlib.Core.List.{List}
 use Rattle.machine.specs.declared.Machine.{Machine}
 use Rattle.run.specs.Refusals.{endingRefusal, endingIndex}
-use Rattle.logging.specs.LoggedRun.{Logged}
+use Rattle.logging.specs.LoggedRun.{Logged, runEnding}
 use Rattle.logging.specs.LoggedCall.{loggedStop}
 use Rattle.lc3_logging.specs.declared.Lc3LoggedAnswer.{Lc3LoggedAnswer}
 
@@ -25,17 +25,17 @@ pub record LoggedAnswered : Type 0 where
 -- The end of a logged call, as a host has it.
 abbrev pub loggedAnswerOf : Logged → LoggedAnswered
 loggedAnswerOf l = record {
-  machine = l .run .machine;
-  memory = l .run .memory;
-  output = l .run .output;
+  machine = l .machine;
+  memory = l .memory;
+  output = l .output;
   log = l .log;
-  steps = l .run .steps;
-  keys = l .run .keys;
-  shown = l .run .shown;
+  steps = l .steps;
+  keys = l .keys;
+  shown = l .shown;
   logged = l .words;
-  index = endingIndex (l .run .ending);
-  refusal = endingRefusal (l .run .ending);
-  stop = loggedStop l;
+  index = endingIndex (runEnding (l .ending));
+  refusal = endingRefusal (runEnding (l .ending));
+  stop = loggedStop (l .ending);
 }
 
 -- What the function answers and leaves, as one value.

@@ -1,11 +1,15 @@
 // The logged run for hosts in C and Rust, in an archive of its own: its loop calls the step, and two loops in one
 // archive would cost both their inlining.
+use lc3_machine::ending_stop;
 use lc3_machine::report_of;
+use logging::LoggedEnding;
 use machine::Machine;
+use run::Ending;
+use run::Report;
 ghost use mathlib.Core.Path.{_≡_};
-ghost use mathlib.Core.Bool.{cond};
 ghost use Rattle.run.specs.Call.{startOf};
-ghost use Rattle.logging.specs.LoggedCall.{loggedCallOf};
+ghost use Rattle.logging.specs.LoggedRun.{runEnding};
+ghost use Rattle.logging.specs.LoggedCall.{loggedCallOf, loggedStop};
 ghost use Rattle.lc3_logging.specs.LoggedAnswer.{loggedAnswered, loggedAnswerOf};
 
 // What a logged run answers, 96 bytes: what a run does, and `logged`, the words written to the log. `stop` may be log
@@ -22,14 +26,24 @@ pub struct Lc3LoggedAnswer {
     pub stop: u32,
 }
 
-// The stop's number: log full, or the run's.
-fn stop_number(full: bool, stop: u32) -> u32
-    ensures { λ r. ⌜ r ≡ cond full 3 stop ⌝ }
+// The ending of the run apart from its log.
+fn run_ending(ending: LoggedEnding) -> Ending
+    ensures { λ r. ⌜ r ≡ runEnding ending ⌝ }
 {
-    if full {
-        return 3;
+    match ending {
+        LoggedEnding::Run(e) => e,
+        LoggedEnding::LogFull => Ending::Done,
     }
-    stop
+}
+
+// The stop's number: the run's, or log full.
+fn stop_number(ending: LoggedEnding) -> u32
+    ensures { λ r. ⌜ r ≡ loggedStop ending ⌝ }
+{
+    match ending {
+        LoggedEnding::Run(e) => ending_stop(e),
+        LoggedEnding::LogFull => 3,
+    }
 }
 
 // The logged run of n steps. A call that is turned down answers its number and leaves everything as it was handed in.
@@ -48,9 +62,15 @@ pub extern "C" fn lc3_run_logged(
         (now (output .entry))) (now (log .entry)) n) ⌝ }
 {
     let a = logging::run_logged(m, memory, times, bytes, output, log, n);
-    let answer = a.answer;
-    let machine = answer.machine;
-    let r = report_of(answer.report);
+    let machine = a.machine;
+    let logged = a.ending;
+    let ending = run_ending(logged);
+    let r = report_of(Report {
+        steps: a.steps,
+        keys: a.keys,
+        shown: a.shown,
+        ending,
+    });
     Lc3LoggedAnswer {
         machine,
         steps: r.steps,
@@ -59,6 +79,6 @@ pub extern "C" fn lc3_run_logged(
         logged: a.words as u64,
         index: r.index,
         refusal: r.refusal,
-        stop: stop_number(a.full, r.stop),
+        stop: stop_number(logged),
     }
 }

@@ -10,7 +10,7 @@ ghost use Rattle.run.specs.Call.{startOf, callOf};
 ghost use Rattle.run.specs.Refusals.{refusalNumber, refusalIndex, endingRefusal, endingIndex, endingStop};
 ghost use Rattle.lc3_machine.specs.Answer.{answerOf, reportOf, reported, answered};
 
-// What a run answers, 80 bytes: `refusal` is 0, or 11 to 15 or 19; `index` is the entry that offends under 15 and 19,
+// What a run answers, 88 bytes: `refusal` is 0, or 11 to 15 or 19; `index` is the entry that offends under 15 and 19,
 // and else 0; `stop` is done 0, halted 1, output full 2, and 0 where refused.
 #[repr(C)]
 pub struct Lc3Answer {
@@ -86,7 +86,7 @@ fn ending_index(ending: Ending) -> usize
     }
 }
 
-fn ending_stop(ending: Ending) -> u32
+pub fn ending_stop(ending: Ending) -> u32
     ensures { λ r. ⌜ r ≡ endingStop ending ⌝ }
 {
     match ending {

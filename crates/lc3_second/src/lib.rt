@@ -60,7 +60,22 @@ pub extern "C" fn lc3_run_second(
     }
 }
 
-// The single step: the run with n = 1, on a record that the host keeps.
+// The single step: the run with n = 1.
+fn one_step(
+    m: Machine,
+    memory: &mut [u16],
+    times: &[u64],
+    bytes: &[u8],
+    output: &mut [u8],
+) -> Called
+    ensures { λ r. ⌜ reported (r .machine) (r .report) (now (memory .exit)) (now (output .exit))
+        ≡ answerOf (secondCallOf (startOf m (now (memory .entry)) (now (times .entry)) (now (bytes .entry))
+        (now (output .entry))) 1) ⌝ }
+{
+    call(m, memory, times, bytes, output, 1)
+}
+
+// The single step on a record that the host keeps.
 #[no_mangle]
 pub extern "C" fn lc3_step_second(
     m: &mut Machine,
@@ -73,7 +88,7 @@ pub extern "C" fn lc3_step_second(
         ≡ answerOf (secondCallOf (startOf (now (m .entry)) (now (memory .entry)) (now (times .entry))
         (now (bytes .entry)) (now (output .entry))) 1) ⌝ }
 {
-    let a = call(*m, memory, times, bytes, output, 1);
+    let a = one_step(*m, memory, times, bytes, output);
     *m = a.machine;
     a.report
 }

@@ -2,7 +2,7 @@
 -- logged run say of each accepted call; a refused one is the run's refusal.
 use Prim.Native.Nat.{ℕ, zero, suc, _+_, _*_, _≤_, _<_}
 use mathlib.Core.Path.{_≡_, refl, sym, ap, subst, _∙_}
-use mathlib.Core.Bool.{true, false, true≢false, false≢true}
+use mathlib.Core.Bool.{true}
 use mathlib.Core.List.{List}
 use native.Mathlib.Omega.{arith}
 use borrow.Author.Tests.{ltb-true}
@@ -17,10 +17,11 @@ use Rattle.run.specs.Call.{callBy, admittedBy}
 use Rattle.run.proofs.RunLaws.{steps-made-at-most, done-steps-are-made}
 use Rattle.run.proofs.Acceptance.{call-is-run}
 use Rattle.logging.specs.Log.{lacksRoom, entriesOf}
-use Rattle.logging.specs.LoggedRun.{Logged, loggedRunOf}
+use Rattle.logging.specs.LoggedRun.{Logged, runEnding, loggedRunOf}
 use Rattle.logging.specs.LoggedCall.{loggedAdmitted, loggedCallOf}
 use Rattle.logging.specs.BesideTheRun.{AsTheRun, LoggedRunIsTheRun}
-use Rattle.logging.proofs.LoggedLaws.{Tracks, goes-with, was-full, tracks, Written, written}
+use Rattle.logging.proofs.LoggedLaws.{Tracks, goes-with, was-full, run-is-not-log-full, tracks, Written}
+use Rattle.logging.proofs.LoggedLaws.{written}
 
 no-room : (log : List ℕ) (words : ℕ) → lacksRoom log words ≡ true → length log < words + 3
 unfolding lacksRoom
@@ -28,20 +29,20 @@ no-room log words h = ltb-true (length log) (words + 3) h
 
 accepted-is-the-run : (s : Start) (log : List ℕ) (n : ℕ) → admissionOf s n ≡ Accepted → (l : Logged) → Tracks s n l
     → Written s log l → AsTheRun s log n l
-accepted-is-the-run s log n a l (goes-with f h) w = record {
+accepted-is-the-run s log n a l (goes-with v f h) w = record {
   unless-full = λ x. h ∙ sym (call-is-run stepOf s n n a (omega arith));
-  where-full = λ x. absurd (true≢false (sym x ∙ f));
-  full-before-done = λ x. absurd (true≢false (sym x ∙ f));
-  full-not-halted = λ x. absurd (true≢false (sym x ∙ f));
-  full-without-room = λ x. absurd (true≢false (sym x ∙ f));
+  where-full = λ x. absurd (run-is-not-log-full v (sym f ∙ x));
+  full-before-done = λ x. absurd (run-is-not-log-full v (sym f ∙ x));
+  full-not-halted = λ x. absurd (run-is-not-log-full v (sym f ∙ x));
+  full-without-room = λ x. absurd (run-is-not-log-full v (sym f ∙ x));
   entries = w .entries;
   rest = w .rest;
   size = w .size;
   three-a-step = w .three-a-step;
 }
-accepted-is-the-run s log n a l (was-full f h d i x r) w = record {
-  unless-full = λ y. absurd (true≢false (sym f ∙ y));
-  where-full = λ y. h ∙ sym (call-is-run stepOf s n (l .run .steps) a (omega arith));
+accepted-is-the-run s log n a l (was-full f h i x r) w = record {
+  unless-full = λ y. absurd (y f);
+  where-full = λ y. h ∙ sym (call-is-run stepOf s n (l .steps) a (omega arith));
   full-before-done = λ y. i;
   full-not-halted = λ y. x;
   full-without-room = λ y. omega (arith, no-room (l .log) (l .words) r, w .size);
@@ -60,10 +61,10 @@ logged-run-is-the-run s log n = go (admissionOf s n) refl
         accepted-is-the-run s log n e (loggedRunOf s log n) (tracks s log n) (written s log n)
     go (Rejected r) e = unfold loggedAdmitted callBy admittedBy endedBy begin entriesOf in record {
       unless-full = λ x. rw e refl;
-      where-full = λ x. absurd (false≢true x);
-      full-before-done = λ x. absurd (false≢true x);
-      full-not-halted = λ x. absurd (false≢true x);
-      full-without-room = λ x. absurd (false≢true x);
+      where-full = λ x. absurd (run-is-not-log-full _ x);
+      full-before-done = λ x. absurd (run-is-not-log-full _ x);
+      full-not-halted = λ x. absurd (run-is-not-log-full _ x);
+      full-without-room = λ x. absurd (run-is-not-log-full _ x);
       entries = refl;
       rest = refl;
       size = refl;
@@ -81,32 +82,32 @@ pub record MadeWithRoom (s : Start) (log : List ℕ) (n k : ℕ) : Type 0 where
   pub made : k < runOf s n .steps
   pub room : 3 * k + 3 ≤ length log
 
-pub logged-were-made : (s : Start) (log : List ℕ) (n k : ℕ) → k < loggedRunOf s log n .run .steps
+pub logged-were-made : (s : Start) (log : List ℕ) (n k : ℕ) → k < loggedRunOf s log n .steps
     → MadeWithRoom s log n k
 logged-were-made s log n k h = go (tracks s log n) (written s log n)
   where
     go : Tracks s n (loggedRunOf s log n) → Written s log (loggedRunOf s log n) → MadeWithRoom s log n k
-    go (goes-with f e) w = record {
+    go (goes-with v f e) w = record {
       made = omega (arith, h, ap (λ (x : End). x .steps) e);
       room = omega (arith, h, w .room, w .three-a-step);
     }
-    go (was-full f e d i x r) w = record {
+    go (was-full f e i x r) w = record {
       made = omega (
         arith,
         h,
-        done-steps-are-made stepOf s n (loggedRunOf s log n .run .steps) (omega (arith, i))
-            (subst (λ (y : End). y .ending ≡ Done) e d),
+        done-steps-are-made stepOf s n (loggedRunOf s log n .steps) (omega (arith, i))
+            (subst (λ (y : End). y .ending ≡ Done) e (ap runEnding f)),
       );
       room = omega (arith, h, w .room, w .three-a-step);
     }
 
 pub made-are-logged : (s : Start) (log : List ℕ) (n k : ℕ) → MadeWithRoom s log n k
-    → k < loggedRunOf s log n .run .steps
+    → k < loggedRunOf s log n .steps
 made-are-logged s log n k m = go (tracks s log n) (written s log n)
   where
-    go : Tracks s n (loggedRunOf s log n) → Written s log (loggedRunOf s log n) → k < loggedRunOf s log n .run .steps
-    go (goes-with f e) w = omega (arith, m .made, ap (λ (x : End). x .steps) e)
-    go (was-full f e d i x r) w =
+    go : Tracks s n (loggedRunOf s log n) → Written s log (loggedRunOf s log n) → k < loggedRunOf s log n .steps
+    go (goes-with v f e) w = omega (arith, m .made, ap (λ (x : End). x .steps) e)
+    go (was-full f e i x r) w =
         omega (
           arith,
           m .room,
@@ -115,9 +116,9 @@ made-are-logged s log n k m = go (tracks s log n) (written s log n)
           w .three-a-step,
         )
 
-pub logged-steps-at-most : (s : Start) (log : List ℕ) (n : ℕ) → loggedRunOf s log n .run .steps ≤ n
+pub logged-steps-at-most : (s : Start) (log : List ℕ) (n : ℕ) → loggedRunOf s log n .steps ≤ n
 logged-steps-at-most s log n = go (tracks s log n)
   where
-    go : Tracks s n (loggedRunOf s log n) → loggedRunOf s log n .run .steps ≤ n
-    go (goes-with f e) = omega (arith, ap (λ (x : End). x .steps) e, steps-made-at-most stepOf s n)
-    go (was-full f e d i x r) = omega (arith, i)
+    go : Tracks s n (loggedRunOf s log n) → loggedRunOf s log n .steps ≤ n
+    go (goes-with v f e) = omega (arith, ap (λ (x : End). x .steps) e, steps-made-at-most stepOf s n)
+    go (was-full f e i x r) = omega (arith, i)

@@ -4,4 +4,3 @@ pub mod LoopLaws
 pub mod BesideTheRun
 pub mod LogSplits
 pub mod TwoLogs
-pub mod LogExamples

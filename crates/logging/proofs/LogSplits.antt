@@ -1,7 +1,7 @@
 -- A logged run that is continued is one logged run: the joined state of the two calls goes on exactly as that of the
 -- second alone does, by the laws of continued runs and of lists written behind others.
 use Prim.Native.Nat.{ℕ, zero, suc, _+_, _*_, _≤_, _<_}
-use mathlib.Core.Path.{_≡_, refl, sym, ap, _∙_}
+use mathlib.Core.Path.{_≡_, refl, sym, ap, subst, _∙_}
 use mathlib.Core.Bool.{Bool, true, false, cond}
 use mathlib.Core.List.{List, [], _∷_, _++_}
 use native.Mathlib.Nat.{zero-add, suc-add, add-zero, add-suc, add-assoc}
@@ -16,16 +16,17 @@ use Rattle.machine.specs.Edition.{third}
 use Rattle.machine.proofs.StepLaws.{step-keeps}
 use Rattle.machine.specs.Step.{stepOf}
 use Rattle.run.specs.declared.Admission.the-variants.{Accepted}
-use Rattle.run.specs.declared.Ending.{Ending}
 use Rattle.run.specs.declared.Ending.the-variants.{Done, Halted, OutputFull, Refused}
-use Rattle.run.specs.Run.{Start, endedBy, isHalted, isFull}
+use Rattle.run.specs.Run.{Start, End, isHalted, isFull}
 use Rattle.run.specs.Refusals.{admissionOf}
 use Rattle.run.specs.Continuing.{remaining, joined}
 use Rattle.run.proofs.Continuing.{next-alike, full-alike, made-alike, begin-alike, shown-within, remaining-accepted}
 use Rattle.run.proofs.Acceptance.{accepted-with-fewer}
 use Rattle.logging.specs.Log.{nextRule, entryOf, lacksRoom}
-use Rattle.logging.specs.LoggedRun.{Logged, beginLogged, stoppedBy, logFull, stepLogged, oneMoreLogged}
-use Rattle.logging.specs.LoggedRun.{loggedRunOf}
+use Rattle.logging.specs.declared.LoggedEnding.{LoggedEnding}
+use Rattle.logging.specs.declared.LoggedEnding.the-variants.{Run, LogFull}
+use Rattle.logging.specs.LoggedRun.{Logged, withLog, runEnding, runIn, beginLogged, stoppedBy, stepLogged}
+use Rattle.logging.specs.LoggedRun.{oneMoreLogged, loggedRunOf}
 use Rattle.logging.specs.LoggedCall.{loggedCallOf}
 use Rattle.logging.specs.LogSplits.{joinedLogged, Splits, LogSplits}
 use Rattle.logging.proofs.LoggedLaws.{Tracks, goes-with, was-full, tracks, Written, written, logged-stays}
@@ -58,16 +59,19 @@ lacks-room-behind xs ys k =
 
 -- ---- the two states go on alike
 
-module _ (s : Start) (l : Logged)
-    (shown : length (take (l .run .shown) (l .run .output)) ≡ l .run .shown)
+-- The bytes shown are within the output.
+abbrev ShownFits : End → Type 0
+ShownFits e = length (take (e .shown) (e .output)) ≡ e .shown
+
+module _ (s : Start) (l : Logged) (shown : ShownFits (runIn l))
     (wrote : length (take (l .words) (l .log)) ≡ l .words)
   where
     abbrev rest : Start
-    rest = remaining s (l .run)
+    rest = remaining s (runIn l)
 
-    entry-alike : (m : Logged) → entryOf s (joined (l .run) (m .run)) ≡ entryOf rest (m .run)
+    entry-alike : (m : Logged) → entryOf s (joined (runIn l) (runIn m)) ≡ entryOf rest (runIn m)
     unfolding entryOf nextRule
-    entry-alike m = rw (next-alike stepOf s (l .run) shown (m .run)) refl
+    entry-alike m = rw (next-alike stepOf s (runIn l) shown (runIn m)) refl
 
     room-alike : (m : Logged)
         → lacksRoom (take (l .words) (l .log) ++ m .log) (l .words + m .words) ≡ lacksRoom (m .log) (m .words)
@@ -86,45 +90,42 @@ module _ (s : Start) (l : Logged)
     unfolding stepLogged
     step-alike m =
         rw (
-          made-alike stepOf s (l .run) shown (m .run),
+          made-alike stepOf s (runIn l) shown (runIn m),
           entry-alike m,
-          log-alike m (entryOf rest (m .run)),
+          log-alike m (entryOf rest (runIn m)),
           add-assoc (l .words) (m .words) 3,
         ) refl
 
-    one-more-alike : (full : Bool) (w : Ending) (m : Logged)
-        → oneMoreLogged full w s (joinedLogged l m) ≡ joinedLogged l (oneMoreLogged full w rest m)
+    one-more-alike : (w : LoggedEnding) (m : Logged)
+        → oneMoreLogged w s (joinedLogged l m) ≡ joinedLogged l (oneMoreLogged w rest m)
     unfolding oneMoreLogged isHalted
-    one-more-alike true w m = refl
-    one-more-alike false Done m =
-        rw (room-alike m, full-alike stepOf s (l .run) shown (m .run), step-alike m)
-        (tested (isHalted (m .run)) (lacksRoom (m .log) (m .words)) (isFull rest (m .run)))
+    one-more-alike (Run Done) m =
+        rw (room-alike m, full-alike stepOf s (runIn l) shown (runIn m), step-alike m)
+        (tested (isHalted (runIn m)) (lacksRoom (m .log) (m .words)) (isFull rest (runIn m)))
       where
         tested : (halted short full : Bool)
-            → cond halted (stoppedBy Halted (joinedLogged l m))
-            (cond short (logFull (joinedLogged l m))
-            (cond full (stoppedBy OutputFull (joinedLogged l m)) (joinedLogged l (stepLogged rest m))))
+            → cond halted (stoppedBy (Run Halted) (joinedLogged l m))
+            (cond short (stoppedBy LogFull (joinedLogged l m))
+            (cond full (stoppedBy (Run OutputFull) (joinedLogged l m)) (joinedLogged l (stepLogged rest m))))
             ≡ joinedLogged l
-            (cond halted (stoppedBy Halted m)
-            (cond short (logFull m) (cond full (stoppedBy OutputFull m) (stepLogged rest m))))
-        tested true short full = unfold stoppedBy endedBy in refl
-        tested false true full = unfold logFull in refl
-        tested false false true = unfold stoppedBy endedBy in refl
+            (cond halted (stoppedBy (Run Halted) m)
+            (cond short (stoppedBy LogFull m) (cond full (stoppedBy (Run OutputFull) m) (stepLogged rest m))))
+        tested true short full = unfold stoppedBy in refl
+        tested false true full = unfold stoppedBy in refl
+        tested false false true = unfold stoppedBy in refl
         tested false false false = refl
-    one-more-alike false Halted m = refl
-    one-more-alike false OutputFull m = refl
-    one-more-alike false (Refused r) m = refl
+    one-more-alike (Run Halted) m = refl
+    one-more-alike (Run OutputFull) m = refl
+    one-more-alike (Run (Refused r)) m = refl
+    one-more-alike LogFull m = refl
 
-    begin-logged-alike : l .run .ending ≡ Done → l .full ≡ false
-        → l ≡ joinedLogged l (beginLogged rest (drop (l .words) (l .log)))
+    begin-logged-alike : l .ending ≡ Run Done → l ≡ joinedLogged l (beginLogged rest (drop (l .words) (l .log)))
     unfolding beginLogged
-    begin-logged-alike d f =
-        rw (
-          ← begin-alike stepOf s (l .run) shown d,
-          take-append-drop (l .words) (l .log),
-          add-zero (l .words),
-          ← f,
-        ) refl
+    begin-logged-alike d =
+        rw (take-append-drop (l .words) (l .log), add-zero (l .words))
+        (ap (λ (w : LoggedEnding). withLog w (runIn l) (l .log) (l .words)) d
+        ∙ ap (λ (e : End). withLog (Run Done) e (l .log) (l .words))
+        (begin-alike stepOf s (runIn l) shown (ap runEnding d)))
 
 -- ---- runs
 
@@ -139,69 +140,61 @@ unfolding loggedRunOf
 logged-begins s log = refl
 
 logged-goes-on : (s : Start) (log : List ℕ) (n : ℕ) (l : Logged) → loggedRunOf s log n ≡ l
-    → loggedRunOf s log (suc n) ≡ oneMoreLogged (l .full) (l .run .ending) s l
+    → loggedRunOf s log (suc n) ≡ oneMoreLogged (l .ending) s l
 unfolding loggedRunOf
-logged-goes-on s log n l h = ap (λ (x : Logged). oneMoreLogged (x .full) (x .run .ending) s x) h
+logged-goes-on s log n l h = ap (λ (x : Logged). oneMoreLogged (x .ending) s x) h
 
-module _ (s : Start) (log : List ℕ) (k : ℕ) (d : loggedRunOf s log k .run .ending ≡ Done)
-    (f : loggedRunOf s log k .full ≡ false)
+module _ (s : Start) (log : List ℕ) (k : ℕ) (d : loggedRunOf s log k .ending ≡ Run Done)
   where
     abbrev first : Logged
     first = loggedRunOf s log k
 
     abbrev second : ℕ → Logged
-    second j = loggedRunOf (remaining s (first .run)) (drop (first .words) (first .log)) j
+    second j = loggedRunOf (remaining s (runIn first)) (drop (first .words) (first .log)) j
 
-    shown-fits : length (take (first .run .shown) (first .run .output)) ≡ first .run .shown
+    shown-fits : ShownFits (runIn first)
     shown-fits = go (tracks s log k)
       where
-        go : Tracks s k first → length (take (first .run .shown) (first .run .output)) ≡ first .run .shown
-        go (goes-with x h) = rw h (shown-within (step-keeps third) s k)
-        go (was-full x h y i z r) = rw h (shown-within (step-keeps third) s (first .run .steps))
+        go : Tracks s k first → ShownFits (runIn first)
+        go (goes-with w x h) = subst ShownFits (sym h) (shown-within (step-keeps third) s k)
+        go (was-full x h i z r) = subst ShownFits (sym h) (shown-within (step-keeps third) s (first .steps))
 
     logged-continued : (j : ℕ) → loggedRunOf s log (k + j) ≡ joinedLogged first (second j)
     logged-continued zero =
         ap (loggedRunOf s log) (add-zero k)
-        ∙ begin-logged-alike s first shown-fits (words-within s log k) d f
-        ∙ ap (joinedLogged first) (sym (logged-begins (remaining s (first .run)) (drop (first .words) (first .log))))
+        ∙ begin-logged-alike s first shown-fits (words-within s log k) d
+        ∙ ap (joinedLogged first) (sym (logged-begins (remaining s (runIn first)) (drop (first .words) (first .log))))
     logged-continued (suc j) =
         ap (loggedRunOf s log) (add-suc k j)
         ∙ logged-goes-on s log (k + j) (joinedLogged first (second j)) (logged-continued j)
-        ∙ one-more-alike s first shown-fits (words-within s log k) (second j .full) (second j .run .ending) (second j)
+        ∙ one-more-alike s first shown-fits (words-within s log k) (second j .ending) (second j)
         ∙ ap (joinedLogged first)
-        (sym (logged-goes-on (remaining s (first .run)) (drop (first .words) (first .log)) j (second j) refl))
+        (sym (logged-goes-on (remaining s (runIn first)) (drop (first .words) (first .log)) j (second j) refl))
 
 -- ---- calls
 
-stopped-stays : (w : Ending) (s : Start) (l : Logged) → (w ≡ Done → ⊥) → oneMoreLogged false w s l ≡ l
+stopped-stays : (w : LoggedEnding) (s : Start) (l : Logged) → (w ≡ Run Done → ⊥) → oneMoreLogged w s l ≡ l
 unfolding oneMoreLogged
-stopped-stays Done s l n = absurd (n refl)
-stopped-stays Halted s l n = refl
-stopped-stays OutputFull s l n = refl
-stopped-stays (Refused r) s l n = refl
+stopped-stays (Run Done) s l n = absurd (n refl)
+stopped-stays (Run Halted) s l n = refl
+stopped-stays (Run OutputFull) s l n = refl
+stopped-stays (Run (Refused r)) s l n = refl
+stopped-stays LogFull s l n = refl
 
-filled-stays : (w : Ending) (s : Start) (l : Logged) → oneMoreLogged true w s l ≡ l
-unfolding oneMoreLogged
-filled-stays w s l = refl
-
-either-way-stays : (s : Start) (l : Logged) → (l .run .ending ≡ Done → ⊥)
-    → oneMoreLogged (l .full) (l .run .ending) s l ≡ l
-either-way-stays s l n = go (l .full)
-  where
-    go : (b : Bool) → oneMoreLogged b (l .run .ending) s l ≡ l
-    go true = filled-stays (l .run .ending) s l
-    go false = stopped-stays (l .run .ending) s l n
+-- The call of j steps that comes after it is accepted.
+abbrev AcceptedAfter : Start → ℕ → End → Type 0
+AcceptedAfter s j e = admissionOf (remaining s e) j ≡ Accepted
 
 first-accepted : (s : Start) (log : List ℕ) (k j : ℕ) → areBytes (s .bytes) ≡ true
-    → admissionOf s (k + j) ≡ Accepted → admissionOf (remaining s (loggedRunOf s log k .run)) j ≡ Accepted
+    → admissionOf s (k + j) ≡ Accepted → AcceptedAfter s j (runIn (loggedRunOf s log k))
 first-accepted s log k j bytes h = go (tracks s log k)
   where
-    go : Tracks s k (loggedRunOf s log k) → admissionOf (remaining s (loggedRunOf s log k .run)) j ≡ Accepted
-    go (goes-with f e) = rw e (remaining-accepted (step-keeps third) s k j bytes h)
-    go (was-full f e d i x r) =
-        let m : ℕ = loggedRunOf s log k .run .steps in
-        rw e (remaining-accepted (step-keeps third) s m j bytes
-        (accepted-with-fewer s (k + j) (loggedRunOf s log k .run .steps + j) (omega (arith, i)) h))
+    go : Tracks s k (loggedRunOf s log k) → AcceptedAfter s j (runIn (loggedRunOf s log k))
+    go (goes-with w f e) = subst (AcceptedAfter s j) (sym e) (remaining-accepted (step-keeps third) s k j bytes h)
+    go (was-full f e i x r) =
+        let m : ℕ = loggedRunOf s log k .steps in
+        subst (AcceptedAfter s j) (sym e) (remaining-accepted (step-keeps third) s m j bytes
+        (accepted-with-fewer s (k + j) (loggedRunOf s log k .steps + j) (omega (arith, i)) h))
 
 pub log-splits : LogSplits
 log-splits s k j log bytes h =
@@ -216,18 +209,14 @@ log-splits s k j log bytes h =
         let second = first-accepted s log k j bytes h in
         record {
           second-accepted = rw e second;
-          continued = λ d f.
+          continued = λ d.
               whole
               ∙ rw e
-              (logged-continued s log k (rw e at d) (rw e at f) j
+              (logged-continued s log k (rw e at d) j
               ∙ ap (joinedLogged (loggedRunOf s log k))
-              (sym (accepted-logged-call (remaining s (loggedRunOf s log k .run))
+              (sym (accepted-logged-call (remaining s (runIn (loggedRunOf s log k)))
               (drop (loggedRunOf s log k .words) (loggedRunOf s log k .log)) j second)));
           stopped = λ n.
-              whole ∙ logged-stays s log (k + j) k first (omega arith) (sym e) (either-way-stays s first n);
-          stopped-for-log = λ f.
               whole
-              ∙ logged-stays s log (k + j) k first (omega arith) (sym e)
-              (ap (λ (b : Bool). oneMoreLogged b (first .run .ending) s first) f
-              ∙ filled-stays (first .run .ending) s first);
+              ∙ logged-stays s log (k + j) k first (omega arith) (sym e) (stopped-stays (first .ending) s first n);
         }

@@ -19,17 +19,22 @@ use Rattle.run.specs.Run.{runBy, runOf}
 use Rattle.run.proofs.RunLaws.{run-of-none, halted-is-not-done, full-is-not-done, refused-is-not-done}
 use Rattle.run.proofs.RunLaws.{stopped-run-stays, done-makes-all-steps}
 use Rattle.logging.specs.Log.{entryOf, lacksRoom, entriesOf}
-use Rattle.logging.specs.LoggedRun.{Logged, beginLogged, stoppedBy, logFull, stepLogged, oneMoreLogged}
+use Rattle.logging.specs.declared.LoggedEnding.{LoggedEnding}
+use Rattle.logging.specs.declared.LoggedEnding.the-variants.{Run, LogFull}
+use Rattle.logging.specs.LoggedRun.{Logged, runEnding, runIn, beginLogged, stoppedBy, stepLogged, oneMoreLogged}
 use Rattle.logging.specs.LoggedRun.{loggedRunOf}
 
 -- ---- the run
 
 -- The logged run of n steps stands where the run of n does; or it stopped for a full log where the run of fewer does.
 pub data Tracks (s : Start) (n : ℕ) (l : Logged) : Type 0 where
-  goes-with : l .full ≡ false → l .run ≡ runOf s n → Tracks s n l
-  was-full : l .full ≡ true → l .run ≡ runOf s (l .run .steps) → l .run .ending ≡ Done → l .run .steps < n
-      → isHalted (l .run) ≡ false → lacksRoom (l .log) (l .words) ≡ true
+  goes-with : (w : Ending) → l .ending ≡ Run w → runIn l ≡ runOf s n → Tracks s n l
+  was-full : l .ending ≡ LogFull → runIn l ≡ runOf s (l .steps) → l .steps < n → isHalted (runIn l) ≡ false
+      → lacksRoom (l .log) (l .words) ≡ true
       → Tracks s n l
+
+pub run-is-not-log-full : (w : Ending) → Run w ≡ LogFull → ⊥
+run-is-not-log-full w p = let z : _≡_ {A = ℕ} 0 1 = cc in omega arith
 
 next-of-run : (s : Start) (n : ℕ) (e : End) → e ≡ runOf s n → runOf s (suc n) ≡ oneMore (e .ending) s e
 unfolding runBy
@@ -43,46 +48,52 @@ one-more-when-done w s e d = rw d refl
 pub done-stands-at-its-steps : (s : Start) (n : ℕ) (e : End) → e ≡ runOf s n → e .ending ≡ Done → e .steps ≡ n
 done-stands-at-its-steps s n e h d = ap (λ (x : End). x .steps) h ∙ done-makes-all-steps stepOf s n (rw h at d)
 
-module _ (s : Start) (n : ℕ) (l : Logged) (f : l .full ≡ false) (h : l .run ≡ runOf s n) where
-  run-stays : (l .run .ending ≡ Done → ⊥) → l .run ≡ runOf s (suc n)
-  run-stays x = h ∙ sym (stopped-run-stays stepOf s (suc n) n (omega arith) (rw h at x))
+-- Log full is tested where the run is done.
+full-is-done : (l : Logged) → l .ending ≡ Run Done → runIn (stoppedBy LogFull l) ≡ runIn l
+unfolding stoppedBy
+full-is-done l f = rw f refl
 
-  tracks-by-ending : (w : Ending) → l .run .ending ≡ w → Tracks s (suc n) (oneMoreLogged false w s l)
+module _ (s : Start) (n : ℕ) (l : Logged) (h : runIn l ≡ runOf s n) where
+  run-stays : (runIn l .ending ≡ Done → ⊥) → runIn l ≡ runOf s (suc n)
+  run-stays x =
+      h ∙ sym (stopped-run-stays stepOf s (suc n) n (omega arith) (λ q. x (ap (λ (e : End). e .ending) h ∙ q)))
+
+  tracks-by-ending : (w : Ending) → l .ending ≡ Run w → Tracks s (suc n) (oneMoreLogged (Run w) s l)
   unfolding oneMoreLogged
-  tracks-by-ending Halted q = goes-with f (run-stays (halted-is-not-done _ q))
-  tracks-by-ending OutputFull q = goes-with f (run-stays (full-is-not-done _ q))
-  tracks-by-ending (Refused r) q = goes-with f (run-stays (refused-is-not-done _ r q))
-  tracks-by-ending Done q =
-      go (isHalted (l .run)) (lacksRoom (l .log) (l .words)) (isFull s (l .run)) refl refl
-      (next-of-run s n (l .run) h ∙ one-more-when-done (l .run .ending) s (l .run) q)
+  tracks-by-ending Halted f = goes-with Halted f (run-stays (halted-is-not-done _ (ap runEnding f)))
+  tracks-by-ending OutputFull f = goes-with OutputFull f (run-stays (full-is-not-done _ (ap runEnding f)))
+  tracks-by-ending (Refused r) f = goes-with (Refused r) f (run-stays (refused-is-not-done _ r (ap runEnding f)))
+  tracks-by-ending Done f =
+      go (isHalted (runIn l)) (lacksRoom (l .log) (l .words)) (isFull s (runIn l)) refl refl
+      (next-of-run s n (runIn l) h ∙ one-more-when-done (runIn l .ending) s (runIn l) (ap runEnding f))
     where
-      at-steps : l .run .steps ≡ n
-      at-steps = done-stands-at-its-steps s n (l .run) h q
+      at-steps : l .steps ≡ n
+      at-steps = done-stands-at-its-steps s n (runIn l) h (ap runEnding f)
 
-      go : (halted short full : Bool) → isHalted (l .run) ≡ halted → lacksRoom (l .log) (l .words) ≡ short
+      go : (halted short full : Bool) → isHalted (runIn l) ≡ halted → lacksRoom (l .log) (l .words) ≡ short
           → runOf s (suc n)
-          ≡ cond halted (endedBy Halted (l .run)) (cond full (endedBy OutputFull (l .run)) (stepMade s (l .run)))
+          ≡ cond halted (endedBy Halted (runIn l)) (cond full (endedBy OutputFull (runIn l)) (stepMade s (runIn l)))
           → Tracks s (suc n)
-          (cond halted (stoppedBy Halted l)
-          (cond short (logFull l) (cond full (stoppedBy OutputFull l) (stepLogged s l))))
-      go true short full x y z = unfold stoppedBy in goes-with refl (sym z)
-      go false true full x y z = unfold logFull in
-          was-full refl (h ∙ ap (runOf s) (sym at-steps)) q (omega (arith, at-steps)) x y
-      go false false true x y z = unfold stoppedBy in goes-with refl (sym z)
-      go false false false x y z = unfold stepLogged in goes-with refl (sym z)
+          (cond halted (stoppedBy (Run Halted) l)
+          (cond short (stoppedBy LogFull l) (cond full (stoppedBy (Run OutputFull) l) (stepLogged s l))))
+      go true short full x y z = unfold stoppedBy endedBy in goes-with Halted refl (sym z)
+      go false true full x y z = unfold stoppedBy in
+          was-full refl (full-is-done l f ∙ (h ∙ ap (runOf s) (sym at-steps))) (omega (arith, at-steps))
+          (ap isHalted (full-is-done l f) ∙ x) y
+      go false false true x y z = unfold stoppedBy endedBy in goes-with OutputFull refl (sym z)
+      go false false false x y z = unfold stepLogged stepMadeBy in goes-with Done refl (sym z)
 
 pub tracks : (s : Start) (log : List ℕ) (n : ℕ) → Tracks s n (loggedRunOf s log n)
 unfolding loggedRunOf
-tracks s log zero = unfold beginLogged in goes-with refl (sym (run-of-none stepOf s))
+tracks s log zero = unfold beginLogged begin in goes-with Done refl (sym (run-of-none stepOf s))
 tracks s log (suc n) = go (loggedRunOf s log n) (tracks s log n)
   where
-    go : (l : Logged) → Tracks s n l → Tracks s (suc n) (oneMoreLogged (l .full) (l .run .ending) s l)
-    go l (goes-with f h) =
-        subst (λ (b : Bool). Tracks s (suc n) (oneMoreLogged b (l .run .ending) s l)) (sym f)
-        (tracks-by-ending s n l f h (l .run .ending) refl)
-    go l (was-full f e d i x r) =
-        subst (λ (b : Bool). Tracks s (suc n) (oneMoreLogged b (l .run .ending) s l)) (sym f)
-        (unfold oneMoreLogged in was-full f e d (omega arith) x r)
+    go : (l : Logged) → Tracks s n l → Tracks s (suc n) (oneMoreLogged (l .ending) s l)
+    go l (goes-with w f h) =
+        subst (λ (x : LoggedEnding). Tracks s (suc n) (oneMoreLogged x s l)) (sym f) (tracks-by-ending s n l h w f)
+    go l (was-full f e i x r) =
+        subst (λ (x : LoggedEnding). Tracks s (suc n) (oneMoreLogged x s l)) (sym f)
+        (unfold oneMoreLogged in was-full f e (omega arith) x r)
 
 -- ---- the log
 
@@ -102,47 +113,47 @@ rest-as-lent log vs at three room =
     (drop-at (take at log ++ vs) _ (at + 3) size ∙ ap (λ (i : ℕ). drop (at + i) log) three)
 
 pub record Written (s : Start) (log : List ℕ) (l : Logged) : Type 0 where
-  pub entries : take (l .words) (l .log) ≡ entriesOf s (l .run .steps)
+  pub entries : take (l .words) (l .log) ≡ entriesOf s (l .steps)
   pub rest : drop (l .words) (l .log) ≡ drop (l .words) log
   pub size : length (l .log) ≡ length log
   pub room : l .words ≤ length log
-  pub three-a-step : l .words ≡ 3 * l .run .steps
+  pub three-a-step : l .words ≡ 3 * l .steps
 
 entry-of-three : (s : Start) (e : End) → length (entryOf s e) ≡ 3
 unfolding entryOf
 entry-of-three s e = refl
 
-written-step : (s : Start) (log : List ℕ) (l : Logged) → l .run ≡ runOf s (l .run .steps)
+written-step : (s : Start) (log : List ℕ) (l : Logged) → runIn l ≡ runOf s (l .steps)
     → lacksRoom (l .log) (l .words) ≡ false → Written s log l → Written s log (stepLogged s l)
 unfolding stepLogged stepMadeBy lacksRoom entriesOf
 written-step s log l h r w =
     let room : l .words + 3 ≤ length (l .log) = ltb-false (length (l .log)) (l .words + 3) r in
-    let three = entry-of-three s (l .run) in
+    let three = entry-of-three s (runIn l) in
     let at : 3 + l .words ≡ l .words + 3 = omega arith in
     record {
-      entries = entry-written (l .log) (entryOf s (l .run)) (l .words) three room
-          ∙ (ap (λ (xs : List ℕ). xs ++ entryOf s (l .run)) (w .entries)
-          ∙ ap (λ (e : End). entriesOf s (l .run .steps) ++ entryOf s e) h);
-      rest = rest-as-lent (l .log) (entryOf s (l .run)) (l .words) three room
+      entries = entry-written (l .log) (entryOf s (runIn l)) (l .words) three room
+          ∙ (ap (λ (xs : List ℕ). xs ++ entryOf s (runIn l)) (w .entries)
+          ∙ ap (λ (e : End). entriesOf s (l .steps) ++ entryOf s e) h);
+      rest = rest-as-lent (l .log) (entryOf s (runIn l)) (l .words) three room
           ∙ (sym (drop-drop 3 (l .words) (l .log)) ∙ (ap (drop 3) (w .rest) ∙ drop-drop 3 (l .words) log));
-      size = length-sets (l .log) (l .words) (entryOf s (l .run)) ∙ w .size;
+      size = length-sets (l .log) (l .words) (entryOf s (runIn l)) ∙ w .size;
       room = omega (arith, room, w .size);
       three-a-step = omega (arith, w .three-a-step);
     }
 
-module _ (s : Start) (log : List ℕ) (n : ℕ) (l : Logged) (h : l .run ≡ runOf s n) (v : Written s log l) where
-  written-by-ending : (w : Ending) → l .run .ending ≡ w → Written s log (oneMoreLogged false w s l)
+module _ (s : Start) (log : List ℕ) (n : ℕ) (l : Logged) (h : runIn l ≡ runOf s n) (v : Written s log l) where
+  written-by-ending : (w : Ending) → l .ending ≡ Run w → Written s log (oneMoreLogged (Run w) s l)
   unfolding oneMoreLogged
-  written-by-ending Halted q = v
-  written-by-ending OutputFull q = v
-  written-by-ending (Refused r) q = v
-  written-by-ending Done q = go (isHalted (l .run)) (lacksRoom (l .log) (l .words)) (isFull s (l .run)) refl
+  written-by-ending Halted f = v
+  written-by-ending OutputFull f = v
+  written-by-ending (Refused r) f = v
+  written-by-ending Done f = go (isHalted (runIn l)) (lacksRoom (l .log) (l .words)) (isFull s (runIn l)) refl
     where
-      at-steps : l .run .steps ≡ n
-      at-steps = done-stands-at-its-steps s n (l .run) h q
+      at-steps : l .steps ≡ n
+      at-steps = done-stands-at-its-steps s n (runIn l) h (ap runEnding f)
 
-      ended : (w : Ending) → Written s log (stoppedBy w l)
-      ended w = unfold stoppedBy endedBy in record {
+      ended : (w : LoggedEnding) → Written s log (stoppedBy w l)
+      ended w = unfold stoppedBy in record {
         entries = v .entries;
         rest = v .rest;
         size = v .size;
@@ -152,17 +163,11 @@ module _ (s : Start) (log : List ℕ) (n : ℕ) (l : Logged) (h : l .run ≡ run
 
       go : (halted short full : Bool) → lacksRoom (l .log) (l .words) ≡ short
           → Written s log
-          (cond halted (stoppedBy Halted l)
-          (cond short (logFull l) (cond full (stoppedBy OutputFull l) (stepLogged s l))))
-      go true short full y = ended Halted
-      go false true full y = unfold logFull in record {
-        entries = v .entries;
-        rest = v .rest;
-        size = v .size;
-        room = v .room;
-        three-a-step = v .three-a-step;
-      }
-      go false false true y = ended OutputFull
+          (cond halted (stoppedBy (Run Halted) l)
+          (cond short (stoppedBy LogFull l) (cond full (stoppedBy (Run OutputFull) l) (stepLogged s l))))
+      go true short full y = ended (Run Halted)
+      go false true full y = ended LogFull
+      go false false true y = ended (Run OutputFull)
       go false false false y = written-step s log l (h ∙ ap (runOf s) (sym at-steps)) y v
 
 pub written : (s : Start) (log : List ℕ) (n : ℕ) → Written s log (loggedRunOf s log n)
@@ -176,13 +181,11 @@ written s log zero = unfold beginLogged begin entriesOf in record {
 }
 written s log (suc n) = go (loggedRunOf s log n) (tracks s log n) (written s log n)
   where
-    go : (l : Logged) → Tracks s n l → Written s log l
-        → Written s log (oneMoreLogged (l .full) (l .run .ending) s l)
-    go l (goes-with f h) v =
-        subst (λ (b : Bool). Written s log (oneMoreLogged b (l .run .ending) s l)) (sym f)
-        (written-by-ending s log n l h v (l .run .ending) refl)
-    go l (was-full f e d i x r) v =
-        subst (λ (b : Bool). Written s log (oneMoreLogged b (l .run .ending) s l)) (sym f) (unfold oneMoreLogged in v)
+    go : (l : Logged) → Tracks s n l → Written s log l → Written s log (oneMoreLogged (l .ending) s l)
+    go l (goes-with w f h) v =
+        subst (λ (x : LoggedEnding). Written s log (oneMoreLogged x s l)) (sym f) (written-by-ending s log n l h v w f)
+    go l (was-full f e i x r) v =
+        subst (λ (x : LoggedEnding). Written s log (oneMoreLogged x s l)) (sym f) (unfold oneMoreLogged in v)
 
 -- ---- the entries of fewer steps
 
@@ -208,57 +211,55 @@ entries-of-fewer s (suc m) k h =
           )
     ]
 
-pub log-of-fewer : (s : Start) (log : List ℕ) (l : Logged) (k : ℕ) → Written s log l → k ≤ l .run .steps
+pub log-of-fewer : (s : Start) (log : List ℕ) (l : Logged) (k : ℕ) → Written s log l → k ≤ l .steps
     → take (3 * k) (l .log) ≡ entriesOf s k
 log-of-fewer s log l k w h =
     sym (take-take (3 * k) (l .words) (l .log) (omega (arith, w .three-a-step)))
-    ∙ (ap (take (3 * k)) (w .entries) ∙ entries-of-fewer s (l .run .steps) k h)
+    ∙ (ap (take (3 * k)) (w .entries) ∙ entries-of-fewer s (l .steps) k h)
 
 -- ---- a logged run that has stopped
 
 -- One that makes nothing of one more step stays as it is.
 pub logged-stays : (s : Start) (log : List ℕ) (n k : ℕ) (l : Logged) → k ≤ n → loggedRunOf s log k ≡ l
-    → oneMoreLogged (l .full) (l .run .ending) s l ≡ l → loggedRunOf s log n ≡ l
+    → oneMoreLogged (l .ending) s l ≡ l → loggedRunOf s log n ≡ l
 unfolding loggedRunOf
 logged-stays s log zero k l h e x = let z : k ≡ 0 = omega arith in rw z at e
 logged-stays s log (suc n) k l h e x =
     elim (decLe k n) [
-      | yes j ↦ (
-          ap (λ (y : Logged). oneMoreLogged (y .full) (y .run .ending) s y) (logged-stays s log n k l j e x) ∙ x
-          )
+      | yes j ↦ (ap (λ (y : Logged). oneMoreLogged (y .ending) s y) (logged-stays s log n k l j e x) ∙ x)
       | no j ↦ (let z : k ≡ suc n = omega arith in rw z at e)
     ]
 
 -- The logged run stands at l after k steps, and may go on.
 module _ (s : Start) (log : List ℕ) (k : ℕ) (l : Logged) (stands : l ≡ loggedRunOf s log k)
-    (live : l .run .ending ≡ Done) (unfilled : l .full ≡ false)
+    (live : l .ending ≡ Run Done)
   where
-    next-logged : loggedRunOf s log (suc k) ≡ oneMoreLogged false Done s l
+    next-logged : loggedRunOf s log (suc k) ≡ oneMoreLogged (Run Done) s l
     unfolding loggedRunOf
-    next-logged = ap (λ (x : Logged). oneMoreLogged (x .full) (x .run .ending) s x) (sym stands)
-        ∙ (ap (λ (b : Bool). oneMoreLogged b (l .run .ending) s l) unfilled
-        ∙ ap (λ (w : Ending). oneMoreLogged false w s l) live)
+    next-logged = ap (λ (x : Logged). oneMoreLogged (x .ending) s x) (sym stands)
+        ∙ ap (λ (w : LoggedEnding). oneMoreLogged w s l) live
 
-    pub stands-halted : (n : ℕ) → k < n → isHalted (l .run) ≡ true → stoppedBy Halted l ≡ loggedRunOf s log n
+    pub stands-halted : (n : ℕ) → k < n → isHalted (runIn l) ≡ true → stoppedBy (Run Halted) l ≡ loggedRunOf s log n
     unfolding oneMoreLogged
     stands-halted n h x =
-        sym (logged-stays s log n (suc k) (stoppedBy Halted l) h (next-logged ∙ rw x refl)
-        (unfold stoppedBy endedBy in refl))
+        sym (logged-stays s log n (suc k) (stoppedBy (Run Halted) l) h (next-logged ∙ rw x refl)
+        (unfold stoppedBy in refl))
 
-    pub stands-log-full : (n : ℕ) → k < n → isHalted (l .run) ≡ false → lacksRoom (l .log) (l .words) ≡ true
-        → logFull l ≡ loggedRunOf s log n
+    pub stands-log-full : (n : ℕ) → k < n → isHalted (runIn l) ≡ false → lacksRoom (l .log) (l .words) ≡ true
+        → stoppedBy LogFull l ≡ loggedRunOf s log n
     unfolding oneMoreLogged
     stands-log-full n h x y =
-        sym (logged-stays s log n (suc k) (logFull l) h (next-logged ∙ rw (x, y) refl) (unfold logFull in refl))
+        sym (logged-stays s log n (suc k) (stoppedBy LogFull l) h (next-logged ∙ rw (x, y) refl)
+        (unfold stoppedBy in refl))
 
-    pub stands-full : (n : ℕ) → k < n → isHalted (l .run) ≡ false → lacksRoom (l .log) (l .words) ≡ false
-        → isFull s (l .run) ≡ true → stoppedBy OutputFull l ≡ loggedRunOf s log n
+    pub stands-full : (n : ℕ) → k < n → isHalted (runIn l) ≡ false → lacksRoom (l .log) (l .words) ≡ false
+        → isFull s (runIn l) ≡ true → stoppedBy (Run OutputFull) l ≡ loggedRunOf s log n
     unfolding oneMoreLogged
     stands-full n h x y z =
-        sym (logged-stays s log n (suc k) (stoppedBy OutputFull l) h (next-logged ∙ rw (x, y, z) refl)
-        (unfold stoppedBy endedBy in refl))
+        sym (logged-stays s log n (suc k) (stoppedBy (Run OutputFull) l) h (next-logged ∙ rw (x, y, z) refl)
+        (unfold stoppedBy in refl))
 
-    pub stands-on : isHalted (l .run) ≡ false → lacksRoom (l .log) (l .words) ≡ false → isFull s (l .run) ≡ false
+    pub stands-on : isHalted (runIn l) ≡ false → lacksRoom (l .log) (l .words) ≡ false → isFull s (runIn l) ≡ false
         → stepLogged s l ≡ loggedRunOf s log (suc k)
     unfolding oneMoreLogged
     stands-on x y z = sym (next-logged ∙ rw (x, y, z) refl)

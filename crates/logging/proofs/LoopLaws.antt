@@ -20,22 +20,24 @@ use Rattle.machine.specs.Rules.{ruleNumber, fetchedWord}
 use Rattle.step.specs.declared.Stepped.{Stepped}
 use Rattle.run.specs.declared.Ending.{Ending}
 use Rattle.run.specs.declared.Ending.the-variants.{Done, Halted, OutputFull, Refused}
-use Rattle.run.specs.Run.{Start, End, begin, endedBy, stepMadeBy, stepMade, isHalted}
+use Rattle.run.specs.Run.{Start, End, begin, stepMadeBy, stepMade, isHalted}
 use Rattle.run.specs.Call.{startOf}
 use Rattle.runner.specs.Stepping.{isFullDisplay, shownCount, Moved, movedTo, movesOf, standing}
 use Rattle.runner.proofs.LoopLaws.{Turned, was-full, was-made, each-turn-of-loop, full-has-no-byte, rule-of-turn}
 use Rattle.runner.proofs.LoopLaws.{word-of-turn}
 use Rattle.logging.specs.Log.{nextRule, entryOf, lacksRoom}
-use Rattle.logging.specs.LoggedRun.{Logged, beginLogged, stoppedBy, logFull, stepLogged, oneMoreLogged}
+use Rattle.logging.specs.declared.LoggedEnding.{LoggedEnding}
+use Rattle.logging.specs.declared.LoggedEnding.the-variants.{Run}
+use Rattle.logging.specs.LoggedRun.{Logged, withLog, runIn, beginLogged, stoppedBy, stepLogged, oneMoreLogged}
 use Rattle.logging.specs.LoggedRun.{loggedRunOf}
 use Rattle.logging.specs.Stepping.{logging, stopAtRoom}
 use Rattle.logging.proofs.LoggedLaws.{Tracks, tracks, Written, written, done-stands-at-its-steps, logged-stays}
-use Rattle.logging.proofs.LoggedLaws.{goes-with, was-full as was-log-full}
+use Rattle.logging.proofs.LoggedLaws.{goes-with, was-full as was-log-full, run-is-not-log-full}
 use Rattle.logging.proofs.LoggedLaws.{stands-halted, stands-log-full, stands-full, stands-on}
 
 -- What holds between two turns.
 pub record Between (s : Start) (log₀ : List ℕ) (e : End) (log : List ℕ) (n k at : ℕ) : Type 0 where
-  pub stands : logging e log false ≡ loggedRunOf s log₀ k
+  pub stands : logging e log ≡ loggedRunOf s log₀ k
   pub words : length (e .memory) ≡ 65536
   pub room : length (e .output) ≡ length (s .output)
   pub fits : e .shown ≤ length (e .output)
@@ -68,11 +70,11 @@ module _ (s : Start) (log₀ : List ℕ) (n k at clock keys shown : ℕ) (regs m
     here = standing (whole regs (clock + k) c) memory output k keys shown Done
 
     pub loop-halts : c .devices .mcr < 0x8000
-        → logging (standing (whole regs (clock + k) c) memory output k keys shown Halted) log false
+        → logging (standing (whole regs (clock + k) c) memory output k keys shown Halted) log
         ≡ loggedRunOf s log₀ n
-    unfolding isHalted stoppedBy endedBy
+    unfolding isHalted stoppedBy
     loop-halts off =
-        stands-halted s log₀ k (logging here log false) (b .stands) refl refl n more
+        stands-halted s log₀ k (logging here log) (b .stands) refl n more
         (lt-ltb (c .devices .mcr) 0x8000 off)
 
     module _ (space : 3 * n ≤ length log₀) (on : 0x8000 ≤ c .devices .mcr) (r : Stepped)
@@ -109,14 +111,13 @@ module _ (s : Start) (log₀ : List ℕ) (n k at clock keys shown : ℕ) (regs m
         unfolding entryOf
         entry-known = rw (word-known, rule-known, b .place) refl
 
-        step-logged : logging (stepMade s here) (sets log (3 * k) (entryOf s here)) false
-            ≡ stepLogged s (logging here log false)
+        step-logged : logging (stepMade s here) (sets log (3 * k) (entryOf s here))
+            ≡ stepLogged s (logging here log)
         unfolding stepLogged stepMadeBy
         step-logged = ap with-words three-more
           where
             with-words : ℕ → Logged
-            with-words i =
-                record { run = stepMade s here; log = sets log (3 * k) (entryOf s here); words = i; full = false }
+            with-words i = withLog (Run Done) (stepMade s here) (sets log (3 * k) (entryOf s here)) i
 
             three-more : 3 * suc k ≡ 3 * k + 3
             three-more = omega arith
@@ -141,10 +142,10 @@ module _ (s : Start) (log₀ : List ℕ) (n k at clock keys shown : ℕ) (regs m
                 let z : clock + (k + 1) ≡ clock + k + 1 = omega arith in
                 let e : there ≡ stepMade s here = rw (z, add-one k) q in
                 record {
-                  stands = ap (λ (x : End). logging x log′ false) e
-                      ∙ (ap (λ (x : List ℕ). logging (stepMade s here) x false) (wrote ∙ entry-known)
+                  stands = ap (λ (x : End). logging x log′) e
+                      ∙ (ap (λ (x : List ℕ). logging (stepMade s here) x) (wrote ∙ entry-known)
                       ∙ (step-logged
-                      ∙ (stands-on s log₀ k (logging here log false) (b .stands) refl refl clock-on has-room y
+                      ∙ (stands-on s log₀ k (logging here log) (b .stands) refl clock-on has-room y
                       ∙ ap (loggedRunOf s log₀) (sym (add-one k)))));
                   words = w;
                   room = o ∙ b .room;
@@ -156,18 +157,18 @@ module _ (s : Start) (log₀ : List ℕ) (n k at clock keys shown : ℕ) (regs m
                 }
 
         loop-fills : isFullDisplay (r .display) ≡ true
-            → logging (standing (whole regs′ (clock + k) c) memory′ output′ k keys shown OutputFull) log false
+            → logging (standing (whole regs′ (clock + k) c) memory′ output′ k keys shown OutputFull) log
             ≡ loggedRunOf s log₀ n
-        unfolding stoppedBy endedBy
+        unfolding stoppedBy
         loop-fills f = go turned
           where
             go : Turned stepOf s here (movedTo r regs′ (clock + k + 1) memory′ output′)
-                → logging (standing (whole regs′ (clock + k) c) memory′ output′ k keys shown OutputFull) log false
+                → logging (standing (whole regs′ (clock + k) c) memory′ output′ k keys shown OutputFull) log
                 ≡ loggedRunOf s log₀ n
             go (was-made x y l q) = absurd (true≢false (sym f ∙ x))
             go (was-full x y u) =
                 rw (u .registers, u .memory, u .output)
-                (stands-full s log₀ k (logging here log false) (b .stands) refl refl n more clock-on has-room y)
+                (stands-full s log₀ k (logging here log) (b .stands) refl n more clock-on has-room y)
 
         loop-has-none : isFullDisplay (r .display) ≡ true → length output ≤ shown
         loop-has-none f = go turned
@@ -180,7 +181,6 @@ module _ (s : Start) (log₀ : List ℕ) (n k at clock keys shown : ℕ) (regs m
         pub loop-fills-from : (before : Control) (keys-before : ℕ) → isFullDisplay (r .display) ≡ true
             → (shown ≡ length output → before ≡ c) → (shown ≡ length output → keys-before ≡ keys)
             → logging (standing (whole regs′ (clock + k) before) memory′ output′ k keys-before shown OutputFull) log
-            false
             ≡ loggedRunOf s log₀ n
         loop-fills-from before keys-before f same-record same-keys =
             let e : shown ≡ length output = omega (arith, b .fits, loop-has-none f) in
@@ -190,22 +190,22 @@ module _ (s : Start) (log₀ : List ℕ) (n k at clock keys shown : ℕ) (regs m
 
 -- The logged run of n steps, where that of so many ends in `e`.
 module _ (s : Start) (log₀ : List ℕ) (n most : ℕ) (e : End) (log : List ℕ)
-    (stands : logging e log false ≡ loggedRunOf s log₀ most)
+    (stands : logging e log ≡ loggedRunOf s log₀ most)
     (bound : most ≤ n) (filled : most < n → length log₀ < 3 * most + 3)
   where
-    abbrev endsBy : Ending → Bool → Logged
-    endsBy w full = logging (endedBy w e) log full
+    abbrev endsBy : LoggedEnding → Logged
+    endsBy w = withLog w e log (3 * e .steps)
 
-    stays : oneMoreLogged false (e .ending) s (logging e log false) ≡ logging e log false
-        → logging e log false ≡ loggedRunOf s log₀ n
-    stays q = sym (logged-stays s log₀ n most (logging e log false) bound (sym stands) q)
+    stays : oneMoreLogged (Run (e .ending)) s (logging e log) ≡ logging e log → logging e log ≡ loggedRunOf s log₀ n
+    stays q = sym (logged-stays s log₀ n most (logging e log) bound (sym stands) q)
 
     done-at-most : e .ending ≡ Done → e .steps ≡ most
     done-at-most d = go (tracks s log₀ most)
       where
         go : Tracks s most (loggedRunOf s log₀ most) → e .steps ≡ most
-        go (goes-with f h) = done-stands-at-its-steps s most e (ap (λ (l : Logged). l .run) stands ∙ h) d
-        go (was-log-full f x y i z r) = absurd (true≢false (sym f ∙ sym (ap (λ (l : Logged). l .full) stands)))
+        go (goes-with w f h) = done-stands-at-its-steps s most e (ap runIn stands ∙ h) d
+        go (was-log-full f x i z r) =
+            absurd (run-is-not-log-full (e .ending) (ap (λ (l : Logged). l .ending) stands ∙ f))
 
     lacks-room : e .ending ≡ Done → most < n → lacksRoom log (3 * e .steps) ≡ true
     unfolding lacksRoom
@@ -214,36 +214,28 @@ module _ (s : Start) (log₀ : List ℕ) (n most : ℕ) (e : End) (log : List �
         lt-ltb (length log) (3 * e .steps + 3)
         (omega (arith, ap (λ (l : Logged). length (l .log)) stands, size, done-at-most d, filled l))
 
-    same-ending : (w : Ending) → e .ending ≡ w → endedBy w e ≡ e
-    unfolding endedBy
-    same-ending w q = rw (← q) refl
+    same-ending : (w : Ending) → e .ending ≡ w → endsBy (Run w) ≡ logging e log
+    same-ending w q = ap (λ (v : Ending). endsBy (Run v)) (sym q)
 
     ends : (w : Ending) (more halted : Bool) → e .ending ≡ w → ltb most n ≡ more → isHalted e ≡ halted
-        → (mcr : ℕ) → ltb mcr 0x8000 ≡ halted
-        → endsBy (stopAtRoom w more mcr .ending) (stopAtRoom w more mcr .full) ≡ loggedRunOf s log₀ n
+        → (mcr : ℕ) → ltb mcr 0x8000 ≡ halted → endsBy (stopAtRoom w more mcr) ≡ loggedRunOf s log₀ n
     unfolding stopAtRoom oneMoreLogged
-    ends Halted more halted q x y mcr z =
-        ap (λ (f : End). logging f log false) (same-ending Halted q) ∙ stays (rw q refl)
-    ends OutputFull more halted q x y mcr z =
-        ap (λ (f : End). logging f log false) (same-ending OutputFull q) ∙ stays (rw q refl)
-    ends (Refused r) more halted q x y mcr z =
-        ap (λ (f : End). logging f log false) (same-ending (Refused r) q) ∙ stays (rw q refl)
+    ends Halted more halted q x y mcr z = same-ending Halted q ∙ stays (rw q refl)
+    ends OutputFull more halted q x y mcr z = same-ending OutputFull q ∙ stays (rw q refl)
+    ends (Refused r) more halted q x y mcr z = same-ending (Refused r) q ∙ stays (rw q refl)
     ends Done false halted q x y mcr z =
         let l : n ≡ most = omega (arith, bound, ltb-false most n x) in
-        ap (λ (f : End). logging f log false) (same-ending Done q) ∙ (stands ∙ ap (loggedRunOf s log₀) (sym l))
+        same-ending Done q ∙ (stands ∙ ap (loggedRunOf s log₀) (sym l))
     ends Done true true q x y mcr z =
         rw z
-        (unfold stoppedBy endedBy in
-        stands-halted s log₀ most (logging e log false) stands q refl n (ltb-true most n x) y)
+        (unfold stoppedBy in
+        stands-halted s log₀ most (logging e log) stands (ap (λ (v : Ending). Run v) q) n (ltb-true most n x) y)
     ends Done true false q x y mcr z =
         rw z
-        (ap (λ (f : End). logging f log true) (same-ending Done q)
-        ∙ (unfold logFull in
-        stands-log-full s log₀ most (logging e log false) stands q refl n (ltb-true most n x) y
-        (lacks-room q (ltb-true most n x))))
+        (unfold stoppedBy in
+        stands-log-full s log₀ most (logging e log) stands (ap (λ (v : Ending). Run v) q) n (ltb-true most n x) y
+        (lacks-room q (ltb-true most n x)))
 
-    pub loop-stops : endsBy (stopAtRoom (e .ending) (ltb most n) (e .machine .devices .mcr) .ending)
-        (stopAtRoom (e .ending) (ltb most n) (e .machine .devices .mcr) .full)
-        ≡ loggedRunOf s log₀ n
+    pub loop-stops : endsBy (stopAtRoom (e .ending) (ltb most n) (e .machine .devices .mcr)) ≡ loggedRunOf s log₀ n
     unfolding isHalted
     loop-stops = ends (e .ending) (ltb most n) (isHalted e) refl refl refl (e .machine .devices .mcr) refl

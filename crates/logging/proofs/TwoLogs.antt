@@ -59,11 +59,11 @@ module _ (s₁ s₂ : Start) (n : ℕ) (p : Premises s₁ s₂ n) where
 
 -- ---- the steps that a logged run makes are made by the run
 
-made-within : (s : Start) (log : List ℕ) (n k : ℕ) → k ≤ loggedRunOf s log n .run .steps → k ≤ runOf s n .steps
+made-within : (s : Start) (log : List ℕ) (n k : ℕ) → k ≤ loggedRunOf s log n .steps → k ≤ runOf s n .steps
 made-within s log n zero h = omega arith
 made-within s log n (suc k) h = logged-were-made s log n k h .made
 
-makes-all : (s : Start) (log : List ℕ) (n k : ℕ) → k ≤ loggedRunOf s log n .run .steps → runOf s k .steps ≡ k
+makes-all : (s : Start) (log : List ℕ) (n k : ℕ) → k ≤ loggedRunOf s log n .steps → runOf s k .steps ≡ k
 makes-all s log n k h = done-makes-all-steps stepOf s k (steps-made-are-done stepOf s n k (made-within s log n k h))
 
 -- ---- two logged runs
@@ -99,7 +99,7 @@ module _ (s₁ s₂ : Start) (log₁ log₂ : List ℕ) (n : ℕ) (p : LoggedPre
     l₂ = loggedRunOf s₂ log₂ n
 
     -- The premises of noninterference, for as many steps as both log.
-    premises-at : (m : ℕ) → m ≤ l₁ .run .steps → m ≤ l₂ .run .steps → Premises s₁ s₂ m
+    premises-at : (m : ℕ) → m ≤ l₁ .steps → m ≤ l₂ .steps → Premises s₁ s₂ m
     premises-at m h₁ h₂ =
         let a₁ = accepted-with-fewer s₁ n m (omega (arith, h₁, logged-steps-at-most s₁ log₁ n)) (p .accepted₁) in
         let a₂ = accepted-with-fewer s₂ n m (omega (arith, h₂, logged-steps-at-most s₂ log₂ n)) (p .accepted₂) in
@@ -120,10 +120,10 @@ module _ (s₁ s₂ : Start) (log₁ log₂ : List ℕ) (n : ℕ) (p : LoggedPre
           };
         }
 
-    both-at : (m : ℕ) → m ≤ l₁ .run .steps → m ≤ l₂ .run .steps → NoneBefore s₁ m → Both s₁ s₂ m
+    both-at : (m : ℕ) → m ≤ l₁ .steps → m ≤ l₂ .steps → NoneBefore s₁ m → Both s₁ s₂ m
     both-at m h₁ h₂ c = both s₁ s₂ m (premises-at m h₁ h₂) m (omega (arith, makes-all s₁ log₁ n m h₁)) c
 
-    second-goes-on : (m : ℕ) → m < l₁ .run .steps → m ≤ l₂ .run .steps → NoneBefore s₁ m → m < l₂ .run .steps
+    second-goes-on : (m : ℕ) → m < l₁ .steps → m ≤ l₂ .steps → NoneBefore s₁ m → m < l₂ .steps
     second-goes-on m h₁ h₂ c = go (each-turn stepOf s₁ m)
       where
         b : Both s₁ s₂ m
@@ -132,7 +132,7 @@ module _ (s₁ s₂ : Start) (log₁ log₂ : List ℕ) (n : ℕ) (p : LoggedPre
         w : MadeWithRoom s₁ log₁ n m
         w = logged-were-made s₁ log₁ n m h₁
 
-        go : Turn stepOf s₁ (runOf s₁ m) (runOf s₁ (suc m)) → m < l₂ .run .steps
+        go : Turn stepOf s₁ (runOf s₁ m) (runOf s₁ (suc m)) → m < l₂ .steps
         go (makes-none x y) = absurd (x (steps-made-are-done stepOf s₁ n (suc m) (w .made)))
         go (makes-step a hh f y) =
             let halted₂ : isHalted (runOf s₂ m) ≡ false =
@@ -147,40 +147,40 @@ module _ (s₁ s₂ : Start) (log₁ log₂ : List ℕ) (n : ℕ) (p : LoggedPre
               room = omega (arith, w .room, e);
             })
 
-    logged-too : (k : ℕ) → k < l₁ .run .steps → NoneBefore s₁ k → k < l₂ .run .steps
+    logged-too : (k : ℕ) → k < l₁ .steps → NoneBefore s₁ k → k < l₂ .steps
     logged-too zero h c = second-goes-on 0 h (omega arith) c
     logged-too (suc k) h c =
         second-goes-on (suc k) h (logged-too k (omega arith) (none-before-fewer s₁ (suc k) k (omega arith) c)) c
 
-    same-words : (k : ℕ) → k < l₁ .run .steps → NoneBefore s₁ k → SameEntries (suc k) l₁ l₂
+    same-words : (k : ℕ) → k < l₁ .steps → NoneBefore s₁ k → SameEntries (suc k) l₁ l₂
     same-words k h c =
-        let h₂ : k < l₂ .run .steps = logged-too k h c in
+        let h₂ : k < l₂ .steps = logged-too k h c in
         log-of-fewer s₁ log₁ l₁ (suc k) (written s₁ log₁ n) h
         ∙ (entries-agree s₁ s₂ (suc k) (premises-at (suc k) h h₂) k (omega (arith, makes-all s₁ log₁ n (suc k) h)) c
         ∙ sym (log-of-fewer s₂ log₂ l₂ (suc k) (written s₂ log₂ n) h₂))
 
     -- Where none is before k steps logged by the first, the second logs them all, with the same words.
-    steps-within : (k : ℕ) → k ≤ l₁ .run .steps → NoneBefore s₁ k → k ≤ l₂ .run .steps
+    steps-within : (k : ℕ) → k ≤ l₁ .steps → NoneBefore s₁ k → k ≤ l₂ .steps
     steps-within zero h c = omega arith
     steps-within (suc k) h c = logged-too k h (none-before-fewer s₁ (suc k) k (omega arith) c)
 
-    first-words : (k : ℕ) → k ≤ l₁ .run .steps → NoneBefore s₁ k → SameEntries k l₁ l₂
+    first-words : (k : ℕ) → k ≤ l₁ .steps → NoneBefore s₁ k → SameEntries k l₁ l₂
     first-words zero h c = refl
     first-words (suc k) h c = same-words k h (none-before-fewer s₁ (suc k) k (omega arith) c)
 
 -- Where the first meets none, both log equally many.
 same-steps : (s₁ s₂ : Start) (log₁ log₂ : List ℕ) (n : ℕ) → LoggedPremises s₁ s₂ log₁ log₂ n
-    → length log₁ ≡ length log₂ → NoneBefore s₁ (loggedRunOf s₁ log₁ n .run .steps)
-    → loggedRunOf s₁ log₁ n .run .steps ≡ loggedRunOf s₂ log₂ n .run .steps
+    → length log₁ ≡ length log₂ → NoneBefore s₁ (loggedRunOf s₁ log₁ n .steps)
+    → loggedRunOf s₁ log₁ n .steps ≡ loggedRunOf s₂ log₂ n .steps
 same-steps s₁ s₂ log₁ log₂ n p e c =
-    let m : ℕ = loggedRunOf s₁ log₁ n .run .steps in
-    let one : loggedRunOf s₁ log₁ n .run .steps ≤ loggedRunOf s₂ log₂ n .run .steps =
+    let m : ℕ = loggedRunOf s₁ log₁ n .steps in
+    let one : loggedRunOf s₁ log₁ n .steps ≤ loggedRunOf s₂ log₂ n .steps =
     steps-within s₁ s₂ log₁ log₂ n p e m (omega arith) c in
-    elim (decLe (suc (loggedRunOf s₁ log₁ n .run .steps)) (loggedRunOf s₂ log₂ n .run .steps)) [
+    elim (decLe (suc (loggedRunOf s₁ log₁ n .steps)) (loggedRunOf s₂ log₂ n .steps)) [
       | yes h ↦ (
-          let b : Both s₁ s₂ (loggedRunOf s₁ log₁ n .run .steps) =
+          let b : Both s₁ s₂ (loggedRunOf s₁ log₁ n .steps) =
           both-at s₁ s₂ log₁ log₂ n p e m (omega arith) one c in
-          let z : loggedRunOf s₁ log₁ n .run .steps < loggedRunOf s₁ log₁ n .run .steps =
+          let z : loggedRunOf s₁ log₁ n .steps < loggedRunOf s₁ log₁ n .steps =
           logged-too s₂ s₁ log₂ log₁ n (logged-swapped s₁ s₂ log₁ log₂ n p) (sym e) m h (b .none-before₂) in
           absurd (omega arith)
           )
@@ -188,15 +188,15 @@ same-steps s₁ s₂ log₁ log₂ n p e c =
     ]
 
 same-log : (s₁ s₂ : Start) (log₁ log₂ : List ℕ) (n : ℕ) → LoggedPremises s₁ s₂ log₁ log₂ n
-    → length log₁ ≡ length log₂ → NoneBefore s₁ (loggedRunOf s₁ log₁ n .run .steps) → log₁ ≡ log₂
+    → length log₁ ≡ length log₂ → NoneBefore s₁ (loggedRunOf s₁ log₁ n .steps) → log₁ ≡ log₂
     → loggedRunOf s₁ log₁ n .log ≡ loggedRunOf s₂ log₂ n .log
 same-log s₁ s₂ log₁ log₂ n p e c q =
     go (loggedRunOf s₁ log₁ n) (loggedRunOf s₂ log₂ n) (written s₁ log₁ n) (written s₂ log₂ n)
     (same-steps s₁ s₂ log₁ log₂ n p e c)
     (first-words s₁ s₂ log₁ log₂ n p e _ (omega arith) c)
   where
-    go : (l₁ l₂ : Logged) → Written s₁ log₁ l₁ → Written s₂ log₂ l₂ → l₁ .run .steps ≡ l₂ .run .steps
-        → SameEntries (l₁ .run .steps) l₁ l₂ → l₁ .log ≡ l₂ .log
+    go : (l₁ l₂ : Logged) → Written s₁ log₁ l₁ → Written s₂ log₂ l₂ → l₁ .steps ≡ l₂ .steps
+        → SameEntries (l₁ .steps) l₁ l₂ → l₁ .log ≡ l₂ .log
     go l₁ l₂ w₁ w₂ k x =
         let i : l₁ .words ≡ l₂ .words = omega (arith, w₁ .three-a-step, w₂ .three-a-step, k) in
         let y : take (l₁ .words) (l₁ .log) ≡ take (l₁ .words) (l₂ .log) = rw (w₁ .three-a-step) x in
@@ -229,9 +229,9 @@ calls-log-alike s₁ s₂ log₁ log₂ n p e =
 
 -- A step that is logged is a step of the ordinary call.
 logged-is-called : (s : Start) (log : List ℕ) (n j : ℕ) → admissionOf s n ≡ Accepted
-    → j < loggedCallOf s log n .run .steps → j < callOf s n .steps
+    → j < loggedCallOf s log n .steps → j < callOf s n .steps
 logged-is-called s log n j a h =
-    let l : j < loggedRunOf s log n .run .steps = rw (accepted-logged-call s log n a) at h in
+    let l : j < loggedRunOf s log n .steps = rw (accepted-logged-call s log n a) at h in
     omega (arith, logged-were-made s log n j l .made, call-steps-are-run-steps stepOf s n a)
 
 carried-over : (s₁ s₂ : Start) (log₁ log₂ : List ℕ) (n : ℕ) → Premises s₁ s₂ n → LoggedPremises s₁ s₂ log₁ log₂ n

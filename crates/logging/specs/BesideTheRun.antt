@@ -1,29 +1,30 @@
 -- One logged run beside the ordinary run: they differ in the log alone, and where the log is full, in the stop.
 use Prim.Native.Nat.{ℕ, _+_, _*_, _<_}
 use mathlib.Core.Path.{_≡_}
-use mathlib.Core.Bool.{true, false}
+use mathlib.Core.Bool.{false}
 use mathlib.Core.List.{List}
 use lib.ListN.{length, take, drop}
 use Rattle.run.specs.Run.{Start, isHalted}
 use Rattle.run.specs.Call.{callOf}
+use Rattle.logging.specs.declared.LoggedEnding.the-variants.{LogFull}
 use Rattle.logging.specs.Log.{entriesOf}
-use Rattle.logging.specs.LoggedRun.{Logged}
+use Rattle.logging.specs.LoggedRun.{Logged, runIn}
 use Rattle.logging.specs.LoggedCall.{loggedCallOf}
 
 pub record AsTheRun (s : Start) (log : List ℕ) (n : ℕ) (l : Logged) : Type 0 where
   -- "Apart from the log, and unless it stops for a full log, it must equal the ordinary run"
-  pub unless-full : l .full ≡ false → l .run ≡ callOf s n
+  pub unless-full : (l .ending ≡ LogFull → ⊥) → runIn l ≡ callOf s n
   -- "but for the stop it then equals the ordinary run of the steps made"
-  pub where-full : l .full ≡ true → l .run ≡ callOf s (l .run .steps)
+  pub where-full : l .ending ≡ LogFull → runIn l ≡ callOf s (l .steps)
   -- log full stops a run that is neither done nor halted: "fewer than three log words are free"
-  pub full-before-done : l .full ≡ true → l .run .steps < n
-  pub full-not-halted : l .full ≡ true → isHalted (l .run) ≡ false
-  pub full-without-room : l .full ≡ true → length log < l .words + 3
+  pub full-before-done : l .ending ≡ LogFull → l .steps < n
+  pub full-not-halted : l .ending ≡ LogFull → isHalted (runIn l) ≡ false
+  pub full-without-room : l .ending ≡ LogFull → length log < l .words + 3
   -- the log has the entries of the steps made, and "the rest stays as lent"
-  pub entries : take (l .words) (l .log) ≡ entriesOf s (l .run .steps)
+  pub entries : take (l .words) (l .log) ≡ entriesOf s (l .steps)
   pub rest : drop (l .words) (l .log) ≡ drop (l .words) log
   pub size : length (l .log) ≡ length log
-  pub three-a-step : l .words ≡ 3 * l .run .steps
+  pub three-a-step : l .words ≡ 3 * l .steps
 
 -- It holds of every call, refused ones included.
 abbrev pub LoggedRunIsTheRun : Type 0

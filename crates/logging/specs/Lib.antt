@@ -6,4 +6,3 @@ pub mod Stepping
 pub mod BesideTheRun
 pub mod LogSplits
 pub mod TwoLogs
-pub mod LogExamples

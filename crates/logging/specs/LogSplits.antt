@@ -2,7 +2,7 @@
 -- j, written to what is left of the log.
 use Prim.Native.Nat.{ℕ, _+_}
 use mathlib.Core.Path.{_≡_}
-use mathlib.Core.Bool.{true, false}
+use mathlib.Core.Bool.{true}
 use mathlib.Core.List.{List, _++_}
 use lib.ListN.{take, drop}
 use lib.Pow.{areBytes}
@@ -11,28 +11,24 @@ use Rattle.run.specs.declared.Ending.the-variants.{Done}
 use Rattle.run.specs.Run.{Start}
 use Rattle.run.specs.Refusals.{admissionOf}
 use Rattle.run.specs.Continuing.{remaining, joined}
-use Rattle.logging.specs.LoggedRun.{Logged}
+use Rattle.logging.specs.declared.LoggedEnding.the-variants.{Run}
+use Rattle.logging.specs.LoggedRun.{Logged, withLog, runIn}
 use Rattle.logging.specs.LoggedCall.{loggedCallOf}
 
 -- Two logged calls, one after the other, as one: the words that the first wrote stand before the second's log.
 abbrev pub joinedLogged : Logged → Logged → Logged
-joinedLogged l m = record {
-  run = joined (l .run) (m .run);
-  log = take (l .words) (l .log) ++ m .log;
-  words = l .words + m .words;
-  full = m .full;
-}
+joinedLogged l m =
+    withLog (m .ending) (joined (runIn l) (runIn m)) (take (l .words) (l .log) ++ m .log) (l .words + m .words)
 
 -- The second call gets what remains for a run, and the log after the words written.
 pub record Splits (s : Start) (k j : ℕ) (log : List ℕ) (first : Logged) : Type 0 where
-  pub second-accepted : admissionOf (remaining s (first .run)) j ≡ Accepted
-  -- where the first is done and was not stopped for a full log, the second goes on from there
-  pub continued : first .run .ending ≡ Done → first .full ≡ false
+  pub second-accepted : admissionOf (remaining s (runIn first)) j ≡ Accepted
+  -- where the first is done, the second goes on from there
+  pub continued : first .ending ≡ Run Done
       → loggedCallOf s log (k + j)
-      ≡ joinedLogged first (loggedCallOf (remaining s (first .run)) (drop (first .words) (first .log)) j)
-  -- where the first was stopped, it stays so
-  pub stopped : (first .run .ending ≡ Done → ⊥) → loggedCallOf s log (k + j) ≡ first
-  pub stopped-for-log : first .full ≡ true → loggedCallOf s log (k + j) ≡ first
+      ≡ joinedLogged first (loggedCallOf (remaining s (runIn first)) (drop (first .words) (first .log)) j)
+  -- where the first was stopped, for a full log too, it stays so
+  pub stopped : (first .ending ≡ Run Done → ⊥) → loggedCallOf s log (k + j) ≡ first
 
 -- It holds of every accepted call. Keys are lent as bytes, so each is below 256.
 abbrev pub LogSplits : Type 0

@@ -18,7 +18,7 @@ use Rattle.logging.specs.LoggedCall.{loggedCallOf}
 
 -- Step k is logged by the call.
 abbrev pub Logs : Start → List ℕ → ℕ → ℕ → Type 0
-Logs s log n k = k < loggedCallOf s log n .run .steps
+Logs s log n k = k < loggedCallOf s log n .steps
 
 -- The secrecy rule's premises, of the two logged runs: each takes no interrupt before its first trap or exception, in
 -- the steps that it makes. Two runs that satisfy `Premises` satisfy these too, whatever their logs.
@@ -45,9 +45,9 @@ pub record LogAlike (s₁ s₂ : Start) (log₁ log₂ : List ℕ) (n : ℕ) (l�
   pub up-to-first : (k vector psr pc : ℕ) → First s₁ n k vector psr pc → Logs s₁ log₁ n k → SameEntries (suc k) l₁ l₂
   -- where no step logged meets one, both log equally many steps with the same words; and logs that were lent alike are
   -- left alike
-  pub same-steps : NoneBefore s₁ (l₁ .run .steps) → l₁ .run .steps ≡ l₂ .run .steps
-  pub all-words : NoneBefore s₁ (l₁ .run .steps) → SameEntries (l₁ .run .steps) l₁ l₂
-  pub same-log : NoneBefore s₁ (l₁ .run .steps) → log₁ ≡ log₂ → l₁ .log ≡ l₂ .log
+  pub same-steps : NoneBefore s₁ (l₁ .steps) → l₁ .steps ≡ l₂ .steps
+  pub all-words : NoneBefore s₁ (l₁ .steps) → SameEntries (l₁ .steps) l₁ l₂
+  pub same-log : NoneBefore s₁ (l₁ .steps) → log₁ ≡ log₂ → l₁ .log ≡ l₂ .log
 
 pub record LogsDoNotTell : Type 0 where
   pub premises-carry-over : (s₁ s₂ : Start) (log₁ log₂ : List ℕ) (n : ℕ) → Premises s₁ s₂ n

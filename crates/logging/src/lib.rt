@@ -2,31 +2,45 @@
 // it, is in specs/.
 use machine::Machine;
 use run::Admission;
-use run::Answer;
+use run::Ending;
+use run::Refusal;
 ghost use mathlib.Core.Path.{_≡_};
-ghost use mathlib.Core.Bool.{false};
+ghost use Rattle.run.specs.declared.Ending.the-variants.{Refused};
 ghost use Rattle.run.specs.Call.{startOf};
+ghost use Rattle.logging.specs.declared.LoggedEnding.the-variants.{Run};
 ghost use Rattle.logging.specs.LoggedCall.{loggedEndOf, loggedCallOf};
 
 pub mod entries;
 pub mod stepping;
 
-// What a logged run answers: what the run does, the words written to the log, and whether it stopped for a full log.
-// Where it did, the run's own ending is Done.
+// How a logged call ended: as a run does, or stopped because fewer than three words of the log are free.
+pub enum LoggedEnding {
+    Run(Ending),
+    LogFull,
+}
+
+// What a logged run answers: record and counts as a run does, the words written to the log, and how it ended.
 pub struct LoggedAnswer {
-    pub answer: Answer,
+    pub machine: Machine,
+    pub steps: u64,
+    pub keys: usize,
+    pub shown: usize,
     pub words: usize,
-    pub full: bool,
+    pub ending: LoggedEnding,
 }
 
 // A call that is turned down leaves everything, the log included, as it was handed in.
-fn refused(answer: Answer) -> LoggedAnswer
-    ensures { λ r. ⌜ r ≡ record { answer = answer; words = 0; full = false } ⌝ }
+fn refused(m: Machine, refusal: Refusal) -> LoggedAnswer
+    ensures { λ r. ⌜ r
+        ≡ record { machine = m; steps = 0; keys = 0; shown = 0; words = 0; ending = Run (Refused refusal) } ⌝ }
 {
     LoggedAnswer {
-        answer,
+        machine: m,
+        steps: 0,
+        keys: 0,
+        shown: 0,
         words: 0,
-        full: false,
+        ending: LoggedEnding::Run(Ending::Refused(refusal)),
     }
 }
 
@@ -46,6 +60,6 @@ pub fn run_logged(
     let admission = refusals::admission(m, memory, times, bytes, n);
     match admission {
         Admission::Accepted => stepping::run_accepted(m, memory, times, bytes, output, log, n),
-        Admission::Rejected(refusal) => refused(refusals::refused(m, refusal)),
+        Admission::Rejected(refusal) => refused(m, refusal),
     }
 }

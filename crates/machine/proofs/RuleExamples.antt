@@ -41,7 +41,6 @@ entries = record {
   entries-from-supervisor-mode = refl;
   vector-after-pushes = refl;
   rti-pops = refl;
-  pushes-and-pops-wrap = refl;
 }
 
 timer-rules : TimerRules

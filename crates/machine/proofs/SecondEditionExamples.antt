@@ -9,7 +9,6 @@ second-edition-rules-hold = record {
   lea-sets-codes = refl;
   trap-links = refl;
   user-mode-reaches-every-address = refl;
-  psr-address-is-plain = refl;
   other-devices-stay = refl;
   jsrr-r7-continues-at-next = refl;
   other-entries-stay = refl;

@@ -20,7 +20,7 @@ pub record SecondEditionRulesHold : Type 0 where
   pub lea-sets-codes :
       Hold
       (supervisor 0xEAFF [] (R 5 0x0500 ∷ PSR 0x0501 ∷ [])  -- LEA R5, #255
-      ∷ supervisor 0xEA00 (PC 0x8400 ∷ []) (R 5 0x8401 ∷ PSR 0x0504 ∷ [])  -- LEA R5, #0
+      ∷ supervisor 0xEB00 (PC 0x0010 ∷ []) (R 5 0xFF11 ∷ PSR 0x0504 ∷ [])  -- LEA R5, #-256
       ∷ supervisor 0xEBFF (PC 0x0000 ∷ []) (R 5 0x0000 ∷ PSR 0x0502 ∷ [])  -- LEA R5, #-1
       ∷ [])
   -- "TRAP puts Next in R7 and takes PC from its vector, with no push or mode change."
@@ -34,7 +34,6 @@ pub record SecondEditionRulesHold : Type 0 where
   pub user-mode-reaches-every-address :
       Hold
       (user 0x1A6F (PC 0x2FFF ∷ []) (R 5 0x5A4B ∷ PSR 0x8501 ∷ [])  -- ADD R5, R1, #15
-      ∷ user 0x1A6F (PC 0xFE00 ∷ []) (R 5 0x5A4B ∷ PSR 0x8501 ∷ [])  -- ADD R5, R1, #15
       ∷ user 0x6040 (R 1 0x0000 ∷ word 0x0000 0x9ABC ∷ [])  -- LDR R0, R1, #0
       (reads 0x0000 ∷ R 0 0x9ABC ∷ PSR 0x8504 ∷ [])
       ∷ user 0x6040 (R 1 0xFE02 ∷ []) (R 0 0x0055 ∷ PSR 0x8501 ∷ KBSR 0x4000 ∷ [])  -- LDR R0, R1, #0: KBDR
@@ -47,17 +46,8 @@ pub record SecondEditionRulesHold : Type 0 where
       ∷ user 0xB7FE (word 0x2FFF 0x3100 ∷ []) (reads 0x2FFF ∷ word 0x3100 0xC0DE ∷ [])  -- STI R3, #-2
       ∷ user 0xB610 (word 0x3011 0x0100 ∷ []) (reads 0x3011 ∷ word 0x0100 0xC0DE ∷ [])  -- STI R3, #16
       ∷ [])
-  -- "xFFFC is a plain word": for a load, a store and a pointer. The other device registers are where they were.
-  pub psr-address-is-plain :
-      Hold
-      (supervisor 0x6040 (R 1 0xFFFC ∷ word 0xFFFC 0x9ABC ∷ [])  -- LDR R0, R1, #0
-      (reads 0xFFFC ∷ R 0 0x9ABC ∷ PSR 0x0504 ∷ [])
-      ∷ supervisor 0x7040 (R 0 0x0207 ∷ R 1 0xFFFC ∷ []) (word 0xFFFC 0x0207 ∷ [])  -- STR R0, R1, #0
-      ∷ supervisor 0xA79B (PC 0x0060 ∷ word 0xFFFC 0x0500 ∷ word 0x0500 0x9ABC ∷ [])  -- LDI R3, #-101
-      (reads 0xFFFC ∷ reads 0x0500 ∷ R 3 0x9ABC ∷ PSR 0x0504 ∷ [])
-      ∷ supervisor 0xB79B (PC 0x0060 ∷ word 0xFFFC 0x0500 ∷ [])  -- STI R3, #-101
-      (reads 0xFFFC ∷ word 0x0500 0xC0DE ∷ [])
-      ∷ [])
+  -- "xFFFC is a plain word", as steps in HighAddresses (crate machine_examples). The other device registers are where
+  -- they were.
   pub other-devices-stay :
       map (isDeviceBy second) (0xFE00 ∷ 0xFE02 ∷ 0xFE04 ∷ 0xFE06 ∷ 0xFE08 ∷ 0xFE0A ∷ 0xFFFC ∷ 0xFFFE ∷ [])
       ≡ true ∷ true ∷ true ∷ true ∷ true ∷ true ∷ false ∷ true ∷ []

@@ -8,14 +8,18 @@ use borrow.Author.Tests.{leb-true, ltb-true, lt-ltb}
 use lib.Dec.{leb, ltb}
 use lib.ListN.{length, getD, set, take, drop}
 use lib.Seq.{take-set-le, drop-set-lt}
+use Rattle.word.specs.Reading.{readOf}
+use Rattle.word.specs.declared.Instruction.the-variants.{Reserved}
 use Rattle.machine.specs.declared.Machine.{Machine}
 use Rattle.machine.specs.declared.Plan.the-variants.{Return}
 use Rattle.machine.specs.Words.{next}
 use Rattle.machine.specs.Keys.{readyAfter}
 use Rattle.machine.specs.Psr.{definedPsr}
-use Rattle.machine.specs.Outcome.{Reason, vectorOf}
+use Rattle.machine.specs.Protection.{deniedBy}
+use Rattle.machine.specs.Outcome.{Reason, trap, illegal, vectorOf}
 use Rattle.machine.specs.Causes.{takesInterrupt}
-use Rattle.machine.specs.Step.{stepOf}
+use Rattle.machine.specs.Plan.{planBy}
+use Rattle.machine.specs.Step.{performBy, stepOf}
 use Rattle.machine.proofs.Tests.{both-true}
 use Rattle.run.specs.declared.Admission.the-variants.{Accepted}
 use Rattle.run.specs.declared.Ending.the-variants.{Done, Halted}
@@ -35,7 +39,7 @@ use Rattle.monitor.proofs.Execution.{Quiet, no-interrupt}
 use Rattle.monitor.proofs.Intact.{Intact, cellsFine, wordAt}
 use Rattle.monitor.proofs.UseLaws.{vector-is-used}
 use Rattle.monitor.proofs.Instructions.{planAt}
-use Rattle.monitor.proofs.Entries.{psr-parts, calledFrame, calledView, called-sound, trap-enters}
+use Rattle.monitor.proofs.Entries.{psr-parts, calledFrame, calledView, called-sound, plan-enters}
 use Rattle.monitor.proofs.Entries.{exception-enters, returnedFrame, returnedView, returns}
 
 pub is-intact : {uses : ℕ → Bool} {user : Bool} (s : Start) (n : ℕ) → Begins uses user s n → Intact uses (s .memory)
@@ -136,18 +140,20 @@ module _ {uses : ℕ → Bool} {user : Bool} {s : Start} {k : ℕ} {f : Frame} {
     (b : Begins uses user s n) (low : ℕ) (same-memory : f .memory ≡ s .memory) (same-output : f .output ≡ s .output)
     (ssp : f .ssp ≡ s .machine .«saved_ssp»)
     (usp : f .usp ≡ cond user (getD (s .machine .regs) 6 0) (s .machine .«saved_usp»))
-    (within-stack : cellsWithin low (v .cells) ≡ true) where
+    (within-stack : cellsWithin low (v .cells) ≡ true) (left : ℕ) (count : v .busy ≡ left) where
   leaves : (e : End) → e .machine ≡ standingAt f v k (a .keys) (a .devices) (a .clock) .machine
       → e .memory ≡ memoryAt f v → e .output ≡ standingAt f v k (a .keys) (a .devices) (a .clock) .output
-      → e .steps ≡ k → e .shown ≡ length (v .bytes) → e .keys ≡ a .keys → Leaves s k (v .bytes) low e
+      → e .steps ≡ k → e .shown ≡ length (v .bytes) → e .keys ≡ a .keys → Leaves s k (v .bytes) left low e
   leaves e m mem out steps shown keys = record {
     steps = steps;
+    keys = keys ∙ a .arrived-by;
     shown = shown;
     output = out ∙ rw same-output;
     saved-ssp = rw m ssp;
     saved-usp = rw (m, b .mode) usp;
     kbdr = rw (m, keys) (a .kbdr);
     timer = rw m (a .timer);
+    display = rw m count;
     clock = rw m (a .ticks);
     words-below = rw (mem, ← same-memory) (words-below low (f .memory) (v .cells) within-stack);
     words-above = rw (mem, ← same-memory) (words-above low (f .memory) (v .cells) within-stack);
@@ -156,7 +162,7 @@ module _ {uses : ℕ → Bool} {user : Bool} {s : Start} {k : ℕ} {f : Frame} {
   pub resumes : k ≤ n → v .pc ≡ next (s .machine .pc) → psrAt f v ≡ s .machine .psr → (regs : List ℕ)
       → v .regs ≡ regs → v .mcr ≡ 0x8000 → (status : ℕ → ℕ)
       → ((keys : ℕ) → readyAfter (take (keys - v .read) (drop (v .read) (s .bytes))) (v .status) ≡ status keys)
-      → Resumes s n k (v .bytes) low regs status
+      → Resumes s n k (v .bytes) left low regs status
   resumes le pc psr regs same going status read =
       let q = call-stands a n (b .accepted) le in
       record {
@@ -172,7 +178,7 @@ module _ {uses : ℕ → Bool} {user : Bool} {s : Start} {k : ℕ} {f : Frame} {
 
   pub halts : k < n → v .regs ≡ set (s .machine .regs) 6 0x2FFE → v .mcr ≡ 0 → v .pc ≡ 0x027E
       → psrAt f v ≡ s .machine .psr / 8 % 4096 * 8 + 1 → v .read ≡ 0 → v .status ≡ s .machine .devices .kbsr
-      → Halts s n k (v .bytes) low
+      → Halts s n k (v .bytes) left low
   unfolding endedBy
   halts more same off pc psr none kept =
       let q = call-halts a n (b .accepted) more off in
@@ -268,8 +274,24 @@ routine-begins code user s n bound x vector to c quiet some below leads =
     let b = c .begins in
     let uses : ℕ → Bool = withVector vector code in
     eight-registers (calledFrame uses user s) s x (vectorWord ours vector) to (next (s .machine .pc)) leads (b .mcr)
-    (trap-enters uses user s n bound (b .accepted) quiet some (is-intact s n b) (b .mode) (c .may-fetch) (b .stack)
-    (b .mcr) vector below (vector-is-used vector code) (c .trap))
+    (plan-enters uses user s n bound (b .accepted) quiet some (is-intact s n b) (b .mode) (c .may-fetch) (b .stack)
+    (b .mcr) (trap vector) (next (s .machine .pc)) (omega arith) (vector-is-used vector code)
+    (λ m at. unfold planBy performBy in rw (c .trap, at)))
+
+-- In Supervisor mode the word at PC is a reserved one.
+pub reserved-begins : (code : ℕ → Bool) (s : Start) (n bound : ℕ) (x : Eight (s .machine .regs)) (reserved to : ℕ)
+    → Begins (withVector (vectorOf illegal) code) false s n
+    → readOf (getD (s .memory) (s .machine .pc) 0) ≡ Reserved reserved → Quiet s 0 bound → 0 < bound
+    → vectorWord ours (vectorOf illegal) ≡ to
+    → At s 0 1 (calledFrame (withVector (vectorOf illegal) code) false s) (begun s x to (s .machine .pc))
+unfolding deniedBy
+reserved-begins code s n bound x reserved to b word quiet some leads =
+    let uses : ℕ → Bool = withVector (vectorOf illegal) code in
+    eight-registers (calledFrame uses false s) s x (vectorWord ours (vectorOf illegal)) to (s .machine .pc) leads
+    (b .mcr)
+    (plan-enters uses false s n bound (b .accepted) quiet some (is-intact s n b) (b .mode) (rw (b .mode)) (b .stack)
+    (b .mcr) illegal (s .machine .pc) (omega arith) (vector-is-used (vectorOf illegal) code)
+    (λ m at. unfold planBy performBy in rw (word, at)))
 
 pub handler-begins : (code : ℕ → Bool) (s : Start) (n bound : ℕ) (x : Eight (s .machine .regs)) (reason : Reason)
     (to : ℕ) (r : Raises reason code s n) → Quiet s 0 bound → 0 < bound → vectorOf reason < 0x0200
@@ -317,7 +339,7 @@ module _ (user : Bool) (ssp usp six : ℕ) where
 module _ (uses : ℕ → Bool) (user : Bool) (s : Start) (n j : ℕ) (v : View) (b : Begins uses user s n)
     (quiet : Quiet s 0 (j + 1)) (a : At s 0 j (calledFrame uses user s) v) (r : AtReturn uses user s v) (le : j + 1 ≤ n)
     (low : ℕ) (within-stack : cellsWithin low (v .cells) ≡ true) (regs : List ℕ)
-    (same : set (v .regs) 6 (getD (s .machine .regs) 6 0) ≡ regs) where
+    (same : set (v .regs) 6 (getD (s .machine .regs) 6 0) ≡ regs) (left : ℕ) (count : v .busy - 1 ≡ left) where
   pub at-back : At s 0 (j + 1) (backFrame uses user s) (backView uses user s v)
   at-back =
       returns quiet (calledFrame uses user s) (called-sound uses user s (is-intact s n b)) v (r .going) (r .fine)
@@ -329,10 +351,11 @@ module _ (uses : ℕ → Bool) (user : Bool) (s : Start) (n j : ℕ) (v : View) 
 
   pub comes-back : (status : ℕ → ℕ)
       → ((keys : ℕ) → readyAfter (take (keys - v .read) (drop (v .read) (s .bytes))) (v .status) ≡ status keys)
-      → Resumes s n (j + 1) (v .bytes) low regs status
+      → Resumes s n (j + 1) (v .bytes) left low regs status
   comes-back status read =
       resumes at-back n b low refl refl
-      (ssp-is-restored user (m .«saved_ssp») (m .«saved_usp») (getD (m .regs) 6 0) (b .stack)) refl within-stack le refl
+      (ssp-is-restored user (m .«saved_ssp») (m .«saved_usp») (getD (m .regs) 6 0) (b .stack)) refl within-stack left
+      count le refl
       (sym (psr-parts (m .psr))) regs
       (ap (λ (x : ℕ). set (v .regs) 6 x)
       (six-is-restored user (m .«saved_ssp») (m .«saved_usp») (getD (m .regs) 6 0) (b .stack))

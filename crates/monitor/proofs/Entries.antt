@@ -12,7 +12,8 @@ use lib.IntN.{negsuc}
 use lib.ListN.{length, getD, set}
 use lib.Seq.{set-set}
 use Rattle.word.specs.Reading.{readOf}
-use Rattle.word.specs.declared.Instruction.the-variants.{Br, Trap}
+use Rattle.word.specs.declared.Instruction.the-variants.{Br}
+use Rattle.machine.specs.declared.Machine.{Machine}
 use Rattle.machine.specs.declared.Devices.{Devices}
 use Rattle.machine.specs.declared.Plan.the-variants.{Jump, LoadBy, Return}
 use Rattle.machine.specs.Words.{next, before, withRegister, andBits}
@@ -24,8 +25,8 @@ use Rattle.machine.specs.Outcome.{Reason, vectorOf, entered, Outcome, withReads
 use Rattle.machine.specs.Devices.{DSR}
 use Rattle.machine.specs.Entry.{pushed, entry, afterEntry, raised, stackPointerOnEntry, userStackOnEntry}
 use Rattle.machine.specs.Return.{afterReturn, popped, return}
-use Rattle.machine.specs.Plan.{planBy}
-use Rattle.machine.specs.Step.{performBy, obeyedBy, ended, stepOf, busyAfter}
+use Rattle.machine.specs.Plan.{planOf}
+use Rattle.machine.specs.Step.{performBy, perform, obeyedBy, ended, stepOf, busyAfter}
 use Rattle.run.specs.declared.Admission.the-variants.{Accepted}
 use Rattle.run.specs.declared.Ending.the-variants.{Done}
 use Rattle.run.specs.Run.{Start, End, begin, nextStep, runOf, withShown, showsByte}
@@ -38,13 +39,14 @@ use Rattle.monitor.specs.Vectors.{vectorWord, ours}
 use Rattle.monitor.specs.Keys.{keysBefore}
 use Rattle.monitor.specs.Out.{waitSteps}
 use Rattle.monitor.proofs.KeyLaws.{none-before}
+use Rattle.monitor.proofs.Modes.{supervisor-mode}
 use Rattle.monitor.proofs.Execution.{Frame, Known, these, from, codesNumber, cell, View, psrAt, memoryAt}
 use Rattle.monitor.proofs.Execution.{outputAt, machineAt, At, statusIn, Gives, Shows, advance, advance-by}
 use Rattle.monitor.proofs.Execution.{same-keyboard, Quiet, QuietStep, Leads, leads-by-one, then}
 use Rattle.monitor.proofs.Intact.{Intact, cellsFine, wordAt, low-word, vector-word}
 use Rattle.monitor.proofs.Exceptions.{user-raises}
 use Rattle.monitor.proofs.Instructions.{Sound, codesFor, planAt, isPlain}
-use Rattle.monitor.proofs.Instructions.{all-allowed, plan-is, word-is, codes-below, supervisor, by-plan}
+use Rattle.monitor.proofs.Instructions.{in-supervisor-mode, all-allowed, plan-is, word-is, by-plan}
 
 -- ---- before the first step
 
@@ -180,7 +182,7 @@ entry-silent uses s user high sp to pc = record { counts = refl; free = refl; ou
 pub trap-psr : (psr : ℕ) → psr % 0x8000 ≡ psr / 8 % 4096 * 8 + psr % 8
 trap-psr psr = omega arith
 
--- ---- TRAP
+-- ---- TRAP, and a reserved word
 
 -- Where a routine stands that a program called by a TRAP, or an exception led to, with the supervisor stack at x3000.
 abbrev pub calledFrame : (ℕ → Bool) → Bool → Start → Frame
@@ -193,30 +195,35 @@ pub called-sound : (uses : ℕ → Bool) (user : Bool) (s : Start) → Intact us
     → Sound (calledFrame uses user s)
 called-sound uses user s i = record { above = omega arith; intact = i }
 
-pub trap-enters : (uses : ℕ → Bool) (user : Bool) (s : Start) (n bound : ℕ) → admissionOf s n ≡ Accepted
+-- The plan of the word at PC is this entry: TRAP's, or that of a reserved word.
+pub plan-enters : (uses : ℕ → Bool) (user : Bool) (s : Start) (n bound : ℕ) → admissionOf s n ≡ Accepted
     → Quiet s 0 bound → 0 < bound → Intact uses (s .memory) → inUserMode (s .machine .psr) ≡ user
     → denied (s .machine .psr) (s .machine .pc) ≡ false
     → cond user (s .machine .«saved_ssp») (getD (s .machine .regs) 6 0) ≡ 0x3000
-    → s .machine .devices .mcr ≡ 0x8000 → (vector : ℕ) → vector < 0x0100 → uses vector ≡ true
-    → readOf (getD (s .memory) (s .machine .pc) 0) ≡ Trap vector
-    → At s 0 1 (calledFrame uses user s) (calledView s (vectorWord ours vector) (next (s .machine .pc)))
-unfolding obeyedBy withReads planBy performBy raised
-trap-enters uses user s n bound accepted quiet some i mode may-fetch stack going vector below used word =
+    → s .machine .devices .mcr ≡ 0x8000 → (reason : Reason) (pc : ℕ) → vectorOf reason < 0x0200
+    → uses (vectorOf reason) ≡ true
+    → ((m : Machine) → m .pc ≡ s .machine .pc
+    → perform (planOf (m .regs) (m .pc) (m .psr) (readOf (getD (s .memory) (s .machine .pc) 0))) m (s .memory)
+    ≡ raised reason pc m (s .memory))
+    → At s 0 1 (calledFrame uses user s) (calledView s (vectorWord ours (vectorOf reason)) pc)
+unfolding obeyedBy withReads raised
+plan-enters uses user s n bound accepted quiet some i mode may-fetch stack going reason pc below used raises =
     let a = at-start uses s n accepted 0 in
     let psr : ℕ = psrAt (startFrame uses s) (startView s) in
-    let g = entry-gives uses s i user mode 0x3000 stack (Reason.trap vector) (next (s .machine .pc))
-    (s .machine .psr / 8 % 4096) (omega arith) used refl in
+    let g = entry-gives uses s i user mode 0x3000 stack reason pc (s .machine .psr / 8 % 4096) below used refl in
     let p : psr % 0x8000 ≡ s .machine .psr / 8 % 4096 * 8 + s .machine .psr % 8 =
     rw (← (psr-parts (s .machine .psr))) (trap-psr (s .machine .psr)) in
     let allowed : denied psr (s .machine .pc) ≡ false = rw (← (psr-parts (s .machine .psr))) may-fetch in
     advance a (quiet .at a some) going (calledFrame uses user s)
-    (calledView s (vectorWord ours vector) (next (s .machine .pc))) []
-    (λ d t. record {
-      machine = rw (allowed, word) (g (psr % 0x8000) p d t .machine);
-      memory = rw (allowed, word) (g (psr % 0x8000) p d t .memory);
-      shown = rw (allowed, word) (g (psr % 0x8000) p d t .shown);
+    (calledView s (vectorWord ours (vectorOf reason)) pc) []
+    (λ d t.
+    let is = raises (machineAt (startFrame uses s) (startView s) d t) refl in
+    record {
+      machine = rw (allowed, is) (g (psr % 0x8000) p d t .machine);
+      memory = rw (allowed, is) (g (psr % 0x8000) p d t .memory);
+      shown = rw (allowed, is) (g (psr % 0x8000) p d t .shown);
     })
-    (entry-silent uses s user (s .machine .psr / 8 % 4096) 0x3000 (vectorWord ours vector) (next (s .machine .pc)))
+    (entry-silent uses s user (s .machine .psr / 8 % 4096) 0x3000 (vectorWord ours (vectorOf reason)) pc)
     refl refl
 
 -- ---- an exception, or a trap, in User mode
@@ -374,7 +381,7 @@ pub return-once : {s : Start} {since k : ℕ} (f : Frame) → Sound f → (v : V
     → At s since (suc k) (returnedFrame f user sp psr) (returnedView f v user sp psr pc)
 unfolding obeyedBy withReads performBy return popped afterReturn
 return-once f sound v going fine plan sp pc psr six at-sp at-next defined user mode a still =
-    let here = supervisor (f .high) (codesNumber (v .codes)) (sound .above) (codes-below (v .codes)) in
+    let here = supervisor-mode (psrAt f v) (in-supervisor-mode f sound v fine) in
     let allowed = all-allowed f sound v fine (v .pc) in
     let is = plan-is f sound v fine ∙ plan in
     let w = word-is f sound v fine sp in

@@ -2,14 +2,19 @@
 use Prim.Native.Nat.{ℕ, zero, suc, _+_, _-_, _*_, _/_, _%_, _≤_, _<_}
 use native.Mathlib.Omega.{arith}
 use mathlib.Core.Path.{_≡_, refl, _∙_}
-use mathlib.Core.Bool.{Bool}
+use mathlib.Core.Bool.{Bool, true}
 use mathlib.Core.List.{List, [], _∷_}
 use borrow.Author.Tests.{lt-ltb, le-ltb}
 use lib.ListN.{length, getD, set, take, drop}
+use lib.Pow.{areBytes}
 use lib.Seq.{set-set}
 use Rattle.machine.specs.Words.{next, withRegister}
 use Rattle.machine.specs.Keys.{readyAfter, lastKey}
+use Rattle.machine.proofs.StepLaws.{first-is-byte, rest-are-bytes}
+use Rattle.run.specs.declared.Admission.the-variants.{Accepted}
 use Rattle.run.specs.Run.{Start}
+use Rattle.run.specs.Refusals.{admissionOf}
+use Rattle.run.proofs.Acceptance.{accepted-is-acceptable}
 use Rattle.monitor.specs.Vectors.{vectorWord}
 use Rattle.monitor.specs.Keys.{keysBefore, arrivedBy, statusAt, keyAt}
 use Rattle.monitor.specs.Uses.{withVector, getcCode}
@@ -22,6 +27,15 @@ use Rattle.monitor.proofs.Entries.{calledFrame, called-sound, within}
 use Rattle.monitor.proofs.Calls.{is-intact, quiet-steps, Eight, eight, begun, routine-begins, AtReturn}
 use Rattle.monitor.proofs.Calls.{comes-back}
 use Rattle.monitor.proofs.Keyboard.{keyRead, Keys, Turned, turns, takes-key}
+
+-- The display's count at the end, from what is left of it after the polls that find no key.
+four-less : (left busy t : ℕ) → left ≡ busy - 1 - 2 * t → left - 1 - 1 - 1 - 1 ≡ busy - (1 + 2 * t + 3 + 1)
+four-less left busy t e =
+    let z : busy - 1 - 2 * t - 4 ≡ busy - (1 + 2 * t + 3 + 1) = omega arith in
+    at-once left ∙ rw e z
+  where
+    at-once : (left : ℕ) → left - 1 - 1 - 1 - 1 ≡ left - 4
+    at-once left = omega arith
 
 module _ (user : Bool) (s : Start) (n t : ℕ) (c : Calls 0x20 getcCode user s n) (key : KeyComes s 1 t)
     (le : getcSteps t ≤ n) (none : NoInterrupt s (getcSteps t)) (x : Eight (s .machine .regs)) where
@@ -105,11 +119,16 @@ module _ (user : Bool) (s : Start) (n t : ℕ) (c : Calls 0x20 getcCode user s n
       ready-leaves-rest _ (s .machine .devices .kbsr) in
       rw z
 
+  counted : returning .busy - 1 ≡ s .machine .devices .busy - (j + 1)
+  counted = four-less (waited .busy-now) (s .machine .devices .busy) t (waited .count)
+
   getc-resumes :
-      Resumes s n (j + 1) [] 0x2FFE (set (s .machine .regs) 0 (keyAt s (1 + 2 * t + 2))) (readIn (1 + 2 * t + 2) s)
+      Resumes s n (j + 1) [] (s .machine .devices .busy - (j + 1)) 0x2FFE
+      (set (s .machine .regs) 0 (keyAt s (1 + 2 * t + 2))) (readIn (1 + 2 * t + 2) s)
   getc-resumes =
       comes-back uses user s n j returning b quiet at-rti at-return (rw all-steps le) 0x2FFE refl
-      (set (s .machine .regs) 0 (keyAt s (1 + 2 * t + 2))) same-registers (readIn (1 + 2 * t + 2) s) cleared
+      (set (s .machine .regs) 0 (keyAt s (1 + 2 * t + 2))) same-registers
+      (s .machine .devices .busy - (j + 1)) counted (readIn (1 + 2 * t + 2) s) cleared
 
 -- ---- which key
 
@@ -151,12 +170,26 @@ ready-key : (s : Start) (j : ℕ) → arrivedBy s (suc j) ≡ 0 → keyAt s j �
 unfolding lastKey
 ready-key s j none = rw none
 
+last-is-byte : (bytes : List ℕ) (n kbdr : ℕ) → areBytes bytes ≡ true → kbdr < 256 → lastKey (take n bytes) kbdr < 256
+unfolding lastKey
+last-is-byte [] zero kbdr t h = h
+last-is-byte [] (suc n) kbdr t h = h
+last-is-byte (first ∷ rest) zero kbdr t h = h
+last-is-byte (first ∷ rest) (suc n) kbdr t h =
+    last-is-byte rest n first (rest-are-bytes first rest t) (first-is-byte first rest t)
+
+is-byte : (s : Start) (n j : ℕ) → admissionOf s n ≡ Accepted → areBytes (s .bytes) ≡ true → keyAt s j < 256
+is-byte s n j accepted t =
+    last-is-byte (s .bytes) (arrivedBy s (suc j)) (s .machine .devices .kbdr) t
+    (accepted-is-acceptable s n accepted .defined .devices .kbdr)
+
 pub getc-reads : GetcReads
 getc-reads = record {
   resumes = λ user s n t c key le none.
       let z : 1 + 2 * t + 2 ≡ 3 + 2 * t = omega arith in
       let x = eight (s .machine .regs) (c .begins .registers) in
       rw (all-steps user s n t c key le none x, z) at (getc-resumes user s n t c key le none x);
+  is-byte = is-byte;
   ready = λ s h. record {
     none = λ j l. absurd (omega arith);
     comes = still-ready (take (arrivedBy s (suc (1 + 2 * 0))) (s .bytes)) (s .machine .devices .kbsr) h;

@@ -73,9 +73,9 @@ module _ (user : Bool) (s : Start) (n : ℕ) (c : Calls 0x25 haltCode user s n) 
   unfolding halted ready polling computing
   at-end = runs quiet f sound 7 room 78 ready refl .on (omega arith) at-ready
 
-  halt-halts : Halts s n haltSteps message 0x2FFB
+  halt-halts : Halts s n haltSteps message 0 0x2FFB
   unfolding halted ready polling computing
-  halt-halts = halts at-end n b 0x2FFB refl refl refl refl refl more (rw (x .are)) refl refl refl refl refl
+  halt-halts = halts at-end n b 0x2FFB refl refl refl refl refl 0 refl more (rw (x .are)) refl refl refl refl refl
 
 pub halt-shows : HaltShows
 halt-shows user s n c more room none =

@@ -210,11 +210,12 @@ module _ (user : Bool) (s : Start) (n t : ℕ) (c : Calls 0x23 inCode user s n) 
   cleared : (keys : ℕ) → readyAfter (take (keys - read) (drop read (s .bytes))) status ≡ readIn (keyStep s t) s keys
   cleared keys = let z : status ≡ kbsr user s x % 0x8000 = ready-leaves-rest _ (kbsr user s x) in rw z
 
-  in-resumes : Resumes s n (inSteps s t) (shownByIn s t) 0x2FFC (set (s .machine .regs) 0 byte) (readIn (keyStep s t) s)
+  in-resumes : Resumes s n (inSteps s t) (shownByIn s t) 4 0x2FFC (set (s .machine .regs) 0 byte)
+      (readIn (keyStep s t) s)
   unfolding returning computing
   in-resumes =
       comes-back uses user s n j returning b quiet at-rti at-return le 0x2FFC refl (set (s .machine .regs) 0 byte)
-      same-registers (readIn (keyStep s t) s) cleared
+      same-registers 4 refl (readIn (keyStep s t) s) cleared
 
 pub in-reads : InReads
 in-reads user s n t c key room le none =

@@ -7,7 +7,7 @@ use native.Mathlib.Omega.{arith}
 use mathlib.Core.Path.{_≡_, refl, sym, _∙_}
 use mathlib.Core.Bool.{Bool, true, false, cond, _&&_, _||_, true≢false}
 use mathlib.Core.List.{List, [], _∷_, _++_}
-use borrow.Author.Tests.{lt-leb, ltb-true, eqb-true, eq-eqb, ne-eqb}
+use borrow.Author.Tests.{lt-leb, ltb-true, eqb-true, eq-eqb}
 use lib.Dec.{eqb, ltb}
 use lib.ListN.{length, getD, set, drop, length-append, length-drop}
 use lib.Seq.{drop-cons, set-append-seam, append-snoc}
@@ -16,18 +16,19 @@ use Rattle.word.specs.declared.Instruction.{Instruction}
 use Rattle.word.specs.declared.Instruction.the-variants.{Br, AddRegister, AddImmediate, Ld, St, Jsr, Jsrr, AndRegister}
 use Rattle.word.specs.declared.Instruction.the-variants.{AndImmediate, Ldr, Str, Rti, Not, Ldi, Sti, Jmp, Reserved, Lea}
 use Rattle.word.specs.declared.Instruction.the-variants.{Trap}
+use Rattle.machine.specs.declared.Machine.{Machine}
 use Rattle.machine.specs.declared.Devices.{Devices}
 use Rattle.machine.specs.declared.Plan.{Plan}
 use Rattle.machine.specs.declared.Plan.the-variants.{Move, Put, Jump, Load, LoadBy, Store, StoreBy, Call, Illegal}
 use Rattle.machine.specs.declared.Plan.the-variants.{Return}
 use Rattle.machine.specs.Words.{next, withRegister, andBits}
-use Rattle.machine.specs.Psr.{inUserMode, codesOf, recoded, isTaken}
-use Rattle.machine.specs.Outcome.{withReads, afterInstruction}
-use Rattle.machine.specs.Protection.{deniedBy, denied}
-use Rattle.machine.specs.Devices.{KBDR, DSR, DDR, TSR, MCR, isDeviceBy, isDevice, displayIsReady, displayStatus}
-use Rattle.machine.specs.Devices.{deviceValue, loadedValueBy, kbsrAfterLoad, timerStatusAfterLoad, afterLoad}
+use Rattle.machine.specs.Psr.{codesOf, recoded, isTaken}
+use Rattle.machine.specs.Outcome.{Outcome, withReads, afterInstruction}
+use Rattle.machine.specs.Protection.{denied}
+use Rattle.machine.specs.Devices.{DSR, DDR, MCR, isDeviceBy, displayIsReady, displayStatus}
+use Rattle.machine.specs.Devices.{lentWord, deviceValue, loadedValueBy, kbsrAfterLoad, timerStatusAfterLoad, afterLoad}
 use Rattle.machine.specs.Devices.{ddrStore, mcrStore, deviceStore, storedBy}
-use Rattle.machine.specs.Access.{loadToBy, storeAtBy, byPointerBy}
+use Rattle.machine.specs.Access.{loadToBy, loadTo, storeAtBy, storeAt, byPointer}
 use Rattle.machine.specs.Plan.{planBy, planOf}
 use Rattle.machine.specs.Step.{performBy, perform, obeyedBy, obeyed, busyAfter}
 use Rattle.machine.proofs.StepLaws.{codesOf-below}
@@ -35,6 +36,8 @@ use Rattle.machine.proofs.Tests.{both-true}
 use Rattle.run.specs.Run.{Start, withShown, showsByte}
 use Rattle.monitor.specs.Install.{writtenOver}
 use Rattle.monitor.specs.Routines.{routineWords}
+use Rattle.monitor.proofs.Modes.{plain-word, after-plain-load, always-taken, allowed-in-supervisor-mode}
+use Rattle.monitor.proofs.Modes.{by-plain-pointer}
 use Rattle.monitor.proofs.Execution.{Frame, Known, these, from, codesNumber, Cell, cell, View, psrAt, memoryAt}
 use Rattle.monitor.proofs.Execution.{machineAt, Gives, Shows, advance, Quiet, Leads}
 use Rattle.monitor.proofs.Execution.{leads-by-one, then, no-step}
@@ -86,15 +89,6 @@ same-branch mask h c l =
     let q : c % 8 ≡ c = omega arith in
     rw (p, q)
 
-all-taken : (x : ℕ) → isTaken 7 (codesOf x) ≡ true
-unfolding isTaken codesOf andBits
-all-taken x = go (eqb x 0) (ltb x 0x8000)
-  where
-    go : (z p : Bool) → isTaken 7 (cond z 2 (cond p 1 4)) ≡ true
-    go true p = refl
-    go false true = refl
-    go false false = refl
-
 taken-alike : (h : ℕ) (c : Known) (mask : ℕ) (i : Instruction) → testsAll i ≡ eqb mask 7
     → isTaken mask (h * 8 + codesNumber c) ≡ isTaken mask (codesFor c i)
 unfolding isTaken andBits
@@ -105,7 +99,7 @@ taken-alike h (from x) mask i e = same-branch mask h (codesOf x) (codesOf-below 
         (codesOf x))
     go true p q =
         let z : mask ≡ 7 = eqb-true mask 7 p in
-        rw (q, z) (all-taken x)
+        rw (q, z) (always-taken x (codesOf x) (omega (arith, codesOf-below x)))
     go false p q = rw q
 
 same-plan : (regs : List ℕ) (pc h : ℕ) (c : Known) (i : Instruction)
@@ -225,25 +219,8 @@ mayStep f room v = eqb (v .mcr) 0x8000 && (cellsFine (v .cells) && mayPerform f 
 
 -- ---- it is what the run does
 
-pub supervisor : (q c : ℕ) → q < 4096 → c < 8 → inUserMode (q * 8 + c) ≡ false
-unfolding inUserMode
-supervisor q c h l = lt-leb 0x8000 (q * 8 + c) (omega arith)
-
 recodes : (q c x : ℕ) → c < 8 → (q * 8 + c) / 8 * 8 + x ≡ q * 8 + x
 recodes q c x h = omega arith
-
--- An address below xFE00 is a plain word, and a load of it leaves keyboard and timer alone.
-pub plain-word : (a : ℕ) → a < 0xFE00 → isDevice a ≡ false
-unfolding isDeviceBy
-plain-word a h = rw (lt-leb 0xFE00 a h)
-
-pub plain-load-keeps-timer : (b status : ℕ) → b < 0xFE00 → timerStatusAfterLoad b status ≡ status
-unfolding timerStatusAfterLoad
-plain-load-keeps-timer b status plain = rw (ne-eqb b TSR (λ e. omega arith))
-
-pub plain-load-keeps : (b kbsr : ℕ) → b < 0xFE00 → kbsrAfterLoad b kbsr ≡ kbsr
-unfolding kbsrAfterLoad
-plain-load-keeps b kbsr plain = rw (ne-eqb b KBDR (λ e. omega arith))
 
 -- A routine runs in Supervisor mode, and the words that it uses are in the memory that it found.
 pub record Sound (f : Frame) : Type 0 where
@@ -283,10 +260,12 @@ loud f v b l = record {
 }
 
 module _ (f : Frame) (sound : Sound f) (v : View) (fine : cellsFine (v .cells) ≡ true) where
+  pub in-supervisor-mode : psrAt f v < 0x8000
+  in-supervisor-mode = omega (arith, sound .above, codes-below (v .codes))
+
   -- Supervisor mode may touch every address.
   pub all-allowed : (a : ℕ) → denied (psrAt f v) a ≡ false
-  unfolding deniedBy
-  all-allowed a = rw (supervisor (f .high) (codesNumber (v .codes)) (sound .above) (codes-below (v .codes)))
+  all-allowed a = allowed-in-supervisor-mode (psrAt f v) in-supervisor-mode a
 
   pub word-is : (a : ℕ) → getD (memoryAt f v) a 0 ≡ wordAt f v a
   word-is a = word-with (sound .intact) (v .cells) fine a
@@ -331,14 +310,13 @@ module _ (f : Frame) (sound : Sound f) (v : View) (fine : cellsFine (v .cells) �
   jumps pc d t = record { machine = refl; memory = refl; shown = refl }
 
   loads : (r b : ℕ) → b < 0xFE00 → Performs (Load r b) [] (valued v r (wordAt f v b) (next (v .pc)))
-  unfolding performBy loadToBy afterInstruction recoded afterLoad loadedValueBy
+  unfolding performBy loadToBy afterInstruction recoded loadedValueBy
   loads r b plain d t = record {
     machine = rw (
       all-allowed b,
       plain-word b plain,
       word-is b,
-      plain-load-keeps b (d .kbsr) plain,
-      plain-load-keeps-timer b (d .«timer_status») plain,
+      after-plain-load b (machineAt f v d t) plain,
       recoded-is (codesOf (wordAt f v b)),
     );
     memory = rw (all-allowed b);
@@ -354,59 +332,47 @@ module _ (f : Frame) (sound : Sound f) (v : View) (fine : cellsFine (v .cells) �
     shown = rw (all-allowed b, plain-word b plain);
   }
 
+  -- A pointer that is a plain word.
+  pub pointed : (b w : ℕ) (data-access : ℕ → Machine → List ℕ → Outcome) → b < 0xFE00 → wordAt f v b ≡ w
+      → (d : Devices) (t : ℕ)
+      → byPointer b data-access (machineAt f v d t) (memoryAt f v)
+      ≡ withReads (lentWord b) (data-access w (machineAt f v d t) (memoryAt f v))
+  pointed b w data-access plain is d t =
+      by-plain-pointer b data-access (machineAt f v d t) (memoryAt f v) in-supervisor-mode plain ∙ rw (word-is b, is)
+
   polls : (r b : ℕ) → b < 0xFE00 → wordAt f v b ≡ DSR
       → Performs (LoadBy r b) [] (valued v r (displayAt v) (next (v .pc)))
-  unfolding performBy byPointerBy withReads loadToBy afterInstruction recoded afterLoad loadedValueBy isDeviceBy
-      kbsrAfterLoad timerStatusAfterLoad deviceValue displayStatus displayIsReady
-  polls r b plain w d t = record {
-    machine = rw (
-      all-allowed b,
-      plain-word b plain,
-      word-is b,
-      w,
-      plain-load-keeps b (d .kbsr) plain,
-      plain-load-keeps-timer b (d .«timer_status») plain,
-      all-allowed DSR,
-      recoded-is (codesOf (displayAt v)),
-    );
-    memory = rw (all-allowed b, plain-word b plain, word-is b, w, all-allowed DSR);
-    shown = rw (all-allowed b, plain-word b plain, word-is b, w, all-allowed DSR);
-  }
+  unfolding performBy withReads loadToBy afterInstruction recoded afterLoad loadedValueBy isDeviceBy kbsrAfterLoad
+      timerStatusAfterLoad deviceValue displayStatus displayIsReady
+  polls r b plain w d t =
+      let at = pointed b DSR (loadTo r) plain w d t in
+      record {
+        machine = rw (at, all-allowed DSR, recoded-is (codesOf (displayAt v)));
+        memory = rw (at, all-allowed DSR);
+        shown = rw (at, all-allowed DSR);
+      }
 
   shows : (x b : ℕ) → b < 0xFE00 → wordAt f v b ≡ DDR → v .busy ≡ 0
       → Performs (StoreBy x b) ((x % 256) ∷ []) (showing v (x % 256))
-  unfolding performBy byPointerBy withReads storeAtBy afterInstruction recoded afterLoad loadedValueBy isDeviceBy
-      kbsrAfterLoad timerStatusAfterLoad storedBy deviceStore ddrStore displayIsReady
-  shows x b plain w ready d t = record {
-    machine = rw (
-      all-allowed b,
-      plain-word b plain,
-      word-is b,
-      w,
-      plain-load-keeps b (d .kbsr) plain,
-      plain-load-keeps-timer b (d .«timer_status») plain,
-      all-allowed DDR,
-    );
-    memory = rw (all-allowed b, plain-word b plain, word-is b, w, all-allowed DDR);
-    shown = rw (all-allowed b, plain-word b plain, word-is b, w, all-allowed DDR, eq-eqb (v .busy) 0 ready);
-  }
+  unfolding performBy withReads storeAtBy afterInstruction recoded isDeviceBy storedBy deviceStore ddrStore
+      displayIsReady
+  shows x b plain w ready d t =
+      let at = pointed b DDR (storeAt x) plain w d t in
+      record {
+        machine = rw (at, all-allowed DDR);
+        memory = rw (at, all-allowed DDR);
+        shown = rw (at, all-allowed DDR, eq-eqb (v .busy) 0 ready);
+      }
 
   clocks : (x b : ℕ) → b < 0xFE00 → wordAt f v b ≡ MCR → Performs (StoreBy x b) [] (clocked v x)
-  unfolding performBy byPointerBy withReads storeAtBy afterInstruction recoded afterLoad loadedValueBy isDeviceBy
-      kbsrAfterLoad timerStatusAfterLoad storedBy deviceStore mcrStore
-  clocks x b plain w d t = record {
-    machine = rw (
-      all-allowed b,
-      plain-word b plain,
-      word-is b,
-      w,
-      plain-load-keeps b (d .kbsr) plain,
-      plain-load-keeps-timer b (d .«timer_status») plain,
-      all-allowed MCR,
-    );
-    memory = rw (all-allowed b, plain-word b plain, word-is b, w, all-allowed MCR);
-    shown = rw (all-allowed b, plain-word b plain, word-is b, w, all-allowed MCR);
-  }
+  unfolding performBy withReads storeAtBy afterInstruction recoded isDeviceBy storedBy deviceStore mcrStore
+  clocks x b plain w d t =
+      let at = pointed b MCR (storeAt x) plain w d t in
+      record {
+        machine = rw (at, all-allowed MCR);
+        memory = rw (at, all-allowed MCR);
+        shown = rw (at, all-allowed MCR);
+      }
 
 -- ---- one step, and several
 

@@ -19,7 +19,7 @@ use Rattle.machine.specs.Keys.{readyAfter}
 use Rattle.machine.specs.Outcome.{withReads, afterInstruction}
 use Rattle.machine.specs.Devices.{KBSR, KBDR, isDeviceBy, deviceValue, loadedValueBy, kbsrAfterLoad}
 use Rattle.machine.specs.Devices.{timerStatusAfterLoad, afterLoad}
-use Rattle.machine.specs.Access.{loadToBy, byPointerBy}
+use Rattle.machine.specs.Access.{loadToBy, loadTo}
 use Rattle.machine.specs.Step.{performBy, perform}
 use Rattle.run.specs.Run.{Start}
 use Rattle.monitor.specs.Keys.{arrivedBy, statusAt}
@@ -27,9 +27,8 @@ use Rattle.monitor.proofs.KeyLaws.{ready-leaves-rest}
 use Rattle.monitor.proofs.Execution.{Frame, Known, from, View, memoryAt, machineAt, At, QuietStep, statusIn}
 use Rattle.monitor.proofs.Execution.{keyIn, Gives, Keyboard, advance-by, same-keyboard, Quiet, Leads, then}
 use Rattle.monitor.proofs.Intact.{cellsFine, wordAt}
-use Rattle.monitor.proofs.Instructions.{Sound, codesFor, planAt, by-plan, valued, silent, all-allowed, word-is}
-use Rattle.monitor.proofs.Instructions.{recoded-is, obeys-plan-at, plain-word, plain-load-keeps}
-use Rattle.monitor.proofs.Instructions.{plain-load-keeps-timer}
+use Rattle.monitor.proofs.Instructions.{Sound, codesFor, planAt, by-plan, valued, silent, all-allowed}
+use Rattle.monitor.proofs.Instructions.{pointed, recoded-is, obeys-plan-at}
 use Rattle.monitor.proofs.Entries.{within, recoded}
 use Rattle.monitor.proofs.Strings.{negative, positive}
 
@@ -52,35 +51,16 @@ module _ {s : Start} {since k : ℕ} (f : Frame) (sound : Sound f) (v : View) (g
     (a : At s since k f v) (still : QuietStep s k) where
   status-given : wordAt f v b ≡ KBSR → (d : Devices) (t x : ℕ) → d .kbsr ≡ x
       → Gives (perform (LoadBy r b) (machineAt f v d t) (memoryAt f v)) [] (v .busy) f (valued v r x (next (v .pc))) d t
-  unfolding performBy byPointerBy withReads loadToBy afterInstruction recodedPsr afterLoad loadedValueBy isDeviceBy
-      kbsrAfterLoad timerStatusAfterLoad deviceValue
-  status-given w d t x e = record {
-    machine = rw (
-      all-allowed f sound v fine b,
-      plain-word b plain,
-      word-is f sound v fine b,
-      w,
-      plain-load-keeps b (d .kbsr) plain,
-      plain-load-keeps-timer b (d .«timer_status») plain,
-      all-allowed f sound v fine KBSR,
-      ← e,
-      recoded-is f sound v fine (codesOf (d .kbsr)),
-    );
-    memory = rw (
-      all-allowed f sound v fine b,
-      plain-word b plain,
-      word-is f sound v fine b,
-      w,
-      all-allowed f sound v fine KBSR,
-    );
-    shown = rw (
-      all-allowed f sound v fine b,
-      plain-word b plain,
-      word-is f sound v fine b,
-      w,
-      all-allowed f sound v fine KBSR,
-    );
-  }
+  unfolding performBy withReads loadToBy afterInstruction recodedPsr afterLoad loadedValueBy isDeviceBy kbsrAfterLoad
+      timerStatusAfterLoad deviceValue
+  status-given w d t x e =
+      let at = pointed f sound v fine b KBSR (loadTo r) plain w d t in
+      let allowed = all-allowed f sound v fine KBSR in
+      record {
+        machine = rw (at, allowed, ← e, recoded-is f sound v fine (codesOf (d .kbsr)));
+        memory = rw (at, allowed);
+        shown = rw (at, allowed);
+      }
 
   pub loads-status : wordAt f v b ≡ KBSR → At s since (suc k) f (valued v r (statusIn s k v) (next (v .pc)))
   loads-status w =
@@ -97,36 +77,16 @@ module _ {s : Start} {since k : ℕ} (f : Frame) (sound : Sound f) (v : View) (g
   key-given : wordAt f v b ≡ KBDR → (d : Devices) (t : ℕ) → d .kbsr ≡ statusIn s k v → d .kbdr ≡ keyIn s k
       → Gives (perform (LoadBy r b) (machineAt f v d t) (memoryAt f v)) [] (v .busy) f (keyRead s k v r)
       (setKeyboard (statusIn s k v % 0x8000) (d .kbdr) d) t
-  unfolding performBy byPointerBy withReads loadToBy afterInstruction recodedPsr afterLoad loadedValueBy isDeviceBy
-      kbsrAfterLoad timerStatusAfterLoad deviceValue
-  key-given w d t p q = record {
-    machine = rw (
-      all-allowed f sound v fine b,
-      plain-word b plain,
-      word-is f sound v fine b,
-      w,
-      plain-load-keeps b (d .kbsr) plain,
-      plain-load-keeps-timer b (d .«timer_status») plain,
-      all-allowed f sound v fine KBDR,
-      ← p,
-      ← q,
-      recoded-is f sound v fine (codesOf (d .kbdr)),
-    );
-    memory = rw (
-      all-allowed f sound v fine b,
-      plain-word b plain,
-      word-is f sound v fine b,
-      w,
-      all-allowed f sound v fine KBDR,
-    );
-    shown = rw (
-      all-allowed f sound v fine b,
-      plain-word b plain,
-      word-is f sound v fine b,
-      w,
-      all-allowed f sound v fine KBDR,
-    );
-  }
+  unfolding performBy withReads loadToBy afterInstruction recodedPsr afterLoad loadedValueBy isDeviceBy kbsrAfterLoad
+      timerStatusAfterLoad deviceValue
+  key-given w d t p q =
+      let at = pointed f sound v fine b KBDR (loadTo r) plain w d t in
+      let allowed = all-allowed f sound v fine KBDR in
+      record {
+        machine = rw (at, allowed, ← p, ← q, recoded-is f sound v fine (codesOf (d .kbdr)));
+        memory = rw (at, allowed);
+        shown = rw (at, allowed);
+      }
 
   cleared : Keyboard s k (statusIn s k v % 0x8000) v (keyRead s k v r)
   unfolding readyAfter

@@ -2,6 +2,7 @@
 pub mod VectorLaws
 pub mod InstallLaws
 pub mod KeyLaws
+pub mod Modes
 pub mod Execution
 pub mod Intact
 pub mod UseLaws
@@ -24,5 +25,3 @@ pub mod Halt
 pub mod Puts
 pub mod In
 pub mod Putsp
-pub mod Examples
-pub mod PremisesCanBeMet

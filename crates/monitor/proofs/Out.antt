@@ -21,7 +21,7 @@ use Rattle.monitor.proofs.Intact.{monitor-word}
 use Rattle.monitor.proofs.UseLaws.{with-vector-below, out-below}
 use Rattle.monitor.proofs.Instructions.{Sound, steppedBy, runs, one-more-byte, computing}
 use Rattle.monitor.proofs.Entries.{calledFrame, called-sound, Polls, within, waits}
-use Rattle.monitor.proofs.Calls.{is-intact, quiet-steps, was-uninterrupted, call-stands, Eight, eight, begun}
+use Rattle.monitor.proofs.Calls.{is-intact, quiet-steps, was-uninterrupted, Eight, eight, begun}
 use Rattle.monitor.proofs.Calls.{routine-begins, AtReturn, cellsWithin, backFrame, backView, at-back}
 use Rattle.monitor.proofs.Calls.{comes-back, none-read}
 
@@ -115,7 +115,7 @@ module _ (user : Bool) (s : Start) (n : ℕ) (c : Calls 0x21 outCode user s n) (
   unfolding returning ready polling computing
   the-byte = rw (x .are)
 
-  five : backView uses user s (returning user s x) .busy ≡ 5
+  five : returning user s x .busy - 1 ≡ 5
   unfolding returning ready polling computing
   five = refl
 
@@ -126,16 +126,13 @@ module _ (user : Bool) (s : Start) (n : ℕ) (c : Calls 0x21 outCode user s n) (
   at-end : At s 0 (j + 1) (backFrame uses user s) (backView uses user s (returning user s x))
   at-end =
       at-back uses user s n j (returning user s x) (c .begins) quiet at-rti (at-return user s x) enough 0x2FFD
-      stack-only (s .machine .regs) restored
+      stack-only (s .machine .regs) restored 5 five
 
-  five-left : callOf s (j + 1) .machine .devices .busy ≡ 5
-  five-left = rw (call-stands at-end n (c .begins .accepted) enough) five
-
-  resumed : Resumes s n (j + 1) ((getD (s .machine .regs) 0 0 % 256) ∷ []) 0x2FFD (s .machine .regs) (notRead s)
+  resumed : Resumes s n (j + 1) ((getD (s .machine .regs) 0 0 % 256) ∷ []) 5 0x2FFD (s .machine .regs) (notRead s)
   resumed =
-      subst (λ (bytes : List ℕ). Resumes s n (j + 1) bytes 0x2FFD (s .machine .regs) (notRead s)) the-byte
+      subst (λ (bytes : List ℕ). Resumes s n (j + 1) bytes 5 0x2FFD (s .machine .regs) (notRead s)) the-byte
       (comes-back uses user s n j (returning user s x) (c .begins) quiet at-rti (at-return user s x) enough 0x2FFD
-      stack-only (s .machine .regs) restored (notRead s)
+      stack-only (s .machine .regs) restored 5 five (notRead s)
       (none-read s (returning user s x) (untouched .0) (untouched .1)))
 
 pub out-resumes : OutResumes
@@ -203,8 +200,7 @@ module _ (s : Start) (n : ℕ) (c : CallsOut s n) (none : NoInterrupt s (outStep
         kbsr = r .kbsr;
         kbdr = l .kbdr;
         mcr = r .mcr ∙ sym (c .mcr);
-        busy = rw (all-steps true s n (calls s n c) (c .free-byte) few none x) at
-            (five-left true s n (calls s n c) (c .free-byte) few none x);
+        busy = l .display;
         timer = l .timer;
         clock = l .clock;
         words-below = shorter (callOf s (outStepsOf s) .memory) (s .memory) (l .words-below);

@@ -248,6 +248,13 @@ module _ (user : Bool) (s : Start) (x : Eight (s .machine .regs)) where
 
 -- ---- the theorem
 
+-- The display has got ready by the end.
+runs-out : (busy look : ℕ) → busy ≤ 6 → busy - look - 1 - 1 - 1 - 1 - 1 - 1 - 1 ≡ 0
+runs-out busy look few = last (busy - look - 1) (omega arith)
+  where
+    last : (left : ℕ) → left ≤ 6 → left - 1 - 1 - 1 - 1 - 1 - 1 ≡ 0
+    last left few = omega arith
+
 five-less : (busy : ℕ) → busy - 1 - 1 - 1 - 1 - 1 ≡ busy - 5
 five-less busy = omega arith
 
@@ -325,11 +332,15 @@ module _ (user : Bool) (s : Start) (n : ℕ) (c : Calls 0x22 putsCode user s n) 
         (restores user s x bound quiet sound mode b (seen .r₂) (lowBytes words) (all .busy - lookSteps user b - 1)))
         .on (omega arith) (at-look (omega arith))
 
-    comes : bound ≡ j + 1 → j + 1 ≤ n → Resumes s n (j + 1) (lowBytes words) 0x2FFB (s .machine .regs) (notRead s)
+    counted : returning .busy - 1 ≡ 0
+    unfolding returning computing
+    counted = runs-out (all .busy) (lookSteps user b) (all .few)
+
+    comes : bound ≡ j + 1 → j + 1 ≤ n → Resumes s n (j + 1) (lowBytes words) 0 0x2FFB (s .machine .regs) (notRead s)
     unfolding returning computing
     comes e le =
         comes-back uses user s n j returning (c .begins) (rw e at quiet) (at-rti (omega arith)) at-return le 0x2FFB refl
-        (s .machine .regs) same-registers (notRead s) (none-read s returning refl refl)
+        (s .machine .regs) same-registers 0 counted (notRead s) (none-read s returning refl refl)
 
 -- ---- one that does not
 
@@ -365,10 +376,10 @@ module _ (s : Start) (n : ℕ) (c : Calls 0x22 putsCode true s n) (x : Eight (s 
       (stops true s x total quiet routine-sound (c .begins .mode) b (bad .r₁) (bad .r₂) (bad .codes) (lowBytes words))
       .on (omega arith) (at-look true s n c x words b string room total (omega arith) quiet (omega arith))
 
-  refuses : total < n → Halts s n total (lowBytes words) 0x2FFB
+  refuses : total < n → Halts s n total (lowBytes words) 0 0x2FFB
   unfolding stopped computing
   refuses more =
-      halts at-stop n (c .begins) 0x2FFB refl refl refl refl refl more (rw (x .are)) refl refl refl refl refl
+      halts at-stop n (c .begins) 0x2FFB refl refl refl refl refl 0 refl more (rw (x .are)) refl refl refl refl refl
 
 pub puts-shows : PutsShows
 puts-shows = record {

@@ -555,6 +555,13 @@ module _ (user : Bool) (s : Start) (x : Eight (s .machine .regs)) where
 
 -- ---- the theorem
 
+-- The display has got ready by the end.
+runs-out : (busy look : ℕ) → busy ≤ 6 → busy - look - 1 - 1 - 1 - 1 - 1 - 1 - 1 - 1 ≡ 0
+runs-out busy look few = last (busy - look - 1 - 1) (omega arith)
+  where
+    last : (left : ℕ) → left ≤ 6 → left - 1 - 1 - 1 - 1 - 1 - 1 ≡ 0
+    last left few = omega arith
+
 six-less : (busy : ℕ) → busy ≤ 8 → busy - 1 - 1 - 1 - 1 - 1 - 1 ≤ 6
 six-less busy h = five-less (busy - 1) (omega arith)
   where
@@ -637,11 +644,15 @@ module _ (user : Bool) (s : Start) (n : ℕ) (c : Calls 0x24 putspCode user s n)
         (restores user s x bound quiet sound mode (all .r₃) b (seen .r₂) (pairBytes words) (spent - 1)))
         .on (omega arith) (at-look (omega arith))
 
-    comes : bound ≡ j + 1 → j + 1 ≤ n → Resumes s n (j + 1) (pairBytes words) 0x2FFA (s .machine .regs) (notRead s)
+    counted : returning .busy - 1 ≡ 0
+    unfolding returning computing
+    counted = runs-out (all .busy) (lookSteps user b) (all .few)
+
+    comes : bound ≡ j + 1 → j + 1 ≤ n → Resumes s n (j + 1) (pairBytes words) 0 0x2FFA (s .machine .regs) (notRead s)
     unfolding returning computing
     comes e le =
         comes-back uses user s n j returning (c .begins) (rw e at quiet) (at-rti (omega arith)) at-return le 0x2FFA refl
-        (s .machine .regs) same-registers (notRead s) (none-read s returning refl refl)
+        (s .machine .regs) same-registers 0 counted (notRead s) (none-read s returning refl refl)
 
 -- ---- one that does not
 
@@ -680,10 +691,10 @@ module _ (s : Start) (n : ℕ) (c : Calls 0x24 putspCode true s n) (x : Eight (s
       (pairBytes words))
       .on (omega arith) (at-look true s n c x words b string fit room total (omega arith) quiet (omega arith))
 
-  refuses : total < n → Halts s n total (pairBytes words) 0x2FFA
+  refuses : total < n → Halts s n total (pairBytes words) 0 0x2FFA
   unfolding stopped computing
   refuses more =
-      halts at-stop n (c .begins) 0x2FFA refl refl refl refl refl more (rw (x .are)) refl refl refl refl refl
+      halts at-stop n (c .begins) 0x2FFA refl refl refl refl refl 0 refl more (rw (x .are)) refl refl refl refl refl
 
 pub putsp-shows : PutspShows
 putsp-shows = record {

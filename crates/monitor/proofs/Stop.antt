@@ -1,11 +1,13 @@
 -- STOP: two steps from x027C on. The run that goes on makes three.
-use Prim.Native.Nat.{ℕ, _+_, _*_, _/_, _%_, _≤_, _<_}
+use Prim.Native.Nat.{ℕ, _+_, _-_, _*_, _/_, _%_, _≤_, _<_}
 use native.Mathlib.Omega.{arith}
 use mathlib.Core.Path.{_≡_, refl, sym, ap, subst, _∙_}
-use mathlib.Core.Bool.{Bool, true}
+use mathlib.Core.Bool.{Bool, true, false}
 use mathlib.Core.List.{List, [], _∷_}
 use lib.ListN.{getD}
 use lib.Seq.{getD-take}
+use Rattle.word.specs.Reading.{readOf}
+use Rattle.word.specs.declared.Instruction.the-variants.{Reserved}
 use Rattle.machine.specs.Words.{next}
 use Rattle.machine.specs.Psr.{codesOf}
 use Rattle.machine.specs.Outcome.{Reason, privilege, illegal, access, vectorOf}
@@ -23,7 +25,7 @@ use Rattle.monitor.proofs.UseLaws.{stop-below}
 use Rattle.monitor.proofs.Instructions.{Sound, steppedBy, runs, computing}
 use Rattle.monitor.proofs.Entries.{calledFrame, called-sound, startFrame, at-start-with}
 use Rattle.monitor.proofs.Calls.{is-intact, quiet-steps, call-halts, Eight, eight, begun, halts}
-use Rattle.monitor.proofs.Calls.{routine-begins, handler-begins}
+use Rattle.monitor.proofs.Calls.{routine-begins, reserved-begins, handler-begins, unread}
 
 -- Halted, from the first word of STOP on.
 module _ (vector : ℕ) (user : Bool) (s : Start) (n : ℕ) (b : Begins (withVector vector stopCode) user s n)
@@ -41,16 +43,18 @@ module _ (vector : ℕ) (user : Bool) (s : Start) (n : ℕ) (b : Begins (withVec
       runs quiet f (called-sound (withVector vector stopCode) user s (is-intact s n b)) 0 (omega arith) 2
       (begun s x 0x027C pc) refl .on (omega arith) a
 
-  stop-halts : Halts s n 3 [] 0x2FFE
+  stop-halts : Halts s n 3 [] (s .machine .devices .busy - 3) 0x2FFE
   unfolding computing
-  stop-halts = halts at-stop n b 0x2FFE refl refl refl refl refl more (rw (x .are)) refl refl refl refl refl
+  stop-halts =
+      halts at-stop n b 0x2FFE refl refl refl refl refl (s .machine .devices .busy - 3) (omega arith) more (rw (x .are))
+      refl refl refl refl refl
 
 quiet-three : {uses : ℕ → Bool} {user : Bool} (s : Start) (n : ℕ) → Begins uses user s n → 3 < n → NoInterrupt s 3
     → Quiet s 0 3
 quiet-three s n b more none = quiet-steps s n 3 0 (b .accepted) (omega arith) none
 
 other-trap-halts : (vector : ℕ) → OtherTrap vector → (user : Bool) (s : Start) (n : ℕ) → Calls vector stopCode user s n
-    → 3 < n → NoInterrupt s 3 → Halts s n 3 [] 0x2FFE
+    → 3 < n → NoInterrupt s 3 → Halts s n 3 [] (s .machine .devices .busy - 3) 0x2FFE
 other-trap-halts vector other user s n c more none =
     let b = c .begins in
     let x = eight (s .machine .regs) (b .registers) in
@@ -60,7 +64,7 @@ other-trap-halts vector other user s n c more none =
     (sym (other-trap ours vector (other .no-service) (other .below))))
 
 exception-halts : (reason : Reason) → 0x0100 ≤ vectorOf reason → vectorOf reason < 0x0103 → (s : Start) (n : ℕ)
-    → Raises reason stopCode s n → 3 < n → NoInterrupt s 3 → Halts s n 3 [] 0x2FFE
+    → Raises reason stopCode s n → 3 < n → NoInterrupt s 3 → Halts s n 3 [] (s .machine .devices .busy - 3) 0x2FFE
 exception-halts reason least most s n r more none =
     let b = r .begins in
     let x = eight (s .machine .regs) (b .registers) in
@@ -69,10 +73,20 @@ exception-halts reason least most s n r more none =
     (handler-begins stopCode s n 3 x reason 0x027C r quiet (omega arith) (omega arith)
     (sym (exception-word ours (vectorOf reason) least most)))
 
+illegal-halts : (s : Start) (n reserved : ℕ) → Begins (withVector (vectorOf illegal) stopCode) false s n
+    → readOf (getD (s .memory) (s .machine .pc) 0) ≡ Reserved reserved → 3 < n → NoInterrupt s 3
+    → Halts s n 3 [] (s .machine .devices .busy - 3) 0x2FFE
+illegal-halts s n reserved b word more none =
+    let x = eight (s .machine .regs) (b .registers) in
+    let quiet = quiet-three s n b more none in
+    stop-halts (vectorOf illegal) false s n b x (s .machine .pc) more quiet
+    (reserved-begins stopCode s n 3 x reserved 0x027C b word quiet (omega arith)
+    (sym (exception-word ours (vectorOf illegal) (omega arith) (omega arith))))
+
 -- ---- the host lets the machine go on
 
-module _ (s : Start) (n k : ℕ) (bytes : List ℕ) (low : ℕ) (words : HasWords stopCode (s .memory))
-    (h : Halts s n k bytes low) (above : 0x02A5 ≤ low) (s′ : Start) (n′ : ℕ) (g : GoesOn s n s′ n′)
+module _ (s : Start) (n k : ℕ) (bytes : List ℕ) (busy low : ℕ) (words : HasWords stopCode (s .memory))
+    (h : Halts s n k bytes busy low) (above : 0x02A5 ≤ low) (s′ : Start) (n′ : ℕ) (g : GoesOn s n s′ n′)
     (more : 3 < n′) (none : NoInterrupt s′ 3) where
   still-intact : Intact stopCode (s′ .memory)
   still-intact = record {
@@ -85,6 +99,9 @@ module _ (s : Start) (n k : ℕ) (bytes : List ℕ) (low : ℕ) (words : HasWord
         ∙ words a used);
     size = accepted-is-acceptable s′ n′ (g .accepted) .size;
   }
+
+  pc-is : s′ .machine .pc ≡ 0x027E
+  pc-is = rw (g .machine) (h .pc)
 
   psr-is : s′ .machine .psr ≡ s .machine .psr / 8 % 4096 * 8 + 1
   psr-is = rw (g .machine) (h .psr)
@@ -116,12 +133,11 @@ module _ (s : Start) (n k : ℕ) (bytes : List ℕ) (low : ℕ) (words : HasWord
     unfolding codesOf
     at-waiting =
         let one : 1 ≡ s′ .machine .psr % 8 = omega (arith, psr-is) in
-        let pc : s′ .machine .pc ≡ 0x027E = rw (g .machine) (h .pc) in
         let mcr : s′ .machine .devices .mcr ≡ 0x8000 = rw (g .machine) in
         subst (λ (v : View). At s′ 0 0 after v)
         (λ i. record {
           regs = regs-are i;
-          pc = pc i;
+          pc = pc-is i;
           codes = from 1;
           cells = [];
           bytes = [];
@@ -154,7 +170,15 @@ module _ (s : Start) (n k : ℕ) (bytes : List ℕ) (low : ℕ) (words : HasWord
           registers = rw q (sym regs-are);
           saved-ssp = rw q;
           saved-usp = rw q;
+          pc = rw q (sym pc-is);
+          psr = rw q (omega (arith, psr-is));
           memory = rw q;
+          keys = rw q (at-stop-again .arrived-by);
+          kbsr = rw q (unread at-stop-again refl refl);
+          kbdr = rw q (at-stop-again .kbdr);
+          timer = rw q (at-stop-again .timer);
+          display = rw q (omega arith);
+          clock = rw q (at-stop-again .ticks);
         }
 
 pub stop-halts-all : StopHalts
@@ -163,6 +187,7 @@ stop-halts-all = record {
   privilege-exception = exception-halts privilege (omega arith) (omega arith);
   illegal-exception = exception-halts illegal (omega arith) (omega arith);
   access-exception = exception-halts access (omega arith) (omega arith);
-  again = λ s n k bytes low registers words h above s′ n′ g more none.
-      halts-again s n k bytes low words h above s′ n′ g more none (eight (s .machine .regs) registers);
+  illegal-in-supervisor-mode = illegal-halts;
+  again = λ s n k bytes busy low registers words h above s′ n′ g more none.
+      halts-again s n k bytes busy low words h above s′ n′ g more none (eight (s .machine .regs) registers);
 }

@@ -64,10 +64,11 @@ readIn j s keys =
     readyAfter (take (keys - arrivedBy s (suc j)) (drop (arrivedBy s (suc j)) (s .bytes)))
     (s .machine .devices .kbsr % 0x8000)
 
--- What the routine leaves of record, memory and output in k steps: it showed these bytes and nothing else, and stored
--- to no word but those of the stack from `low` up to x2FFF.
-pub record Leaves (s : Start) (k : ℕ) (bytes : List ℕ) (low : ℕ) (e : End) : Type 0 where
+-- What the routine leaves of record, memory and output in k steps: it showed these bytes and nothing else, stored to no
+-- word but those of the stack from `low` up to x2FFF, and the display's count is `busy`.
+pub record Leaves (s : Start) (k : ℕ) (bytes : List ℕ) (busy low : ℕ) (e : End) : Type 0 where
   pub steps : e .steps ≡ k
+  pub keys : e .keys ≡ arrivedBy s k
   pub shown : e .shown ≡ length bytes
   pub output : e .output ≡ writtenOver bytes (s .output)
   pub saved-ssp : e .machine .«saved_ssp» ≡ s .machine .«saved_ssp»
@@ -76,15 +77,17 @@ pub record Leaves (s : Start) (k : ℕ) (bytes : List ℕ) (low : ℕ) (e : End)
       ≡ cond (inUserMode (s .machine .psr)) (getD (s .machine .regs) 6 0) (s .machine .«saved_usp»)
   pub kbdr : e .machine .devices .kbdr ≡ lastKey (take (e .keys) (s .bytes)) (s .machine .devices .kbdr)
   pub timer : timerOf (e .machine .devices) ≡ tickedBy k (timerOf (s .machine .devices))
+  pub display : e .machine .devices .busy ≡ busy
   pub clock : e .machine .clock ≡ s .machine .clock + k
   pub words-below : take low (e .memory) ≡ take low (s .memory)
   pub words-above : drop 0x3000 (e .memory) ≡ drop 0x3000 (s .memory)
 
 -- The call of n steps makes k of them, and after those the caller has resumed at Next, with its PSR as before, these
 -- registers, and KBSR by the keys that have arrived.
-pub record Resumes (s : Start) (n k : ℕ) (bytes : List ℕ) (low : ℕ) (registers : List ℕ) (status : ℕ → ℕ) : Type 0 where
+pub record Resumes (s : Start) (n k : ℕ) (bytes : List ℕ) (busy low : ℕ) (registers : List ℕ) (status : ℕ → ℕ) :
+    Type 0 where
   pub made : k ≤ callOf s n .steps
-  pub leaves : Leaves s k bytes low (callOf s k)
+  pub leaves : Leaves s k bytes busy low (callOf s k)
   pub ending : callOf s k .ending ≡ Done
   pub pc : callOf s k .machine .pc ≡ next (s .machine .pc)
   pub psr : callOf s k .machine .psr ≡ s .machine .psr
@@ -93,8 +96,8 @@ pub record Resumes (s : Start) (n k : ℕ) (bytes : List ℕ) (low : ℕ) (regis
   pub kbsr : callOf s k .machine .devices .kbsr ≡ status (callOf s k .keys)
 
 -- The call of n steps makes k of them and is then halted, with R0 to R5 and R7 as before.
-pub record Halts (s : Start) (n k : ℕ) (bytes : List ℕ) (low : ℕ) : Type 0 where
-  pub leaves : Leaves s k bytes low (callOf s n)
+pub record Halts (s : Start) (n k : ℕ) (bytes : List ℕ) (busy low : ℕ) : Type 0 where
+  pub leaves : Leaves s k bytes busy low (callOf s n)
   pub ending : callOf s n .ending ≡ Halted
   pub mcr : callOf s n .machine .devices .mcr ≡ 0
   pub kbsr : callOf s n .machine .devices .kbsr ≡ notRead s (callOf s n .keys)

@@ -1,10 +1,13 @@
 -- GETC: waits for a key; R0 becomes the key. Nothing is shown.
-use Prim.Native.Nat.{ℕ, suc, _+_, _*_, _/_, _≤_, _<_}
+use Prim.Native.Nat.{ℕ, suc, _+_, _-_, _*_, _/_, _≤_, _<_}
 use mathlib.Core.Path.{_≡_}
-use mathlib.Core.Bool.{Bool}
+use mathlib.Core.Bool.{Bool, true}
 use mathlib.Core.List.{List, [], _∷_}
 use lib.ListN.{length, set}
+use lib.Pow.{areBytes}
+use Rattle.run.specs.declared.Admission.the-variants.{Accepted}
 use Rattle.run.specs.Run.{Start}
+use Rattle.run.specs.Refusals.{admissionOf}
 use Rattle.monitor.specs.Uses.{getcCode}
 use Rattle.monitor.specs.Keys.{arrivedBy, statusAt, keyAt}
 use Rattle.monitor.specs.Calls.{Calls, NoInterrupt, readIn, Resumes}
@@ -23,8 +26,10 @@ pub record GetcReads : Type 0 where
   -- before, nothing is shown, ready is cleared, and no word is changed but x2FFE and x2FFF.
   pub resumes : (user : Bool) (s : Start) (n turns : ℕ) → Calls 0x20 getcCode user s n → KeyComes s 1 turns
       → getcSteps turns ≤ n → NoInterrupt s (getcSteps turns)
-      → Resumes s n (getcSteps turns) [] 0x2FFE (set (s .machine .regs) 0 (keyAt s (3 + 2 * turns)))
-      (readIn (3 + 2 * turns) s)
+      → Resumes s n (getcSteps turns) [] (s .machine .devices .busy - getcSteps turns) 0x2FFE
+      (set (s .machine .regs) 0 (keyAt s (3 + 2 * turns))) (readIn (3 + 2 * turns) s)
+  -- "The high eight bits of R0 are cleared."
+  pub is-byte : (s : Start) (n j : ℕ) → admissionOf s n ≡ Accepted → areBytes (s .bytes) ≡ true → keyAt s j < 256
   -- a key that is ready at the call is found at once, and is the one in KBDR unless another arrives on the way
   pub ready : (s : Start) → 0x8000 ≤ s .machine .devices .kbsr → KeyComes s 1 0
   pub ready-key : (s : Start) (j : ℕ) → arrivedBy s (suc j) ≡ 0 → keyAt s j ≡ s .machine .devices .kbdr

@@ -20,4 +20,4 @@ haltSteps = 86
 -- changed but x2FFB to x2FFF.
 abbrev pub HaltShows : Type 0
 HaltShows = (user : Bool) (s : Start) (n : ℕ) → Calls 0x25 haltCode user s n → haltSteps < n → 7 ≤ length (s .output)
-    → NoInterrupt s haltSteps → Halts s n haltSteps message 0x2FFB
+    → NoInterrupt s haltSteps → Halts s n haltSteps message 0 0x2FFB

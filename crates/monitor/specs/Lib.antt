@@ -16,4 +16,3 @@ pub mod Halt
 pub mod Puts
 pub mod In
 pub mod Putsp
-pub mod Examples

@@ -55,15 +55,15 @@ refusedSteps s words = stringSteps true s words + 14
 
 pub record PutsShows : Type 0 where
   -- A string that ends in a word x0000: its low bytes are shown in order, and nothing else; the caller resumes with all
-  -- registers as before; no word is changed but x2FFB to x2FFF.
+  -- registers as before; no word is changed but x2FFB to x2FFF. The display is ready again.
   pub shows : (user : Bool) (s : Start) (n : ℕ) → Calls 0x22 putsCode user s n → (words : List ℕ) (b : ℕ)
       → StringFrom (mayRead user 0x2FFB) (s .memory) (r0 s) words b → mayRead user 0x2FFB b ≡ true
       → getD (s .memory) b 0 ≡ 0 → length words ≤ length (s .output) → putsSteps user s words b ≤ n
       → NoInterrupt s (putsSteps user s words b)
-      → Resumes s n (putsSteps user s words b) (lowBytes words) 0x2FFB (s .machine .regs) (notRead s)
+      → Resumes s n (putsSteps user s words b) (lowBytes words) 0 0x2FFB (s .machine .regs) (notRead s)
   -- One of a caller in User mode that begins in a privileged word or runs into one: what came before is shown, and the
   -- machine halts.
   pub is-refused : (s : Start) (n : ℕ) → Calls 0x22 putsCode true s n → (words : List ℕ) (b : ℕ)
       → StringFrom (mayRead true 0x2FFB) (s .memory) (r0 s) words b → privileged b ≡ true → b < 65536
       → length words ≤ length (s .output) → refusedSteps s words < n → NoInterrupt s (refusedSteps s words)
-      → Halts s n (refusedSteps s words) (lowBytes words) 0x2FFB
+      → Halts s n (refusedSteps s words) (lowBytes words) 0 0x2FFB

@@ -57,9 +57,9 @@ pub record PutspShows : Type 0 where
       → StringFrom (mayRead user 0x2FFA) (s .memory) (r0 s) words b → AreWords words → mayRead user 0x2FFA b ≡ true
       → getD (s .memory) b 0 ≡ 0 → length (pairBytes words) ≤ length (s .output) → putspSteps user (r0 s) words b ≤ n
       → NoInterrupt s (putspSteps user (r0 s) words b)
-      → Resumes s n (putspSteps user (r0 s) words b) (pairBytes words) 0x2FFA (s .machine .regs) (notRead s)
+      → Resumes s n (putspSteps user (r0 s) words b) (pairBytes words) 0 0x2FFA (s .machine .regs) (notRead s)
   pub is-refused : (s : Start) (n : ℕ) → Calls 0x24 putspCode true s n → (words : List ℕ) (b : ℕ)
       → StringFrom (mayRead true 0x2FFA) (s .memory) (r0 s) words b → AreWords words → privileged b ≡ true → b < 65536
       → length (pairBytes words) ≤ length (s .output) → refusedPairSteps (r0 s) words < n
       → NoInterrupt s (refusedPairSteps (r0 s) words)
-      → Halts s n (refusedPairSteps (r0 s) words) (pairBytes words) 0x2FFA
+      → Halts s n (refusedPairSteps (r0 s) words) (pairBytes words) 0 0x2FFA

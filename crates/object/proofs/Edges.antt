@@ -1,4 +1,4 @@
--- The limits of files and ranges, by the conditions of acceptance; and the examples, by computation.
+-- The limits of files and ranges, by the conditions of acceptance.
 use Prim.Native.Nat.{_+_, _%_}
 use native.Mathlib.Nat.{add-zero}
 use native.Mathlib.Omega.{arith}
@@ -10,7 +10,7 @@ use Rattle.object.specs.File.{word, wordsOf, bytesOf, originIn, wordsIn}
 use Rattle.object.specs.Calls.{wrongSize, wrongLength, beyondMemory, tooShort, loadRefusal, saveRefusal, Loading}
 use Rattle.object.specs.Calls.{loadAccepted, loadBy, loadOf, Saving, saveAccepted, saveBy, saveOf}
 use Rattle.object.specs.Edges.{FileWithoutWords, RangeWithoutWords, RangeToTheEnd, FileToTheEnd}
-use Rattle.object.specs.Edges.{WrongSizeFirst, ExamplesHold}
+use Rattle.object.specs.Edges.{WrongSizeFirst}
 use Rattle.object.proofs.Acceptance.{words-in, readable-is-loaded, writable-is-saved}
 
 pub file-without-words : FileWithoutWords
@@ -63,8 +63,3 @@ wrong-size-first memory h = (
   λ file. rw (ne-eqb (length memory) 65536 h),
   λ origin count output. rw (ne-eqb (length memory) 65536 h),
 )
-
-pub examples-hold : ExamplesHold
-unfolding wordsOf bytesOf wrongSize wrongLength beyondMemory tooShort loadRefusal loadAccepted loadBy loadOf saveRefusal
-    saveAccepted saveBy saveOf
-examples-hold = refl

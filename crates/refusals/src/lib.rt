@@ -49,7 +49,7 @@ fn undefined_devices(d: Devices) -> bool
     undefined_timer(d.timer_status, d.timer_interval, d.timer_count)
 }
 
-// 12: an undefined bit, a busy count above 8, or a clock above 2^48.
+// 12: an undefined bit, a count of display or timer that no step leaves, or a clock above 2^48.
 fn undefined_record(m: Machine) -> bool
     ensures { λ r. ⌜ r ≡ undefinedRecord m ⌝ }
 {

@@ -3,7 +3,7 @@ use mathlib.Core.Path.{refl}
 use lib.ListN.{length}
 use borrow.Author.Tests.{eq-eqb, ne-eqb}
 use Rattle.run.specs.CallExamples.{CallExamplesHold}
-use Rattle.run.proofs.Examples.{opened}
+use Rattle.run.proofs.Opened.{opened}
 
 pub call-examples-hold : CallExamplesHold
 unfolding opened
@@ -12,6 +12,8 @@ call-examples-hold = record {
   fresh-in-supervisor-mode = refl;
   refusals = λ memory size. rw (eq-eqb (length memory) 65536 size);
   memory-size-first = λ memory size. rw (ne-eqb (length memory) 65536 size);
+  admission-numbers = refl;
+  admission-indices = refl;
   done-with-no-step = refl;
   halted-before-full = refl;
   full-with-a-key-due = refl;

@@ -1,4 +1,5 @@
 -- The laws of runs and calls, and the proofs of the theorems.
+pub mod Opened
 pub mod RefusedCalls
 pub mod RunLaws
 pub mod RunKeeps
@@ -6,15 +7,11 @@ pub mod Acceptance
 pub mod RefusalLaws
 pub mod KeyTimes
 pub mod KeyLists
-pub mod Examples
-pub mod CallExamples
 pub mod Continuing
 pub mod Bounds
+pub mod CallExamples
 pub mod Noninterference
-pub mod TwoStarts
 pub mod RunsAlike
 pub mod SecondEdition
-pub mod SecondEditionRuns
 pub mod AlteredWords
 pub mod OneAlteredWord
-pub mod AlteredWordRuns

@@ -9,14 +9,15 @@ use Rattle.machine.specs.declared.Machine.{Machine}
 use Rattle.machine.specs.declared.Devices.{Devices}
 use Rattle.machine.specs.Record.{Timer, withRegisters}
 use Rattle.machine.specs.Rows.{withWord}
-use Rattle.run.specs.declared.Refusal.the-variants.{MemorySize}
+use Rattle.run.specs.declared.Refusal.the-variants.{MemorySize, UndefinedRecord, TooManySteps, UnequalLists}
+use Rattle.run.specs.declared.Refusal.the-variants.{TimeBelowClock, TimesOutOfOrder}
 use Rattle.run.specs.declared.Admission.{Admission}
 use Rattle.run.specs.declared.Admission.the-variants.{Accepted, Rejected}
 use Rattle.run.specs.declared.Ending.{Ending}
 use Rattle.run.specs.declared.Ending.the-variants.{Done, Halted, OutputFull}
 use Rattle.run.specs.Fresh.{freshOf}
 use Rattle.run.specs.Run.{End, runOf}
-use Rattle.run.specs.Refusals.{admissionOf, refusalNumber, refusalIndex}
+use Rattle.run.specs.Refusals.{admissionOf, admissionNumber, admissionIndex}
 use Rattle.run.specs.Call.{startOf}
 
 -- ---- refusals
@@ -144,10 +145,15 @@ calls =
     ∷ atClock 1000 5 (1002 ∷ 1001 ∷ []) 1 14
     ∷ []
 
+-- Every case of an admission; of two cases the entry that offends.
+abbrev pub admissions : List Admission
+admissions =
+    Accepted ∷ Rejected MemorySize ∷ Rejected UndefinedRecord ∷ Rejected TooManySteps ∷ Rejected UnequalLists
+    ∷ Rejected (TimeBelowClock 3) ∷ Rejected (TimesOutOfOrder 4) ∷ []
+
 -- The row with this refusal and index.
 abbrev pub withAnswer : Admission → Asked → Asked
-withAnswer Accepted (asked m n times bytes refusal index) = asked m n times bytes 0 0
-withAnswer (Rejected r) (asked m n times bytes refusal index) = asked m n times bytes (refusalNumber r) (refusalIndex r)
+withAnswer a (asked m n times bytes refusal index) = asked m n times bytes (admissionNumber a) (admissionIndex a)
 
 -- The row with the answer that its call with this memory comes to.
 abbrev pub answered : List ℕ → Asked → Asked
@@ -244,6 +250,9 @@ pub record CallExamplesHold : Type 0 where
   pub memory-size-first :
       (memory : List ℕ) → (length memory ≡ 65536 → ⊥)
       → map (answered memory) calls ≡ map (withAnswer (Rejected MemorySize)) calls
+  -- The number of each case, and its index: "every other answer has index 0".
+  pub admission-numbers : map admissionNumber admissions ≡ 0 ∷ 11 ∷ 12 ∷ 13 ∷ 14 ∷ 15 ∷ 19 ∷ []
+  pub admission-indices : map admissionIndex admissions ≡ 0 ∷ 0 ∷ 0 ∷ 0 ∷ 0 ∷ 3 ∷ 4 ∷ []
   -- The stops, "tested before each step in this order: done, halted, output full".
   pub done-with-no-step : stores 0 [] 0 ≡ answers 0 0 0 0x0400 0 [] Done
   pub halted-before-full : stores 0 [] 1 ≡ answers 0 0 0 0x0400 0 [] Halted

@@ -2,7 +2,7 @@
 -- secret word.
 use Prim.Native.Nat.{ℕ, _-_}
 use native.Mathlib.Omega.{arith}
-use mathlib.Core.Path.{_≡_, refl, sym, subst, _∙_}
+use mathlib.Core.Path.{_≡_, refl, sym, ap, subst, _∙_}
 use mathlib.Core.Bool.{Bool, true, false, cond, _||_, not, true≢false}
 use mathlib.Core.List.{List, [], _∷_}
 use borrow.Author.Tests.{eqb-true}
@@ -11,9 +11,11 @@ use Rattle.machine.specs.declared.Machine.{Machine}
 use Rattle.machine.specs.declared.Devices.{Devices}
 use Rattle.machine.proofs.Tests.{either-branch}
 use Rattle.touched.specs.Altered.{SameOutside}
+use Rattle.run.specs.declared.Ending.{Ending}
 use Rattle.run.specs.Run.{Start}
 use Rattle.run.specs.AlteredWords.{Variants}
-use Rattle.logging.specs.LoggedRun.{Logged}
+use Rattle.logging.specs.declared.LoggedEnding.the-variants.{Run}
+use Rattle.logging.specs.LoggedRun.{Logged, runIn}
 use Rattle.sitting.specs.Sitting.{isEnabled, stackFrom, Call, startAt, answerTo, answerAfter, Begins, SameAnswers}
 use Rattle.sitting.specs.Sitting.{Guarded}
 use Rattle.sitting.specs.Certified.{Loaded, CertifiedTellsNothing}
@@ -65,7 +67,7 @@ module _ (g : Setting) where
       (record { disabled = i .disabled; stands = i .stands }) i
 
   abbrev StandsAfter : List ℕ → Logged → Type 0
-  StandsAfter before a = Kept (secret g) (Invariant g) before (a .run)
+  StandsAfter before a = Kept (secret g) (Invariant g) before (runIn a)
 
   call-stands : (c : Call) (m : Machine) (memory : List ℕ) → Invariant g m memory
       → StandsAfter memory (answerTo c m memory)
@@ -82,9 +84,9 @@ module _ (g : Setting) where
   sitting-stands [] call m memory i = call-stands call m memory i
   sitting-stands (c ∷ earlier) call m memory i =
       let s : StandsAfter memory (answerTo c m memory) = call-stands c m memory i in
-      let t : StandsAfter (answerTo c m memory .run .memory)
-      (answerAfter earlier call (answerTo c m memory .run .machine) (answerTo c m memory .run .memory)) =
-      sitting-stands earlier call (answerTo c m memory .run .machine) (answerTo c m memory .run .memory)
+      let t : StandsAfter (answerTo c m memory .memory)
+      (answerAfter earlier call (answerTo c m memory .machine) (answerTo c m memory .memory)) =
+      sitting-stands earlier call (answerTo c m memory .machine) (answerTo c m memory .memory)
       (s .invariant) in
       record { invariant = t .invariant; kept = λ a h. t .kept a h ∙ s .kept a h }
 
@@ -107,13 +109,9 @@ module _ (g : Setting) where
       let s₂ : Start = startAt c m memory₂ in
       let w : Variants (secret g) (startAt c m memory₁) (startAt c m memory₂) = starts-alike c m memory₁ memory₂ v in
       let j = start-stands c m memory₁ i in
+      let alike = calls-alike (secret g) (Invariant g) (step-keeps g) s₁ s₂ w j (c .steps) in
       go (c .logged) (logged-calls-alike (secret g) (Invariant g) (step-keeps g) s₁ s₂ w j (c .log) (c .steps))
-      (record {
-        run = calls-alike (secret g) (Invariant g) (step-keeps g) s₁ s₂ w j (c .steps);
-        log = refl;
-        words = refl;
-        full = refl;
-      })
+      (record { run = alike; log = refl; words = refl; ending = ap (λ (e : Ending). Run e) (alike .ending) })
     where
       go : (logged : Bool) {a₁ b₁ a₂ b₂ : Logged} → Alike a₁ a₂ → Alike b₁ b₂
           → Alike (cond logged a₁ b₁) (cond logged a₂ b₂)
@@ -128,10 +126,10 @@ module _ (g : Setting) where
   sittings-alike (c ∷ earlier) call m memory₁ memory₂ v i =
       let a : Alike (answerTo c m memory₁) (answerTo c m memory₂) = calls-answer-alike c m memory₁ memory₂ v i in
       subst (λ (n : Machine).
-      Alike (answerAfter earlier call (answerTo c m memory₁ .run .machine) (answerTo c m memory₁ .run .memory))
-      (answerAfter earlier call n (answerTo c m memory₂ .run .memory))) (a .run .machine)
-      (sittings-alike earlier call (answerTo c m memory₁ .run .machine) (answerTo c m memory₁ .run .memory)
-      (answerTo c m memory₂ .run .memory) (a .run .memory) (call-stands c m memory₁ i .invariant))
+      Alike (answerAfter earlier call (answerTo c m memory₁ .machine) (answerTo c m memory₁ .memory))
+      (answerAfter earlier call n (answerTo c m memory₂ .memory))) (a .run .machine)
+      (sittings-alike earlier call (answerTo c m memory₁ .machine) (answerTo c m memory₁ .memory)
+      (answerTo c m memory₂ .memory) (a .run .memory) (call-stands c m memory₁ i .invariant))
 
   -- ---- the start
 
@@ -159,7 +157,7 @@ module _ (g : Setting) where
   }
 
   guarded : (earlier : List Call) (call : Call) (m : Machine) (memory : List ℕ) → Invariant g m memory
-      → Guarded (Loaded (g .claim .cells)) (secret g) memory (answerAfter earlier call m memory .run .memory)
+      → Guarded (Loaded (g .claim .cells)) (secret g) memory (answerAfter earlier call m memory .memory)
   guarded earlier call m memory i =
       let t : StandsAfter memory (answerAfter earlier call m memory) = sitting-stands earlier call m memory i in
       record {

@@ -23,14 +23,14 @@ use Rattle.start.proofs.UserStart.{refused-user-start-touches-nothing, user-sta
 use Rattle.start.proofs.UserStart.{user-refusal-answered, privileged-words-stay}
 use Rattle.run.specs.Fresh.{freshOf}
 use Rattle.monitor.specs.Install.{installOf}
-use Rattle.monitor.proofs.Intact.{monitor-length}
+use Rattle.monitor.proofs.Intact.{monitor-length, monitor-word}
 use Rattle.monitor.proofs.InstallLaws.{installed-is-intact}
 use Rattle.sitting.specs.Sitting.{isEnabled, stackFrom, lowestStackWord, isSecretAbove, Call, answerAfter, Begins}
 use Rattle.sitting.specs.Sitting.{TellsNothing, HasMonitor}
 use Rattle.sitting.specs.HandedIn.{isMarkingWord, BeginsIn, AcceptedFileBegins, Prepared, SameStarts}
 use Rattle.sitting.specs.HandedIn.{SameSittings, FilesLearnNothing, LiesInMarkingWords, AllLieInMarkingWords}
 use Rattle.sitting.specs.HandedIn.{loadedWith, preparedOf, CandidateLearnsNothing}
-use Rattle.sitting.proofs.MonitorWords.{monitor-word, has-monitor, monitor-word-is-open}
+use Rattle.sitting.proofs.MonitorWords.{has-monitor, monitor-word-is-open}
 use Rattle.sitting.proofs.Ours.{sitting-tells-nothing}
 
 -- ---- addresses

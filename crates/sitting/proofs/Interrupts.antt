@@ -25,6 +25,7 @@ use Rattle.machine.specs.Plan.{planBy}
 use Rattle.machine.specs.Step.{performBy, obeyedBy, obeyed, interruptedOrObeyedBy, interruptedOrObeyed, afterStart}
 use Rattle.machine.specs.Step.{stepBy, stepOf}
 use Rattle.machine.proofs.Tests.{both-true}
+use Rattle.monitor.proofs.Modes.{supervisor-mode, allowed-in-supervisor-mode}
 use Rattle.sitting.specs.Values.{Value}
 use Rattle.sitting.specs.Test.{fixed, cellAt, valueIn}
 use Rattle.sitting.proofs.Values.{Holds, looked-up, Registers, wordsAt}
@@ -37,7 +38,7 @@ use Rattle.sitting.proofs.Invariant.{pushedIn, Setting}
 use Rattle.sitting.proofs.Invariant.{cellsOf, Disabled, Invariant, Changeable, unlisted-changes, started, lowest}
 use Rattle.sitting.proofs.Invariant.{OutcomeKeeps, keeps-ended, keeps-reads, bounds, fixed-word-is-open}
 use Rattle.sitting.proofs.Invariant.{stack-word-is-open}
-use Rattle.sitting.proofs.Routines.{supervisor-mode, all-allowed, routine-keeps}
+use Rattle.sitting.proofs.Routines.{routine-keeps}
 use Rattle.sitting.proofs.UserMode.{enters, user-keeps}
 
 -- ---- the PSR that is pushed and popped
@@ -265,7 +266,7 @@ back-keeps g priority low Under m mem f q stands b =
     let from : low ≤ getD (m .regs) 6 0 = b .from in
     let below : getD (m .regs) 6 0 ≤ 0x2FFC = b .below in
     let n : next (getD (m .regs) 6 0) ≡ getD (m .regs) 6 0 + 1 = omega arith in
-    rw (all-allowed (m .psr) (b .supervisor) (m .pc), b .memory .intact (m .pc) 0x8000 (b .at))
+    rw (allowed-in-supervisor-mode (m .psr) (b .supervisor) (m .pc), b .memory .intact (m .pc) 0x8000 (b .at))
     (keeps-reads g (m .pc ∷ []) _ (fixed-word-is-open g (m .pc) 0x8000 (b .at), tt)
     (rw (supervisor-mode (m .psr) (b .supervisor), supervisor-mode _ (b .back-in-supervisor))
     (record {

@@ -10,5 +10,3 @@ pub mod Certified
 pub mod MonitorWords
 pub mod Ours
 pub mod HandedIn
-pub mod Examples
-pub mod FileExamples

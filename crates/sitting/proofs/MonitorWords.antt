@@ -1,7 +1,7 @@
 -- Our monitor's words in a memory, as a list and one by one.
 use Prim.Native.Nat.{ℕ, _<_}
 use native.Mathlib.Omega.{arith}
-use mathlib.Core.Path.{_≡_, sym, ap, _∙_}
+use mathlib.Core.Path.{_≡_, _∙_}
 use mathlib.Core.Bool.{false}
 use mathlib.Core.List.{List}
 use borrow.Author.Tests.{lt-leb}
@@ -10,12 +10,6 @@ use lib.Seq.{getD-take, ext-getD, length-take-le}
 use Rattle.monitor.specs.Routines.{monitorWords}
 use Rattle.monitor.proofs.Intact.{monitor-length}
 use Rattle.sitting.specs.Sitting.{isSecretAbove, HasMonitor}
-
-pub monitor-word : (memory : List ℕ) → HasMonitor memory → (a : ℕ) → a < 0x02A5
-    → getD memory a 0 ≡ getD monitorWords a 0
-monitor-word memory h a l =
-    sym (getD-take (length monitorWords) memory a 0 (omega (arith, monitor-length)))
-    ∙ ap (λ (t : List ℕ). getD t a 0) h
 
 pub has-monitor : (memory : List ℕ) → length memory ≡ 65536
     → ((a : ℕ) → a < 0x02A5 → getD memory a 0 ≡ getD monitorWords a 0) → HasMonitor memory

@@ -15,8 +15,8 @@ use Rattle.machine.specs.Psr.{codesOf}
 use Rattle.machine.specs.Devices.{isDeviceBy}
 use Rattle.monitor.specs.Vectors.{vectorWord, vectorsFrom, vectorTable}
 use Rattle.monitor.specs.Routines.{routineWords, monitorWords}
-use Rattle.monitor.proofs.Intact.{monitor-length}
-use Rattle.logging.specs.LoggedRun.{Logged}
+use Rattle.monitor.proofs.Intact.{monitor-length, monitor-word}
+use Rattle.logging.specs.LoggedRun.{Logged, runIn}
 use Rattle.sitting.specs.Sitting.{isEnabled, stackFrom, lowestStackWord, isSecretAbove, isSecret, Begins}
 use Rattle.sitting.specs.Sitting.{answerAfter, SameAnswers, Guarded, HasMonitor, SittingTellsNothing}
 use Rattle.sitting.specs.Values.{Value, unset, any, is, high, sum, allowed, forget, kindOf, numberOf, same}
@@ -32,7 +32,7 @@ use Rattle.sitting.specs.Test.{rowHolds, rowsHold, leadsIn, allLeadIn, i
 use Rattle.sitting.specs.Test.{roomHolds, passes}
 use Rattle.sitting.specs.Certified.{isSecretIn, isSecretBeside, Loaded}
 use Rattle.sitting.proofs.Runs.{wider-ends}
-use Rattle.sitting.proofs.MonitorWords.{monitor-word, has-monitor}
+use Rattle.sitting.proofs.MonitorWords.{has-monitor}
 use Rattle.sitting.proofs.Certified.{certified-tells-nothing}
 
 -- ---- the table
@@ -234,11 +234,11 @@ guarded d before after t = record {
 same-answers : (d : Devices) (a₁ a₂ : Logged) → SameAnswers (isSecretBeside claimOfOurs d) a₁ a₂
     → SameAnswers (isSecret d) a₁ a₂
 same-answers d a₁ a₂ s = record {
-  run = wider-ends (isSecretBeside claimOfOurs d) (isSecret d) (a₁ .run) (a₂ .run) (λ a z. same-secret d a ∙ z)
+  run = wider-ends (isSecretBeside claimOfOurs d) (isSecret d) (runIn a₁) (runIn a₂) (λ a z. same-secret d a ∙ z)
       (s .run);
   log = s .log;
   words = s .words;
-  full = s .full;
+  ending = s .ending;
 }
 
 pub sitting-tells-nothing : SittingTellsNothing
@@ -248,6 +248,6 @@ sitting-tells-nothing m memory₁ memory₂ b v earlier call =
     record {
       same = same-answers (m .devices) (answerAfter earlier call m memory₁) (answerAfter earlier call m memory₂)
           (t .same);
-      guarded₁ = guarded (m .devices) memory₁ (answerAfter earlier call m memory₁ .run .memory) (t .guarded₁);
-      guarded₂ = guarded (m .devices) memory₂ (answerAfter earlier call m memory₂ .run .memory) (t .guarded₂);
+      guarded₁ = guarded (m .devices) memory₁ (answerAfter earlier call m memory₁ .memory) (t .guarded₁);
+      guarded₂ = guarded (m .devices) memory₂ (answerAfter earlier call m memory₂ .memory) (t .guarded₂);
     }

@@ -7,7 +7,7 @@ use mathlib.Core.Bool.{Bool, true, false, cond, _&&_, _||_, not, true≢false, f
 use mathlib.Core.Logic.{inl, inr}
 use mathlib.Core.List.{List, [], _∷_}
 use lib.IntN.{ℤ}
-use borrow.Author.Tests.{leb-true, ltb-true, ltb-false, eqb-true, eqb-false, lt-leb, le-leb}
+use borrow.Author.Tests.{leb-true, ltb-true, ltb-false, eqb-true, eqb-false, le-leb}
 use lib.Dec.{leb, ltb, eqb}
 use lib.ListN.{getD, set, length-set}
 use lib.Seq.{getD-set-other}
@@ -23,10 +23,9 @@ use Rattle.machine.specs.Record.{withDevices}
 use Rattle.machine.specs.Words.{wrap, next, before, plus, andBits, wordAnd, register, withRegister}
 use Rattle.machine.specs.Psr.{inUserMode, definedPsr, codesOf, kept, setFrom, recoded, isTaken}
 use Rattle.machine.specs.Outcome.{trap, Outcome, touching, plainOutcome, afterInstruction}
-use Rattle.machine.specs.Protection.{deniedBy, denied}
 use Rattle.machine.specs.Devices.{DDR, MCR, isDeviceBy, isDevice, lentWordBy, lentWord, loadedValueBy, loadedValue}
 use Rattle.machine.specs.Devices.{deviceValue, afterLoad, mcrStore, ddrStore, deviceStore, storedBy}
-use Rattle.machine.specs.Access.{loadToBy, loadTo, storeAtBy, storeAt, byPointerBy, byPointer}
+use Rattle.machine.specs.Access.{loadToBy, loadTo, storeAtBy, storeAt, byPointer}
 use Rattle.machine.specs.Entry.{stackPointerOnEntry, pushed, afterEntry, entry, raised}
 use Rattle.machine.specs.Return.{afterReturn, return}
 use Rattle.machine.specs.Return as Return
@@ -36,6 +35,8 @@ use Rattle.machine.proofs.MemoryParts.{UserAddress}
 use Rattle.machine.proofs.StepLaws.{codesOf-below}
 use Rattle.machine.proofs.Tests.{both-true}
 use Rattle.touched.specs.Altered.{NoneAltered}
+use Rattle.monitor.proofs.Modes.{plain-word, always-taken, supervisor-mode, allowed-in-supervisor-mode}
+use Rattle.monitor.proofs.Modes.{by-plain-pointer}
 use Rattle.sitting.specs.Values.{Value, unset, any, is, high, low, sum, allowed, sumWith, sumOf, andWith, andOf}
 use Rattle.sitting.specs.Values.{same, notOf, besides, allBesides}
 use Rattle.sitting.specs.Test.{Cell, fixed, own, hidden, State, Claim, cellAt, isHidden, isOwn, accepts, isStack}
@@ -67,18 +68,6 @@ unfolding isFreeStack
 free-stack-is lowest a h =
     let b = both-true (leb lowest a) (ltb a 0x2FFF) h in
     (leb-true lowest a (b .0), ltb-true a 0x2FFF (b .1))
-
-pub no-device-below : (a : ℕ) → a < 0xFE00 → isDevice a ≡ false
-unfolding isDeviceBy
-no-device-below a h = rw (lt-leb 0xFE00 a h)
-
-pub supervisor-mode : (psr : ℕ) → psr < 0x8000 → inUserMode psr ≡ false
-unfolding inUserMode
-supervisor-mode psr h = lt-leb 0x8000 psr h
-
-pub all-allowed : (psr : ℕ) → psr < 0x8000 → (a : ℕ) → denied psr a ≡ false
-unfolding deniedBy
-all-allowed psr h a = rw (supervisor-mode psr h)
 
 -- No lent word is read behind a device register.
 device-word-read : (g : Setting) (a : ℕ) → isDevice a ≡ true → NoneAltered (secret g) (lentWord a)
@@ -150,23 +139,20 @@ module _ (g : Setting) (σ : State) (m : Machine) (mem : List ℕ) (q : Disabled
       → Holds first v (loadedValue a m mem) → Goes (next (m .pc)) (moved r v σ) → OutcomeKeeps g (loadTo r a m mem)
   unfolding loadToBy afterLoad
   load-keeps r a v n h t =
-      rw (all-allowed (m .psr) (k .supervisor) a)
+      rw (allowed-in-supervisor-mode (m .psr) (k .supervisor) a)
       (move-keeps (afterLoad a m .devices) (lentWord a) r (loadedValue a m mem) (next (m .pc)) v
       (load-disabled (g .enabled) a m q) n h t)
 
   plain-word-read : (a : ℕ) → a < 0xFE00 → secret g a ≡ false → NoneAltered (secret g) (lentWord a)
   unfolding lentWordBy
-  plain-word-read a h o = rw (no-device-below a h) (o, tt)
+  plain-word-read a h o = rw (plain-word a h) (o, tt)
 
   plain-value : (a : ℕ) → a < 0xFE00 → loadedValue a m mem ≡ getD mem a 0
   unfolding loadedValueBy
-  plain-value a h = rw (no-device-below a h)
+  plain-value a h = rw (plain-word a h)
 
   fixed-is-low : (a w : ℕ) → cellAt (cellsOf g) a ≡ fixed w → a < 0x2FFA
   fixed-is-low a w e = monitor-word-is-low g a (fixed-is-open (cellAt (cellsOf g) a) w e)
-
-  fixed-value : (a w : ℕ) → cellAt (cellsOf g) a ≡ fixed w → loadedValue a m mem ≡ w
-  fixed-value a w e = plain-value a (omega (arith, fixed-is-low a w e)) ∙ k .memory .intact a w e
 
   -- A load at such an address reads nothing secret.
   loadable : (a : ℕ) → isLoadable c a ≡ true → NoneAltered (secret g) (lentWord a)
@@ -246,7 +232,7 @@ module _ (g : Setting) (σ : State) (m : Machine) (mem : List ℕ) (q : Disabled
       → Known c τ (m .regs) (m .psr) (set mem a x) → Goes (next (m .pc)) τ → OutcomeKeeps g (storeAt x a m mem)
   unfolding storeAtBy storedBy afterInstruction recoded
   store-keeps x a τ l o n p h t =
-      rw (all-allowed (m .psr) (k .supervisor) a, no-device-below a l)
+      rw (allowed-in-supervisor-mode (m .psr) (k .supervisor) a, plain-word a l)
       (record { reads = tt; writes = (o, tt); invariant = goes-to-routine q t h })
 
   store-known : (x a : ℕ) (v : Value) → a < 0xFE00 → Changeable c a → (0x2FFF ≡ a → ⊥) → Holds first v x
@@ -290,12 +276,12 @@ module _ (g : Setting) (σ : State) (m : Machine) (mem : List ℕ) (q : Disabled
     where
       to-ddr : OutcomeKeeps g (storeAt x DDR m mem)
       to-ddr = unfold storeAtBy storedBy isDeviceBy deviceStore ddrStore afterInstruction recoded in
-          rw (all-allowed (m .psr) (k .supervisor) DDR)
+          rw (allowed-in-supervisor-mode (m .psr) (k .supervisor) DDR)
           (record { reads = tt; writes = tt; invariant = goes-to-routine q t k })
 
       to-mcr : OutcomeKeeps g (storeAt x MCR m mem)
       to-mcr = unfold storeAtBy storedBy isDeviceBy deviceStore mcrStore afterInstruction recoded in
-          rw (all-allowed (m .psr) (k .supervisor) MCR)
+          rw (allowed-in-supervisor-mode (m .psr) (k .supervisor) MCR)
           (record { reads = tt; writes = tt; invariant = goes-to-routine q t k })
 
       go : (d : Bool) → eqb a DDR ≡ d → d || eqb a MCR ≡ true → OutcomeKeeps g (storeAt x a m mem)
@@ -559,22 +545,12 @@ module _ (g : Setting) (σ : State) (m : Machine) (mem : List ℕ) (q : Disabled
       go true e = let t = f e in jump-keeps there (t .0) (t .1) (t .2)
       go false e = let t = h e in jump-keeps here (t .0) (t .1) (t .2)
 
-  -- BRnzp is always taken, once some value has set the codes.
-  always-taken : (x : ℕ) → m .psr % 8 ≡ codesOf x → isTaken 7 (m .psr) ≡ true
-  unfolding isTaken codesOf andBits
-  always-taken x e = rw e (go (eqb x 0) (ltb x 0x8000))
-    where
-      go : (z p : Bool) → not (eqb (wordAnd 7 (cond z 2 (cond p 1 4))) 0) ≡ true
-      go true p = refl
-      go false true = refl
-      go false false = refl
-
   not-always : (mask here : ℕ) (τ : State) (x : ℕ) → m .psr % 8 ≡ codesOf x → eqb mask 7 || accepts c here τ ≡ true
       → isTaken mask (m .psr) ≡ false → accepts c here τ ≡ true
   not-always mask here τ x e h t = go (eqb mask 7) refl h
     where
       go : (s : Bool) → eqb mask 7 ≡ s → s || accepts c here τ ≡ true → accepts c here τ ≡ true
-      go true z h = absurd (true≢false (sym (always-taken x e) ∙ rw (eqb-true mask 7 z) at t))
+      go true z h = absurd (true≢false (sym (always-taken x (m .psr) e) ∙ rw (eqb-true mask 7 z) at t))
       go false z h = h
 
   branch-on-some : (mask there here x : ℕ) → m .psr % 8 ≡ codesOf x → eitherWay c mask there here σ ≡ true
@@ -747,44 +723,27 @@ module _ (g : Setting) (σ : State) (m : Machine) (mem : List ℕ) (q : Disabled
 
 module _ (g : Setting) (σ : State) (m : Machine) (mem : List ℕ) (q : Disabled (g .enabled) (m .devices))
     (k : Known (g .claim) σ (m .regs) (m .psr) mem) where
-  known-after-load : (a : ℕ) → Known (g .claim) σ (afterLoad a m .regs) (afterLoad a m .psr) mem
-  unfolding afterLoad
-  known-after-load a = k
-
   by-pointer-keeps : (a w : ℕ) (data-access : ℕ → Machine → List ℕ → Outcome) → cellAt (cellsOf g) a ≡ fixed w
-      → OutcomeKeeps g (data-access w (afterLoad a m) mem) → OutcomeKeeps g (byPointer a data-access m mem)
-  unfolding byPointerBy
+      → OutcomeKeeps g (data-access w m mem) → OutcomeKeeps g (byPointer a data-access m mem)
   by-pointer-keeps a w data-access e o =
-      rw (all-allowed (m .psr) (k .supervisor) a, fixed-value g σ m mem q k a w e)
-      (keeps-reads g (lentWord a) (data-access w (afterLoad a m) mem)
-      (plain-word-read g σ m mem q k a (omega (arith, fixed-is-low g σ m mem q k a w e))
-      (fixed-word-is-open g a w e)) o)
-
-  pc-after-load : (a : ℕ) → afterLoad a m .pc ≡ m .pc
-  unfolding afterLoad
-  pc-after-load a = refl
+      let l : a < 0xFE00 = omega (arith, fixed-is-low g σ m mem q k a w e) in
+      rw (by-plain-pointer a data-access m mem (k .supervisor) l, k .memory .intact a w e)
+      (keeps-reads g (lentWord a) (data-access w m mem)
+      (plain-word-read g σ m mem q k a l (fixed-word-is-open g a w e)) o)
 
   load-by-pointer : (r a : ℕ) (x : Cell) → cellAt (cellsOf g) a ≡ x → loadsThrough (g .claim) (m .pc) r x σ ≡ true
       → OutcomeKeeps g (byPointer a (loadTo r) m mem)
   unfolding loadsThrough
   load-by-pointer r a (fixed w) e t =
-      by-pointer-keeps a w (loadTo r) e
-      (load-by-table g σ (afterLoad a m) mem (load-disabled (g .enabled) a m q) (known-after-load a) r w
-      (rw (pc-after-load a) t))
+      by-pointer-keeps a w (loadTo r) e (load-by-table g σ m mem q k r w t)
   load-by-pointer r a own e t = absurd (false≢true t)
   load-by-pointer r a hidden e t = absurd (false≢true t)
-
-  first-after-load : (a : ℕ) → afterLoad a m .regs ≡ m .regs
-  unfolding afterLoad
-  first-after-load a = refl
 
   store-by-pointer : (x a : ℕ) (v : Value) (y : Cell) → Holds (getD (m .regs) 0 0) v x → cellAt (cellsOf g) a ≡ y
       → storesThrough (g .claim) (m .pc) v y σ ≡ true → OutcomeKeeps g (byPointer a (storeAt x) m mem)
   unfolding storesThrough
   store-by-pointer x a v (fixed w) h e t =
-      by-pointer-keeps a w (storeAt x) e
-      (store-by-table g σ (afterLoad a m) mem (load-disabled (g .enabled) a m q) (known-after-load a) x w v
-      (rw (first-after-load a) h) (rw (pc-after-load a) t))
+      by-pointer-keeps a w (storeAt x) e (store-by-table g σ m mem q k x w v h t)
   store-by-pointer x a v own h e t = absurd (false≢true t)
   store-by-pointer x a v hidden h e t = absurd (false≢true t)
 
@@ -843,6 +802,6 @@ unfolding obeyedBy
 routine-keeps g m mem q r =
     let f = r .found in
     let k = r .known in
-    rw (all-allowed (m .psr) (k .supervisor) (m .pc), k .memory .intact (m .pc) (f .word) (f .at))
+    rw (allowed-in-supervisor-mode (m .psr) (k .supervisor) (m .pc), k .memory .intact (m .pc) (f .word) (f .at))
     (keeps-reads g (m .pc ∷ []) _ (fixed-word-is-open g (m .pc) (f .word) (f .at), tt)
     (harmless-keeps g (f .state) m mem q k (f .is-sound) (readOf (f .word)) (f .is-harmless)))

@@ -21,7 +21,6 @@ use Rattle.touched.proofs.AlteredWords.{altered-words-unread}
 use Rattle.touched.proofs.TouchedWords.{step-writes}
 use Rattle.run.specs.declared.Admission.{Admission}
 use Rattle.run.specs.declared.Admission.the-variants.{Accepted, Rejected}
-use Rattle.run.specs.declared.Ending.{Ending}
 use Rattle.run.specs.declared.Ending.the-variants.{Done, Halted, OutputFull, Refused}
 use Rattle.run.specs.Run.{Start, End, begin, endedBy, arriving, nextStepBy, nextStep, stepMadeBy, stepMade, isHalted}
 use Rattle.run.specs.Run.{isFull, runOf}
@@ -31,7 +30,10 @@ use Rattle.run.specs.AlteredWords.{Variants, SameEnds}
 use Rattle.run.proofs.AlteredWords.{halts-alike, steps-alike, full-alike, made-alike, ended-alike}
 use Rattle.run.proofs.RunKeeps.{every-run-keeps}
 use Rattle.logging.specs.Log.{nextRule, entryOf, lacksRoom}
-use Rattle.logging.specs.LoggedRun.{Logged, beginLogged, stoppedBy, logFull, stepLogged, oneMoreLogged, loggedRunOf}
+use Rattle.logging.specs.declared.LoggedEnding.{LoggedEnding}
+use Rattle.logging.specs.declared.LoggedEnding.the-variants.{Run, LogFull}
+use Rattle.logging.specs.LoggedRun.{Logged, runEnding, runIn, beginLogged, stoppedBy, stepLogged, oneMoreLogged}
+use Rattle.logging.specs.LoggedRun.{loggedRunOf}
 use Rattle.logging.specs.LoggedCall.{loggedAdmitted, loggedCallOf}
 use Rattle.logging.specs.BesideTheRun.{AsTheRun}
 use Rattle.logging.proofs.BesideTheRun.{logged-run-is-the-run}
@@ -41,23 +43,19 @@ use Rattle.sitting.specs.Sitting.{SameAnswers}
 -- ---- a run is a logged run
 
 -- Its log has room for an entry of each step.
-pub run-is-logged : (s : Start) (n : ℕ) → callOf s n ≡ loggedCallOf s (replicate (3 * n) 0) n .run
-run-is-logged s n = go (loggedCallOf s (replicate (3 * n) 0) n .full) refl
+pub run-is-logged : (s : Start) (n : ℕ) → callOf s n ≡ runIn (loggedCallOf s (replicate (3 * n) 0) n)
+run-is-logged s n =
+    sym (t .unless-full (λ f.
+    omega (
+      arith,
+      t .full-before-done f,
+      t .full-without-room f,
+      t .three-a-step,
+      length-replicate {A = ℕ} (3 * n) 0,
+    )))
   where
     t : AsTheRun s (replicate (3 * n) 0) n (loggedCallOf s (replicate (3 * n) 0) n)
     t = logged-run-is-the-run s (replicate (3 * n) 0) n
-
-    go : (full : Bool) → loggedCallOf s (replicate (3 * n) 0) n .full ≡ full
-        → callOf s n ≡ loggedCallOf s (replicate (3 * n) 0) n .run
-    go false f = sym (t .unless-full f)
-    go true f =
-        absurd (omega (
-          arith,
-          t .full-before-done f,
-          t .full-without-room f,
-          t .three-a-step,
-          length-replicate {A = ℕ} (3 * n) 0,
-        ))
 
 -- ---- sets of words
 
@@ -126,22 +124,22 @@ module _ (secret : ℕ → Bool) (Invariant : Machine → List ℕ → Type 0) w
         (λ n w e p. record { invariant = p .invariant; kept = p .kept }) (λ n e free p. step-stands s e p)
 
     logged-run-stands : (s : Start) → Invariant (s .machine) (s .memory) → (log : List ℕ) (n : ℕ)
-        → Kept (s .memory) (loggedRunOf s log n .run)
+        → Kept (s .memory) (runIn (loggedRunOf s log n))
     logged-run-stands s i log n = go (tracks s log n)
       where
-        go : Tracks s n (loggedRunOf s log n) → Kept (s .memory) (loggedRunOf s log n .run)
-        go (goes-with f e) = subst (Kept (s .memory)) (sym e) (run-stands s i n)
-        go (was-full f e d l h r) = subst (Kept (s .memory)) (sym e) (run-stands s i (loggedRunOf s log n .run .steps))
+        go : Tracks s n (loggedRunOf s log n) → Kept (s .memory) (runIn (loggedRunOf s log n))
+        go (goes-with w f e) = subst (Kept (s .memory)) (sym e) (run-stands s i n)
+        go (was-full f e l h r) = subst (Kept (s .memory)) (sym e) (run-stands s i (loggedRunOf s log n .steps))
 
     -- Where a call is turned down, it keeps everything.
     pub logged-call-keeps : (s : Start) → Invariant (s .machine) (s .memory) → (log : List ℕ) (n : ℕ)
-        → Kept (s .memory) (loggedCallOf s log n .run)
+        → Kept (s .memory) (runIn (loggedCallOf s log n))
     unfolding loggedCallOf
     logged-call-keeps s i log n = go (admissionOf s n)
       where
-        go : (a : Admission) → Kept (s .memory) (loggedAdmitted a s log n .run)
+        go : (a : Admission) → Kept (s .memory) (runIn (loggedAdmitted a s log n))
         go Accepted = unfold loggedAdmitted in logged-run-stands s i log n
-        go (Rejected r) = unfold loggedAdmitted endedBy begin in record { invariant = i; kept = λ a h. refl }
+        go (Rejected r) = unfold loggedAdmitted begin in record { invariant = i; kept = λ a h. refl }
 
     pub call-keeps : (s : Start) → Invariant (s .machine) (s .memory) → (n : ℕ) → Kept (s .memory) (callOf s n)
     call-keeps s i n =
@@ -208,63 +206,59 @@ module _ (secret : ℕ → Bool) (Invariant : Machine → List ℕ → Type 0) w
       -- ---- the stops before each step
 
       module _ (l₁ l₂ : Logged) (a : SameAnswers secret l₁ l₂) where
-        stopped-alike : (w : Ending) → SameAnswers secret (stoppedBy w l₁) (stoppedBy w l₂)
-        unfolding stoppedBy
+        stopped-alike : (w : LoggedEnding) → SameAnswers secret (stoppedBy w l₁) (stoppedBy w l₂)
+        unfolding stoppedBy endedBy
         stopped-alike w = record {
-          run = ended-alike stepOf (altered-words-unread third) s₁ s₂ (v .times) (v .bytes) secret (l₁ .run) (l₂ .run)
-              (a .run) w;
+          run = ended-alike stepOf (altered-words-unread third) s₁ s₂ (v .times) (v .bytes) secret (runIn l₁) (runIn l₂)
+              (a .run) (runEnding w);
           log = a .log;
           words = a .words;
-          full = refl;
+          ending = refl;
         }
 
-        log-full-alike : SameAnswers secret (logFull l₁) (logFull l₂)
-        unfolding logFull
-        log-full-alike = record { run = a .run; log = a .log; words = a .words; full = refl }
-
-        logged-step-alike : Invariant (l₁ .run .machine) (l₁ .run .memory)
+        logged-step-alike : Invariant (l₁ .machine) (l₁ .memory)
             → SameAnswers secret (stepLogged s₁ l₁) (stepLogged s₂ l₂)
-        unfolding stepLogged
+        unfolding stepLogged stepMadeBy
         logged-step-alike i =
             let log : l₁ .log ≡ l₂ .log = a .log in
             let words : l₁ .words ≡ l₂ .words = a .words in
-            let entry : entryOf s₁ (l₁ .run) ≡ entryOf s₂ (l₂ .run) = entries-alike (l₁ .run) (l₂ .run) (a .run) i in
-            record { run = made-steps-alike (l₁ .run) (l₂ .run) (a .run) i; log = cc; words = cc; full = refl }
+            let entry : entryOf s₁ (runIn l₁) ≡ entryOf s₂ (runIn l₂) =
+            entries-alike (runIn l₁) (runIn l₂) (a .run) i in
+            record { run = made-steps-alike (runIn l₁) (runIn l₂) (a .run) i; log = cc; words = cc; ending = refl }
 
-        -- Where neither the log nor the run has stopped.
-        goes-on-alike : Invariant (l₁ .run .machine) (l₁ .run .memory)
-            → SameAnswers secret (oneMoreLogged false Done s₁ l₁) (oneMoreLogged false Done s₂ l₂)
+        -- Where the run is done, and has not stopped.
+        goes-on-alike : Invariant (l₁ .machine) (l₁ .memory)
+            → SameAnswers secret (oneMoreLogged (Run Done) s₁ l₁) (oneMoreLogged (Run Done) s₂ l₂)
         unfolding oneMoreLogged
         goes-on-alike i =
-            same-test-same-branch (SameAnswers secret) (isHalted (l₁ .run)) (isHalted (l₂ .run))
-            (halts-alike stepOf (altered-words-unread third) s₁ s₂ (v .times) (v .bytes) (l₁ .run) (l₂ .run)
+            same-test-same-branch (SameAnswers secret) (isHalted (runIn l₁)) (isHalted (runIn l₂))
+            (halts-alike stepOf (altered-words-unread third) s₁ s₂ (v .times) (v .bytes) (runIn l₁) (runIn l₂)
             (a .run .machine))
-            (λ h. stopped-alike Halted)
+            (λ h. stopped-alike (Run Halted))
             (λ h.
             same-test-same-branch (SameAnswers secret) (lacksRoom (l₁ .log) (l₁ .words))
             (lacksRoom (l₂ .log) (l₂ .words))
-            (cc (a .log, a .words)) (λ r. log-full-alike)
+            (cc (a .log, a .words)) (λ r. stopped-alike LogFull)
             (λ r.
-            same-test-same-branch (SameAnswers secret) (isFull s₁ (l₁ .run)) (isFull s₂ (l₂ .run))
-            (full-steps-alike (l₁ .run) (l₂ .run) (a .run) i) (λ f. stopped-alike OutputFull)
+            same-test-same-branch (SameAnswers secret) (isFull s₁ (runIn l₁)) (isFull s₂ (runIn l₂))
+            (full-steps-alike (runIn l₁) (runIn l₂) (a .run) i) (λ f. stopped-alike (Run OutputFull))
             (λ f. logged-step-alike i)))
 
-        by-stops : (full : Bool) (w : Ending) → Invariant (l₁ .run .machine) (l₁ .run .memory)
-            → SameAnswers secret (oneMoreLogged full w s₁ l₁) (oneMoreLogged full w s₂ l₂)
-        by-stops true w i = unfold oneMoreLogged in a
-        by-stops false Done i = goes-on-alike i
-        by-stops false Halted i = unfold oneMoreLogged in a
-        by-stops false OutputFull i = unfold oneMoreLogged in a
-        by-stops false (Refused r) i = unfold oneMoreLogged in a
+        by-stops : (w : LoggedEnding) → Invariant (l₁ .machine) (l₁ .memory)
+            → SameAnswers secret (oneMoreLogged w s₁ l₁) (oneMoreLogged w s₂ l₂)
+        by-stops (Run Done) i = goes-on-alike i
+        by-stops (Run Halted) i = unfold oneMoreLogged in a
+        by-stops (Run OutputFull) i = unfold oneMoreLogged in a
+        by-stops (Run (Refused r)) i = unfold oneMoreLogged in a
+        by-stops LogFull i = unfold oneMoreLogged in a
 
-        one-more-alike : Invariant (l₁ .run .machine) (l₁ .run .memory)
-            → SameAnswers secret (oneMoreLogged (l₁ .full) (l₁ .run .ending) s₁ l₁)
-            (oneMoreLogged (l₂ .full) (l₂ .run .ending) s₂ l₂)
-        one-more-alike i = go (l₁ .full) (l₂ .full) (a .full) (l₁ .run .ending) (l₂ .run .ending) (a .run .ending)
+        one-more-alike : Invariant (l₁ .machine) (l₁ .memory)
+            → SameAnswers secret (oneMoreLogged (l₁ .ending) s₁ l₁) (oneMoreLogged (l₂ .ending) s₂ l₂)
+        one-more-alike i = go (l₁ .ending) (l₂ .ending) (a .ending)
           where
-            go : (f₁ f₂ : Bool) → f₁ ≡ f₂ → (w₁ w₂ : Ending) → w₁ ≡ w₂
-                → SameAnswers secret (oneMoreLogged f₁ w₁ s₁ l₁) (oneMoreLogged f₂ w₂ s₂ l₂)
-            go f₁ f₂ f w₁ w₂ w = rw (← f, ← w) (by-stops f₁ w₁ i)
+            go : (w₁ w₂ : LoggedEnding) → w₁ ≡ w₂
+                → SameAnswers secret (oneMoreLogged w₁ s₁ l₁) (oneMoreLogged w₂ s₂ l₂)
+            go w₁ w₂ w = rw (← w) (by-stops w₁ i)
 
       logged-runs-alike : Invariant (s₁ .machine) (s₁ .memory) → (log : List ℕ) (n : ℕ)
           → SameAnswers secret (loggedRunOf s₁ log n) (loggedRunOf s₂ log n)
@@ -281,7 +275,7 @@ module _ (secret : ℕ → Bool) (Invariant : Machine → List ℕ → Type 0) w
         };
         log = refl;
         words = refl;
-        full = refl;
+        ending = refl;
       }
       logged-runs-alike i log (suc n) =
           one-more-alike (loggedRunOf s₁ log n) (loggedRunOf s₂ log n) (logged-runs-alike i log n)
@@ -306,7 +300,7 @@ module _ (secret : ℕ → Bool) (Invariant : Machine → List ℕ → Type 0) w
         where
           go : (a : Admission) → SameAnswers secret (loggedAdmitted a s₁ log n) (loggedAdmitted a s₂ log n)
           go Accepted = unfold loggedAdmitted in logged-runs-alike i log n
-          go (Rejected r) = unfold loggedAdmitted endedBy begin in record {
+          go (Rejected r) = unfold loggedAdmitted begin in record {
             run = record {
               machine = v .machine;
               memory = v .memory;
@@ -318,7 +312,7 @@ module _ (secret : ℕ → Bool) (Invariant : Machine → List ℕ → Type 0) w
             };
             log = refl;
             words = refl;
-            full = refl;
+            ending = refl;
           }
 
       pub calls-alike : Invariant (s₁ .machine) (s₁ .memory) → (n : ℕ) → SameEnds secret (callOf s₁ n) (callOf s₂ n)

@@ -56,9 +56,9 @@ pub record SameStarts (s₁ s₂ : Starting) : Type 0 where
 -- (User mode's words are as this sitting leaves them.)
 pub record SameSittings (memory₁ memory₂ : List ℕ) (a₁ a₂ : Logged) : Type 0 where
   pub same : SameAnswers isMarkingWord a₁ a₂
-  pub stay₁ : MarkingWordsStay memory₁ (a₁ .run .memory)
-  pub stay₂ : MarkingWordsStay memory₂ (a₂ .run .memory)
-  pub prepared : Prepared (a₁ .run .memory) (a₂ .run .memory)
+  pub stay₁ : MarkingWordsStay memory₁ (a₁ .memory)
+  pub stay₂ : MarkingWordsStay memory₂ (a₂ .memory)
+  pub prepared : Prepared (a₁ .memory) (a₂ .memory)
 
 -- A file is accepted in both memories or in neither, and more files may be started after it. Where it is accepted,
 -- every call of the sittings answers alike.

@@ -5,7 +5,7 @@
 -- and nothing that is logged depends on a secret word.
 use Prim.Native.Nat.{ℕ, _-_}
 use mathlib.Core.Path.{_≡_}
-use mathlib.Core.Bool.{Bool, true, false, cond, _&&_, _||_, not}
+use mathlib.Core.Bool.{Bool, true, cond, _&&_, _||_, not}
 use mathlib.Core.List.{List, [], _∷_}
 use lib.Dec.{leb, ltb, eqb}
 use lib.ListN.{length, take}
@@ -15,10 +15,11 @@ use Rattle.machine.specs.Psr.{inUserMode}
 use Rattle.machine.specs.Record.{withMcr}
 use Rattle.touched.specs.Touched.{SameWordAt}
 use Rattle.touched.specs.Altered.{SameOutside}
-use Rattle.run.specs.Run.{Start}
+use Rattle.run.specs.Run.{Start, End}
 use Rattle.run.specs.Call.{startOf, callOf}
 use Rattle.run.specs.AlteredWords.{SameEnds}
-use Rattle.logging.specs.LoggedRun.{Logged}
+use Rattle.logging.specs.declared.LoggedEnding.the-variants.{Run}
+use Rattle.logging.specs.LoggedRun.{Logged, withLog, runIn}
 use Rattle.logging.specs.LoggedCall.{loggedCallOf}
 use Rattle.monitor.specs.Routines.{monitorWords}
 
@@ -66,17 +67,21 @@ unfoldable pub startAt : Call → Machine → List ℕ → Start
 startAt c m memory =
     startOf (cond (c .restarts) (withMcr 0x8000 m) m) memory (c .times) (c .bytes) (c .output)
 
--- What it answers and leaves. A call that is not logged leaves the log as it is.
+-- What a run answers and leaves, and the log as it is.
+abbrev pub withoutLog : End → List ℕ → Logged
+withoutLog e log = withLog (Run (e .ending)) e log 0
+
+-- What a call answers and leaves. One that is not logged leaves the log as it is.
 unfoldable pub answerTo : Call → Machine → List ℕ → Logged
 answerTo c m memory = cond (c .logged)
     (loggedCallOf (startAt c m memory) (c .log) (c .steps))
-    (record { run = callOf (startAt c m memory) (c .steps); log = c .log; words = 0; full = false })
+    (withoutLog (callOf (startAt c m memory) (c .steps)) (c .log))
 
 -- What a call answers and leaves that comes after earlier ones, each of which begins where the one before it stopped.
 unfoldable pub answerAfter : List Call → Call → Machine → List ℕ → Logged
 answerAfter [] call m memory = answerTo call m memory
 answerAfter (c ∷ earlier) call m memory =
-    answerAfter earlier call (answerTo c m memory .run .machine) (answerTo c m memory .run .memory)
+    answerAfter earlier call (answerTo c m memory .machine) (answerTo c m memory .memory)
 
 -- ---- two sittings
 
@@ -93,10 +98,10 @@ pub record Begins (Intact : List ℕ → Type 0) (m : Machine) (memory : List �
 
 -- Equal records, counts, stops, outputs and logs, and memories that are equal but for secret words.
 pub record SameAnswers (secret : ℕ → Bool) (a₁ a₂ : Logged) : Type 0 where
-  pub run : SameEnds secret (a₁ .run) (a₂ .run)
+  pub run : SameEnds secret (runIn a₁) (runIn a₂)
   pub log : a₁ .log ≡ a₂ .log
   pub words : a₁ .words ≡ a₂ .words
-  pub full : a₁ .full ≡ a₂ .full
+  pub ending : a₁ .ending ≡ a₂ .ending
 
 -- Every secret word is as it was before the sitting, and the monitor is intact.
 pub record Guarded (Intact : List ℕ → Type 0) (secret : ℕ → Bool) (before after : List ℕ) : Type 0 where
@@ -108,8 +113,8 @@ pub record TellsNothing (Intact : List ℕ → Type 0) (secret : ℕ → Bool) (
     (a₁ a₂ : Logged) : Type 0
   where
     pub same : SameAnswers secret a₁ a₂
-    pub guarded₁ : Guarded Intact secret memory₁ (a₁ .run .memory)
-    pub guarded₂ : Guarded Intact secret memory₂ (a₂ .run .memory)
+    pub guarded₁ : Guarded Intact secret memory₁ (a₁ .memory)
+    pub guarded₂ : Guarded Intact secret memory₂ (a₂ .memory)
 
 -- Beside a monitor nothing is told of secret words: two sittings begin with one record and with memories that are equal
 -- but for secret words (so that the second has the monitor too). After whatever earlier calls, whatever call comes next

@@ -2,4 +2,3 @@
 pub mod Start
 pub mod Theorems
 pub mod UserStart
-pub mod Examples

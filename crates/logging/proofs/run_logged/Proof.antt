@@ -1,13 +1,9 @@
 -- `logging::run_logged` meets its contract: the tests answer as the definition does, and the rest is a callee's; an
 -- accepted call has what the run requires.
-use Prim.Native.Nat.{ℕ}
-use mathlib.Core.Path.{sym, ap, _∙_}
-use mathlib.Core.Bool.{false}
-use mathlib.Core.List.{List}
-use Rattle.run.specs.Run.{End}
+use mathlib.Core.Path.{refl, sym, _∙_}
+use Rattle.run.specs.Run.{begin}
 use Rattle.run.specs.Call.{startOf}
 use Rattle.run.proofs.Acceptance.{accepted-is-acceptable}
-use Rattle.logging.specs.LoggedRun.{Logged}
 use Rattle.logging.specs.LoggedCall.{loggedAdmitted, loggedCallOf}
 use borrow.Author.Needs.{needs}
 use Rattle.logging.proofs.run_logged.Statement.{statement}
@@ -33,24 +29,17 @@ returns c =
     .before .before .before .before .before .before .args in
     rw (← admission .ensures (a .output .now), enum-told .given .1) (run-accepted .ensures)
 
--- A call that is turned down, with its log as it was lent.
-abbrev untouched : End → List ℕ → Logged
-untouched e log = record { run = e; log = log; words = 0; full = false }
-
 returns-2 : tie.Need-returns-2
-unfolding loggedCallOf loggedAdmitted
+unfolding loggedCallOf loggedAdmitted begin
 returns-2 c =
-    let refused = c .before .refused in
-    let admission2 = c .before .before .before .admission2 in
-    let admission = c .before .before .before .before .before .admission in
-    let a = c .before .before .before .before .before .before .before .before .before .before .before .before .args in
-    rw (← admission .ensures (a .output .now), admission2 .given .1, c .refused2 .ensures)
-    (ap (λ (e : End). untouched e (a .log .now))
-    (refused .ensures (a .memory .now) (a .times .now) (a .bytes .now) (a .output .now)))
+    let admission2 = c .before .before .admission2 in
+    let admission = c .before .before .before .before .admission in
+    let a = c .before .before .before .before .before .before .before .before .before .before .before .args in
+    rw (← admission .ensures (a .output .now), admission2 .given .1, c .refused .ensures) refl
 
 pub run-logged-spec : {M : Type 1} → statement M
 run-logged-spec =
     tie.close
     (tie.spec (λ c κs. search needs) (λ c. search needs) run-accepted-requires (λ c. search needs)
-    (λ c κs. search needs) (λ c κs. search needs) (λ c. search needs) (λ c. search needs) (λ c. search needs) returns
-    (λ c. search needs) returns-2)
+    (λ c κs. search needs) (λ c. search needs) (λ c. search needs) (λ c. search needs) returns (λ c. search needs)
+    returns-2)

@@ -1,0 +1,2 @@
+-- The worked steps hold: each of them is computed.
+pub mod HighAddresses

@@ -1,0 +1,2 @@
+-- Worked steps that read their way through most of memory.
+pub mod HighAddresses

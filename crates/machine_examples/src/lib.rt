@@ -1,0 +1,1 @@
+// Worked steps high in memory: computed examples of crate machine. The crate has no code.

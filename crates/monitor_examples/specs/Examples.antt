@@ -1,0 +1,74 @@
+-- The premises of the theorems can be met: for each, a fresh machine at x3000 with the monitor in memory.
+use Prim.Native.Nat.{ℕ}
+use mathlib.Core.Path.{_≡_}
+use mathlib.Core.Bool.{Bool, true, false, cond}
+use mathlib.Core.List.{List, [], _∷_}
+use lib.ListN.{getD, set, replicate}
+use Rattle.word.specs.Reading.{readOf}
+use Rattle.word.specs.declared.Instruction.the-variants.{Reserved}
+use Rattle.machine.specs.declared.Machine.{Machine}
+use Rattle.machine.specs.Record.{devicesOf, zeroTimer}
+use Rattle.machine.specs.Outcome.{privilege, illegal, access, vectorOf}
+use Rattle.run.specs.Run.{Start}
+use Rattle.run.specs.Call.{startOf, callOf}
+use Rattle.monitor.specs.Install.{installOf}
+use Rattle.monitor.specs.Uses.{withVector, getcCode, outCode, putsCode, inCode, putspCode, haltCode, stopCode}
+use Rattle.monitor.specs.Calls.{Begins, Calls, Raises, NoInterrupt}
+use Rattle.monitor.specs.Puts.{mayRead, StringFrom}
+use Rattle.monitor.specs.Getc.{KeyComes}
+use Rattle.monitor.specs.In.{firstPoll}
+use Rattle.monitor.specs.Back.{Interrupted}
+
+-- In User mode or in Supervisor mode, with the supervisor stack at x3000. R0 is x3002; this KBSR, and the key x61 in
+-- KBDR.
+abbrev pub programAt3000 : Bool → ℕ → Machine
+programAt3000 user kbsr = record {
+  regs = 0x3002 ∷ 0 ∷ 0 ∷ 0 ∷ 0 ∷ 0 ∷ cond user 0xFDFF 0x3000 ∷ 0 ∷ [];
+  pc = 0x3000;
+  psr = cond user 0x8002 0x0002;
+  «saved_ssp» = 0x3000;
+  «saved_usp» = 0;
+  devices = devicesOf kbsr 0x61 0x8000 0 zeroTimer;
+  clock = 0;
+}
+
+-- The instruction at x3000, and the string "a", xABCD, end at x3002.
+unfoldable pub exampleMemory : ℕ → List ℕ
+exampleMemory word = set (set (set (installOf (replicate 65536 0) .words) 0x3000 word) 0x3002 0x0061) 0x3003 0xABCD
+
+unfoldable pub example : Bool → ℕ → ℕ → Start
+example user word kbsr = startOf (programAt3000 user kbsr) (exampleMemory word) [] [] (replicate 32 0)
+
+-- OUT is called in User mode; the keyboard may interrupt, and a key comes in the third step, on the way through OUT.
+unfoldable pub keyOnTheWay : Start
+keyOnTheWay =
+    startOf (programAt3000 true 0x4000) (exampleMemory 0xF021) (2 ∷ []) (0x61 ∷ []) (replicate 32 0)
+
+pub record ExamplesHold : Type 0 where
+  pub getc : (user : Bool) → Calls 0x20 getcCode user (example user 0xF020 0x8000) 1000
+  pub getc-key : (user : Bool) → KeyComes (example user 0xF020 0x8000) 1 0
+  pub out : (user : Bool) → Calls 0x21 outCode user (example user 0xF021 0x8000) 1000
+  pub puts : (user : Bool) → Calls 0x22 putsCode user (example user 0xF022 0x8000) 1000
+  pub puts-string : (user : Bool)
+      → StringFrom (mayRead user 0x2FFB) (exampleMemory 0xF022) 0x3002 (0x0061 ∷ 0xABCD ∷ []) 0x3004
+  pub puts-end : getD (exampleMemory 0xF022) 0x3004 0 ≡ 0
+  pub input : (user : Bool) → Calls 0x23 inCode user (example user 0xF023 0x8000) 1000
+  pub input-key : (user : Bool)
+      → KeyComes (example user 0xF023 0x8000) (firstPoll (example user 0xF023 0x8000)) 0
+  pub putsp : (user : Bool) → Calls 0x24 putspCode user (example user 0xF024 0x8000) 1000
+  pub putsp-string : (user : Bool)
+      → StringFrom (mayRead user 0x2FFA) (exampleMemory 0xF024) 0x3002 (0x0061 ∷ 0xABCD ∷ []) 0x3004
+  pub halt : (user : Bool) → Calls 0x25 haltCode user (example user 0xF025 0x8000) 1000
+  pub other : (user : Bool) → Calls 0xFF stopCode user (example user 0xF0FF 0x8000) 1000
+  -- LD R0 from x2FFF
+  pub access-exception : Raises access stopCode (example true 0x21FE 0x8000) 1000
+  -- RTI; a reserved word, and one in Supervisor mode
+  pub privilege-exception : Raises privilege stopCode (example true 0x8000 0x8000) 1000
+  pub illegal-exception : Raises illegal stopCode (example true 0xD000 0x8000) 1000
+  pub illegal-begins : Begins (withVector (vectorOf illegal) stopCode) false (example false 0xD000 0x8000) 1000
+  pub illegal-word : readOf (getD (exampleMemory 0xD000) 0x3000 0) ≡ Reserved 0
+  -- no device is enabled, whatever the word and the keyboard's ready bit are
+  pub no-interrupt : (user : Bool) (word k : ℕ) → NoInterrupt (example user word 0x8000) k
+  -- a key that is ready and may interrupt, and one that comes on the way through a routine
+  pub interrupted : Interrupted (example true 0x1020 0xC000) 1000 0 (callOf (example true 0x1020 0xC000) 0)
+  pub on-the-way : Interrupted keyOnTheWay 1000 2 (callOf keyOnTheWay 2)

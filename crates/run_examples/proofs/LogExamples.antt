@@ -1,0 +1,23 @@
+-- The table of logs and stops: each is computed.
+use mathlib.Core.Path.{refl}
+use Rattle.machine.specs.Rules.{fetchedWordBy}
+use Rattle.run.proofs.Opened.{opened}
+use Rattle.logging.specs.Log.{nextRule, entryOf, lacksRoom}
+use Rattle.logging.specs.LoggedRun.{beginLogged, stoppedBy, stepLogged, oneMoreLogged, loggedRunOf}
+use Rattle.logging.specs.LoggedCall.{loggedAdmitted, loggedCallOf}
+use Rattle.run_examples.specs.LogExamples.{LogExamplesHold}
+
+pub log-examples-hold : LogExamplesHold
+unfolding opened fetchedWordBy nextRule entryOf lacksRoom beginLogged stoppedBy stepLogged oneMoreLogged
+    loggedRunOf loggedAdmitted loggedCallOf
+log-examples-hold = record {
+  done-first = refl;
+  halted-before-log-full = refl;
+  log-full-before-output-full = refl;
+  output-full-last = refl;
+  one-entry = refl;
+  full-after-one = refl;
+  two-entries = refl;
+  refused = refl;
+  stops = refl;
+}

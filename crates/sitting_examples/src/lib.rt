@@ -1,0 +1,1 @@
+// Worked sittings: the computed examples of crate sitting. The crate has no code.
