@@ -1,0 +1,40 @@
+#!/bin/sh
+# `make page-test`: fanthrig.wasm and the module over it against the reference simulator and the native library, and the
+# page in real browsers. Where no browser is installed it says so and goes on.
+set -eu
+cd "$(dirname "$0")/../.."
+PYTHONPATH=python
+export PYTHONPATH
+page=build/page/lc3.html
+work=$(mktemp -d)
+trap 'rm -rf "$work"' EXIT
+
+has() { command -v "$1" >/dev/null; }
+missing() { echo "page-test: $1 not installed: the page was NOT tried in $2"; }
+
+in_browsers() { # the page in each browser that there is; over file:// and http at once, since either mostly waits
+    if has chromium && has chromedriver; then
+        mkdir "$work/file" "$work/http"
+        node page/tests/page.mjs file $page "$work/file" >"$work/said" 2>&1 & file=$!
+        node page/tests/page.mjs http $page "$work/http" || failed=http
+        wait $file || failed=file
+        cat "$work/said"
+        [ -z "${failed:-}" ] || exit 1
+        node page/tests/engine.mjs $page "$work/runs.txt"
+    else
+        missing "chromium or chromedriver is" Chromium
+    fi
+    if has firefox-esr; then node page/tests/firefox.mjs $page; else missing "firefox-esr is" Firefox; fi
+}
+
+page/tests/refused.sh
+LC3_RUNS_IN=$work cargo test --quiet --offline --release --manifest-path host/Cargo.toml --target-dir build/cargo \
+    --test page -- --ignored
+node page/tests/header.mjs
+node page/tests/guide.mjs
+node page/tests/runs.mjs host/tests/reference/runs.txt "$work/runs.txt" "$work/longs.txt"
+node page/tests/windows.mjs
+python3 page/tests/native.py write "$work/answers.jsonl" 300
+node page/tests/native.mjs --recordings "$work/recordings" "$work/answers.jsonl"
+python3 page/tests/native.py read "$work/recordings"
+in_browsers

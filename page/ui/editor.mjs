@@ -1,0 +1,131 @@
+// A program written in the page, word by word, with its three forms side by side.
+import { hex } from "../lib/constants.mjs";
+import { binary, objectFile, portable, sourceOf, textOf } from "../lib/source.mjs";
+import { $, download, make, setText, tell } from "./dom.mjs";
+import { load } from "./files.mjs";
+import { isBeside, seat } from "./seat.mjs";
+
+const KEPT = "fanthrig.lc3.program";
+const NAME = "program.obj";
+
+// The browser may keep nothing for a page, by its settings.
+function kept() {
+    try {
+        return localStorage.getItem(KEPT) ?? "";
+    } catch {
+        return "";
+    }
+}
+
+function keep(text) {
+    try {
+        if (text) localStorage.setItem(KEPT, text);
+        else localStorage.removeItem(KEPT);
+    } catch {
+        // Then the text is there until the page is closed.
+    }
+}
+
+const parsed = () => sourceOf(seat.sitting.library, $("source").value);
+
+function formRow({ address, word, isOrigin, error }) {
+    const { problem } = error ?? {}, whole = (text) => make("td", { colSpan: 4, title: problem ?? "" }, text);
+    if (error) return make("tr", { className: "wrong" }, whole(problem));
+    if (word === null) return make("tr", {}, whole("\u00a0"));
+    const line = isOrigin ? "the origin" : seat.sitting.line(word), place = isOrigin ? "" : hex(address);
+    return make("tr", {}, ...[place, binary(word), hex(word), line].map((text) => make("td", {}, text)));
+}
+
+// The text once more, behind the field, with what is wrong marked at its place.
+function marked(line, { error }) {
+    if (!error) return [`${line}\n`];
+    const { from, to } = error;
+    return [line.slice(0, from), make("mark", {}, line.slice(from, to) || " "), `${line.slice(to)}\n`];
+}
+
+function drawEditor() {
+    const text = $("source").value, lines = text.split("\n"), { rows, errors } = parsed();
+    $("forms").replaceChildren(...rows.map(formRow));
+    $("source-marks").replaceChildren(...lines.flatMap((line, at) => marked(line, rows[at])));
+    $("source").rows = Math.max(lines.length, 12);
+    $("source").cols = Math.max(20, ...lines.map((line) => line.length + 1));
+    $("source").setAttribute("aria-invalid", errors ? "true" : "false");
+    const first = rows.findIndex((row) => row.error);
+    const more = errors > 1 ? ` ${errors - 1} more ${errors === 2 ? "row is" : "rows are"} wrong.` : "";
+    setText($("source-errors"), errors ? `Row ${first + 1}: ${rows[first].error.problem}.${more}` : "");
+    $("source-errors").classList.toggle("wrong", errors > 0);
+}
+
+// The program of the text, or null where it is wrong, which is said.
+function program() {
+    const source = parsed();
+    if (!source.errors && source.origin !== null) return source;
+    const row = source.rows.findIndex(({ error }) => error);
+    tell(row < 0 ? "The program is empty: write its origin first, as x3000."
+        : `Row ${row + 1} of the program: ${source.rows[row].error.problem}`, "wrong");
+    return null;
+}
+
+// Loads the program in the place of another; what is there for it to use, such as a monitor, stays.
+function loadProgram() {
+    const source = program();
+    if (source) load([...seat.files.filter(isBeside), { name: NAME, bytes: objectFile(source) }]);
+}
+
+function takeProgram() {
+    const last = seat.sitting.programs.at(-1);
+    if (!last) return tell("No program is loaded.", "wrong");
+    setSource(textOf(last.origin, seat.sitting.lines(last.origin, last.words)));
+    tell(`The ${last.words} words of ${last.name} are taken from memory as text.`);
+}
+
+// Puts a text into the field, and keeps it.
+export function setSource(text) {
+    $("source").value = text;
+    keep(text);
+    drawEditor();
+    show("program");
+}
+
+function save(asText) {
+    const source = program();
+    if (!source) return;
+    if (asText) download("program.txt", portable($("source").value, source), "text/plain");
+    else download(NAME, objectFile(source));
+    tell(`The program of ${source.words.length} words is saved.`);
+}
+
+// The two tabs.
+export function show(name) {
+    for (const tab of ["steps", "program"]) {
+        $(tab).hidden = tab !== name;
+        $(`tab-${tab}`).setAttribute("aria-selected", tab === name);
+        $(`tab-${tab}`).tabIndex = tab === name ? 0 : -1;
+    }
+}
+
+function listenTabs() {
+    for (const [tab, other] of [["steps", "program"], ["program", "steps"]]) {
+        $(`tab-${tab}`).addEventListener("click", () => show(tab));
+        $(`tab-${tab}`).addEventListener("keydown", (event) => {
+            if (event.key !== "ArrowLeft" && event.key !== "ArrowRight") return;
+            show(other);
+            $(`tab-${other}`).focus();
+        });
+    }
+}
+
+export function listenEditor() {
+    $("source").addEventListener("input", () => {
+        keep($("source").value);
+        drawEditor();
+    });
+    $("load-program").addEventListener("click", loadProgram);
+    $("take-program").addEventListener("click", takeProgram);
+    $("save-object").addEventListener("click", () => save(false));
+    $("save-text").addEventListener("click", () => save(true));
+    $("clear-program").addEventListener("click", () => setSource(""));
+    listenTabs();
+    $("source").value = kept();
+    drawEditor();
+}
