@@ -11,7 +11,9 @@ libfanthrig.so.
 >>> sitting.display
 'AHalted\\n'
 
-``word`` and ``line`` turn lines of text into words and back.
+``word`` and ``line`` turn lines of text into words and back; ``fanthrig.programs`` does so with
+whole programs, ``Labels`` are those of a symbol table, and ``fanthrig.marking`` marks programs
+against cases.
 
 >>> fanthrig.line(0x14E7), hex(fanthrig.word("ADD R2, R3, #7"))
 ('ADD R2, R3, #7', '0x14e7')
@@ -31,6 +33,7 @@ the machine.
 # for.
 from . import _folder  # noqa: F401
 from ._library import LibraryError
+from .backwards import Moment
 from .breakpoints import Breakpoints
 from .calls import (
     line,
@@ -52,6 +55,7 @@ from .calls import (
     version,
     write,
 )
+from .conditions import Condition, ConditionError
 from .constants import (
     LOG_WORDS,
     MAX_BUSY,
@@ -67,11 +71,15 @@ from .constants import (
     __version__,
 )
 from .ending import EndKind, Ending, SittingReport
+from .events import At, Changed, Event, Holds, Written
 from .exclusive import InUseError
+from .finding import Found
 from .formats import FormatError
+from .labels import LabelError, Labels
 from .log import LoggedStep, logged_steps
 from .memory import Line, Memory
 from .places import PlaceError
+from .programs import ProgramError
 from .recording import Program, Recording, RecordingError, ReplayError
 from .records import (
     Edition,
@@ -95,17 +103,26 @@ from .steps import Change, TracedStep
 from .words import LineError, word
 
 __all__ = [
+    "At",
     "Breakpoints",
     "Change",
+    "Changed",
+    "Condition",
+    "ConditionError",
     "Edition",
     "EndKind",
     "Ending",
+    "Event",
     "FormatError",
+    "Found",
+    "Holds",
     "InUseError",
     "Instruction",
     "Key",
     "Kind",
     "LOG_WORDS",
+    "LabelError",
+    "Labels",
     "LibraryError",
     "Line",
     "LineError",
@@ -119,8 +136,10 @@ __all__ = [
     "MONITOR_WORDS",
     "Memory",
     "Mode",
+    "Moment",
     "PlaceError",
     "Program",
+    "ProgramError",
     "Reading",
     "Reason",
     "Record",
@@ -141,6 +160,7 @@ __all__ = [
     "USER_STACK",
     "VECTOR_WORDS",
     "VERSION",
+    "Written",
     "__version__",
     "line",
     "line_length",

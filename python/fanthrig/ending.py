@@ -165,6 +165,7 @@ def ending_of(past: Past, stop: Stop) -> Ending:
     kind = {
         Stop.OUTPUT_FULL: EndKind.OUTPUT_LIMIT,
         Stop.BREAKPOINT: EndKind.BREAKPOINT,
+        Stop.EVENT: EndKind.BREAKPOINT,
         Stop.INTERRUPTED: EndKind.INTERRUPTED,
     }.get(stop, EndKind.STEPS)
     return _at(kind, stop.text, machine, left or strayed_by(past))

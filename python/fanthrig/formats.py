@@ -1,4 +1,5 @@
-"""Files that are plainly no object files of the book's tools, and what to do with them.
+"""Files that are plainly no object files of the book's tools, and what to do with them; text among
+them, which may be a program (``fanthrig.programs``).
 
 The library takes any file of an origin and words that fit memory, and many a file of another format
 would. None is refused here that could be an object file: each format is told by bytes that no
@@ -8,6 +9,7 @@ at: they are what the host says.
 
 from __future__ import annotations
 
+import re
 import unicodedata
 
 from .places import USER_WORDS
@@ -17,7 +19,6 @@ LC3TOOLS = (
     "it is an object file of lc3tools, which has a format of its own: assemble its source with the "
     "book's lc3as, or another tool that writes an origin and words"
 )
-TEXT = "it is text, and an object file is words: assemble it first"
 ELF = "it is a program for this computer (ELF), and no object file of the LC-3"
 ZIP = "it is a ZIP archive: unpack it, and name the object files in it"
 SWAPPED = (
@@ -33,6 +34,13 @@ SHORTEST_ELF = 52
 # A shorter file is taken for what it says it is.
 SHORTEST_TEXT = 8
 
+# Comments, and then an origin in binary or hexadecimal digits, alone in its line.
+_BEGINS = re.compile(
+    rb"(?:\xef\xbb\xbf)?(?:\s|;[^\r\n]*[\r\n])*"
+    rb"(?:0?x[0-9a-f]{4}|[01](?:[ \t]*[01]){15})[ \t]*[;\r\n]",
+    re.IGNORECASE,
+)
+
 # The words of TRAP x20 to x25, the services of the book's monitor.
 SERVICES = range(0xF020, 0xF026)
 
@@ -44,8 +52,8 @@ class FormatError(ValueError):
 def other_format(data: bytes) -> str:
     """What a file plainly is that is no object file, with what to do; empty where it may be one.
 
-    >>> other_format(b".ORIG x3000\\nHALT\\n.END\\n")
-    'it is text, and an object file is words: assemble it first'
+    >>> other_format(b"PK\\x03\\x04...PK\\x01\\x02...")
+    'it is a ZIP archive: unpack it, and name the object files in it'
     >>> other_format(bytes.fromhex("3000 F025"))
     ''
     """
@@ -55,19 +63,20 @@ def other_format(data: bytes) -> str:
     if data.startswith(b"\x7fELF") and len(data) >= SHORTEST_ELF:
         return ELF if data[4] in (1, 2) and data[5] in (1, 2) and data[6] == 1 else ""
     # After the files of a ZIP archive comes a list of them.
-    if data.startswith(b"PK\x03\x04") and b"PK\x01\x02" in data:
-        return ZIP
-    return TEXT if _is_text(data) else ""
+    return ZIP if data.startswith(b"PK\x03\x04") and b"PK\x01\x02" in data else ""
 
 
-def _is_text(data: bytes) -> bool:
+def is_text(data: bytes) -> bool:
     """Whether a file is text: lines of characters of UTF-8, and none of control but those that end
-    lines and the like; or of Latin-1 where an assembler's .ORIG is among them. Text without the end
-    of a line may be the words of a string, two characters in each.
+    lines and the like; or of Latin-1 where an assembler's .ORIG is among them; or one that begins
+    as a program that is written as text (``fanthrig.programs``). Text without the end of a line may
+    be the words of a string, two characters in each.
 
-    >>> _is_text(b"@@ehll oowlr!d")
-    False
+    >>> is_text(b"@@ehll oowlr!d"), is_text(b"x3000\\nxF025 ; Gr\\xfc\\xdfe\\n")
+    (False, True)
     """
+    if _BEGINS.match(data):
+        return True
     if len(data) < SHORTEST_TEXT or not (b"\n" in data or b"\r" in data):
         return False
     try:

@@ -27,6 +27,10 @@ class Held:
 
     Only the main thread may call this: no handler runs in another.
 
+    To set a handler undoes what ``signal.siginterrupt`` has set for its signal, and Python tells
+    nobody whether it has: a host that uses it calls it anew. Only C code of the host's own notices,
+    for Python goes on by itself with what a signal has interrupted.
+
     >>> usual = signal.signal(signal.SIGUSR1, lambda number, frame: print("handled"))
     >>> held = Held()
     >>> held.hold()

@@ -35,6 +35,13 @@ def _number(value: Word) -> int:
     return word(value) if isinstance(value, str) else as_word(value, "a word")
 
 
+def _array(values: Iterable[Word]) -> array[int]:
+    """Words as an array; one of words is taken as it is."""
+    if isinstance(values, array) and values.typecode == "H":
+        return values[:]
+    return array("H", [_number(item) for item in values])
+
+
 class Memory:
     """The 65,536 words of a sitting, by address. A word is given as a number from -32768 to 65,535
     or as a line of text. It is part of its sitting: while that is in use no word is altered, and it
@@ -97,7 +104,7 @@ class Memory:
             self._alter(self._address(address), array("H", [_number(value)]))  # type: ignore
             return
         first, end = self._range(address)
-        words = array("H", [_number(item) for item in value])  # type: ignore[union-attr]
+        words = _array(value)  # type: ignore[arg-type]
         if len(words) != end - first:
             raise ValueError(f"{len(words)} words are given for a range of {end - first}")
         self._alter(first, words)

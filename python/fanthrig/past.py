@@ -23,6 +23,11 @@ class Mark(NamedTuple):
         """Whether the machine was in User mode."""
         return bool(RecordStruct.from_buffer_copy(self.snapshot.record).psr & PSR_USER)
 
+    @property
+    def saved_ssp(self) -> int:
+        """The pointer of the supervisor's stack while the machine is in User mode."""
+        return int(RecordStruct.from_buffer_copy(self.snapshot.record).saved_ssp)
+
 
 class Past(NamedTuple):
     """What led to a clock: snapshots, the first of them at the start; keys; and the alterations
@@ -51,12 +56,11 @@ class Past(NamedTuple):
 
     def machine_at(self, clock: int) -> Machine:
         """A machine of its own that stands at a clock, before the step of that number."""
-        return self._followed(clock)[0]
+        return Walk(self, clock).machine
 
     def nearer(self, clock: int) -> Past:
         """The same past with a snapshot at a clock, for whoever asks for several steps after it."""
-        machine, made = self._followed(clock)
-        return self._replace(marks=(self.marks[0], Mark(machine.snapshot(), made)))
+        return self._replace(marks=(self.marks[0], Walk(self, clock).mark()))
 
     def until(self, clock: int) -> Past:
         """The past that led to an earlier clock, before anything was altered there."""
@@ -76,8 +80,9 @@ class Past(NamedTuple):
     def logs(self, first: int) -> Iterator[tuple[Machine, array[int]]]:
         """The same in parts of at most ``LOGGED_AT_ONCE`` steps, each with the machine as it stands
         after them."""
-        machine, made = self._followed(first)
-        for place in range(made, self.made + 1):
+        walk = Walk(self, first)
+        machine = walk.machine
+        for place in range(walk.made, self.made + 1):
             alteration = self.alterations[place] if place < self.made else None
             goal = self.clock if alteration is None else alteration.clock
             while machine.record.clock < goal:
@@ -86,20 +91,39 @@ class Past(NamedTuple):
             if alteration is not None:
                 alteration.make(machine)
 
-    def _followed(self, clock: int) -> tuple[Machine, int]:
-        """A machine that stands at a clock, with all that was altered there, and how many
-        alterations were made by then."""
-        snapshot, made = [mark for mark in self.marks if mark.snapshot.clock <= clock][-1]
-        machine = Machine(self.edition)
-        machine.times, machine.keys = self.times[:], self.keys[:]
-        machine.clear_display(snapshot.shown)
-        machine.restore(snapshot)
-        while made < self.made and self.alterations[made].clock <= clock:
-            _run_to(machine, self.alterations[made].clock)
-            self.alterations[made].make(machine)
-            made += 1
+
+class Walk:
+    """A machine of its own that goes through a past, from a clock on to later ones. ``made`` are
+    the alterations made by then."""
+
+    def __init__(self, past: Past, clock: int) -> None:
+        """Begins at a clock, with all that was altered there."""
+        snapshot, self.made = [mark for mark in past.marks if mark.snapshot.clock <= clock][-1]
+        self._past, self._most = past, past.made
+        self.machine = Machine(past.edition)
+        self.machine.times, self.machine.keys = past.times[:], past.keys[:]
+        self.machine.clear_display(snapshot.shown)
+        self.machine.restore(snapshot)
+        self.to(clock)
+
+    def to(self, clock: int) -> Machine:
+        """Goes on to a clock, with all that was altered there."""
+        past, machine = self._past, self.machine
+        while self.made < self._most and past.alterations[self.made].clock <= clock:
+            _run_to(machine, past.alterations[self.made].clock)
+            past.alterations[self.made].make(machine)
+            self.made += 1
         _run_to(machine, clock)
-        return machine, made
+        return machine
+
+    def step(self) -> Machine:
+        """Makes one step; what was altered after it is not yet."""
+        _whole(self.machine.advance(1))
+        return self.machine
+
+    def mark(self) -> Mark:
+        """A snapshot of where the machine stands."""
+        return Mark(self.machine.snapshot(), self.made)
 
 
 def _run_to(machine: Machine, clock: int) -> None:

@@ -35,6 +35,7 @@ class Stop(IntEnum):
     LOG_FULL = 3
     BREAKPOINT = -1
     INTERRUPTED = -2
+    EVENT = -3
 
     @property
     def text(self) -> str:
@@ -50,6 +51,7 @@ class Stop(IntEnum):
             Stop.LOG_FULL: "the log is full",
             Stop.BREAKPOINT: "the next instruction is at a breakpoint",
             Stop.INTERRUPTED: "interrupted by a signal",
+            Stop.EVENT: "an event that the run was to stop at has happened",
         }[self]
 
 

@@ -18,34 +18,33 @@ from signal import SIGINT
 from typing import TYPE_CHECKING, Any, Iterator, MutableSet, NamedTuple, Sequence, Union
 
 from . import calls
+from .backwards import Moment, last_change, last_write
 from .breakpoints import Breakpoints
-from .constants import KBSR_READY, MAX_CLOCK, MAX_STEPS, MCR_CLOCK, MEMORY_WORDS, USER_ORIGIN
+from .constants import KBSR_READY, MAX_CLOCK, MAX_STEPS, MCR_CLOCK, USER_ORIGIN
 from .constants import PSR_USER, USER_STACK, __version__
 from .ending import EndKind, Ending, SittingReport, ending_of
+from .events import At, Event
 from .exclusive import Exclusive, exclusive
-from .formats import FormatError, other_format
+from .finding import Found, advance_until, last_event
 from .log import LoggedStep, logged_steps
 from .machine import MEMORY_BYTES, Machine
 from .memory import Line, Memory
 from .own import last_own_clocks, last_own_steps
-from .past import Mark, Past
+from .past import Mark, Past, Walk
 from .places import check_apart, check_examiner, check_pc
+from .programs import object_bytes, read_program
 from .recording import REPLAY_STEPS, Alteration, End, Program, Recording, RecordingError
 from .recording import RegisterAlteration, Typed, WordsAlteration
 from .records import LONG_LIMIT, WORD_LIMIT, Edition, Mode, Record, Refusal, Refused, Stop
 from .records import as_word, whole
+from .routines import Leaves, before_last, call_of, end_of
+from .snapshots import MARK_EVERY, thinned
 from .steps import NAMES, TracedStep, value_of
 
 if TYPE_CHECKING:
     from _typeshed import ReadableBuffer
 
 File = Union[str, "PathLike[str]", "ReadableBuffer"]
-
-# A longer file fits at no origin. No more of it is read, so that a host can be handed anything.
-LONGEST_FILE = 2 + 2 * MEMORY_WORDS + 2
-
-# Steps between two snapshots that the log of the last steps is made from.
-MARK_EVERY = 1 << 20
 
 # The keys that are not forgotten for the sake of a snapshot in User mode.
 MOST_KEYS = 1 << 16
@@ -83,6 +82,15 @@ class Key(NamedTuple):
 
     time: int
     byte: int
+
+
+class Ahead(NamedTuple):
+    """How far a sitting has come that went back: its clock, the keys that had arrived there, and
+    the alterations made."""
+
+    clock: int
+    arrived: int
+    made: int
 
 
 class Sitting:
@@ -131,6 +139,14 @@ candidate's belongs: give it another origin, or take fewer words
     **Breakpoints.** ``breakpoints`` is a set of addresses. A run stops before the instruction at
     one of them, and the run after that goes on with it.
 
+    **Going back.** ``back``, ``back_to``, ``back_over``, ``back_out`` and ``run_back_to`` put the
+    sitting back to where it stood before an earlier step, exactly; ``last_write`` and
+    ``last_change`` say which step it was that did something. What came from outside comes again at
+    its time when the sitting goes on. Who alters something then, or presses keys at a time, begins
+    another future: the alterations that lay ahead are forgotten, and keys that were typed are typed
+    anew. What is typed then takes the place of those keys. Some snapshots are held for this, of 128
+    KiB each: see ``fanthrig.snapshots``.
+
     **Recording.** ``save`` writes a file that ``replay`` and ``of`` make the same sitting of.
 
     **Copies.** ``copy.copy``, ``copy.deepcopy`` and ``pickle`` make a sitting of its own that
@@ -140,7 +156,8 @@ candidate's belongs: give it another origin, or take fewer words
     while another call goes on raises ``InUseError`` and alters nothing, in another thread as well
     as in a handler; to look at it is allowed. Several sittings may run at once, each in a thread,
     since a call lets the other threads run. A handler of a signal that raises never ends a call in
-    the middle: memory, record, keys and display agree when it does.
+    the middle: memory, record, keys and display agree when it does. Each call sets the handlers
+    anew, so that ``signal.siginterrupt`` has to be called after it, where a host needs it at all.
     """
 
     def __init__(
@@ -181,9 +198,10 @@ candidate's belongs: give it another origin, or take fewer words
     def load(
         self, file: File, name: str = "", examiner: bool = False, anywhere: bool | None = None
     ) -> Program:
-        """Loads an object file: a path, or the bytes themselves. The record stays as it is, so
-        ``start`` follows where the file is to run. A file that is plainly of another format raises
-        ``FormatError``, which says what to do.
+        """Loads an object file: a path, or the bytes themselves; or a program as text by its path
+        (``fanthrig.programs``). The record stays as it is, so ``start`` follows where the file is
+        to run. A file that is plainly of another format raises ``FormatError``, which says what to
+        do.
 
         It is a candidate's file, or the ``examiner``'s, and lies where such a file may unless it
         may lie ``anywhere``; without a word on that, as the sitting was made. Files that are loaded
@@ -198,10 +216,7 @@ fewer than two: an object file is an origin and words, of two bytes each
             name = name or fspath(file)
             # Not in exclusive use: a pipe may keep its reader waiting, and Ctrl-C shall end that.
             with open(file, "rb") as stream:
-                file = stream.read(LONGEST_FILE)
-            problem = other_format(file)
-            if problem:
-                raise FormatError(f"{name}: refused: {problem}")
+                file = object_bytes(read_program(stream), name)
         return self._load(file, name, examiner, self._anywhere if anywhere is None else anywhere)
 
     @exclusive
@@ -250,17 +265,24 @@ fewer than two: an object file is an origin and words, of two bytes each
         machine.record = started.record.to_c()
         machine.times, machine.keys, machine.arrived = array("Q"), array("B"), 0
         machine.clear_display()
+        self._begin_anew(at)
+
+    def _begin_anew(self, pc: int) -> None:
+        """Nothing has come from outside, and no step has been made: the first one is at PC."""
         self._taken = 0
         self._typed, self._look, self._since = bytearray(), 0, 0
+        self._typed_places = array("Q")
         self._left: Typed | None = None
         self._left_until = 0
+        self._ahead: Ahead | None = None
+        self.event: Event | None = None
         self._alterations: list[Alteration] = []
         self._made = 0
         self._marks = []
         self._passed: tuple[int, int] | None = None
         self._forgotten = False
         self._stack_base: int | None = None
-        self._first_pc = at
+        self._first_pc = pc
         self._run_past: Past | None = None
         self.stop = Stop.DONE
 
@@ -333,6 +355,7 @@ fewer than two: an object file is an origin and words, of two bytes each
     def _keep(self, alteration: Alteration) -> None:
         """Keeps an alteration for the recording, which begins with the first step."""
         if self._marks:
+            self._retype(self._depart())
             self._alterations.insert(self._made, alteration)
             self._made += 1
 
@@ -383,7 +406,12 @@ fewer than two: an object file is an origin and words, of two bytes each
     def _type(self, keys: bytes) -> None:
         """Types keys."""
         # Who types at a replay departs from it.
+        self._depart()
         self._left = None
+        self._retype(keys)
+
+    def _retype(self, keys: bytes) -> None:
+        """Puts keys behind those that are typed and have not arrived."""
         if keys and not self._typed:
             if not self._machine.record.kbsr & KBSR_READY:
                 self._look = self.clock
@@ -400,16 +428,18 @@ fewer than two: an object file is an origin and words, of two bytes each
         """Presses keys at a time on the clock, whether the ones before were read or not."""
         pressed, at = memoryview(keys).tobytes(), whole(at, LONG_LIMIT, "at")
         with self._use:
+            if at < self.clock:
+                raise Refused(Refusal.TIME)
+            self._retype(self._depart())
             self._press(pressed, at)
 
-    def _press(self, keys: bytes, at: int) -> None:
-        """Puts keys behind those that arrive at the same time or before."""
+    def _press(self, keys: bytes, at: int) -> int:
+        """Puts keys behind those that arrive at the same time or before, and answers the place."""
         machine = self._machine
-        if at < machine.record.clock:
-            raise Refused(Refusal.TIME)
         place = bisect_right(machine.times, at, machine.arrived)
         machine.times[place:place] = array("Q", [at]) * len(keys)
         machine.keys[place:place] = array("B", keys)
+        return place
 
     @property
     def keys(self) -> list[Key]:
@@ -428,7 +458,7 @@ fewer than two: an object file is an origin and words, of two bytes each
             if self._machine.record.kbsr & KBSR_READY:
                 self._put_off()
                 continue
-            self._press(self._typed[:1], self.clock)
+            self._typed_places.append(self._press(self._typed[:1], self.clock))
             del self._typed[0]
             self._since, self._look = self.clock, self.clock + FIRST_LOOK
 
@@ -473,6 +503,11 @@ fewer than two: an object file is an origin and words, of two bytes each
         # New lists: what tells of the past still has the old ones.
         machine.times, machine.keys = machine.times[arrived:], machine.keys[arrived:]
         machine.arrived -= arrived
+        kept = (place - arrived for place in self._typed_places if place >= arrived)
+        self._typed_places = array("Q", kept)
+        if self._ahead is not None:
+            ahead = self._ahead
+            self._ahead = Ahead(ahead.clock, ahead.arrived - arrived, ahead.made - made)
         self._alterations, self._made = self._alterations[made:], self._made - made
         self._marks = [
             Mark(mark._replace(arrived=mark.arrived - arrived), before - made)
@@ -505,7 +540,9 @@ fewer than two: an object file is an origin and words, of two bytes each
 
     # Running.
 
-    def run(self, steps: int | None = None) -> SittingReport:
+    def run(
+        self, steps: int | None = None, *, until: Sequence[Event] = (), here: bool = False
+    ) -> SittingReport:
         """Runs so many steps, or without a number until the machine stops of itself.
 
         It stops earlier where the machine is halted, before an instruction at a breakpoint, or at
@@ -513,6 +550,11 @@ fewer than two: an object file is an origin and words, of two bytes each
         can go on, and the usual handler is called, which raises ``KeyboardInterrupt``. Where a
         handler of the host's own raises nothing, the stop is ``INTERRUPTED``. The handlers of other
         signals are called between two steps as well; the run goes on where they raise nothing.
+
+        It also stops at the events of ``until``, such as a condition that comes to hold or a word
+        that is written: see ``fanthrig.events``. ``event`` is the one that happened. Before its
+        first step no event stops it, unless it is to stop ``here`` as well: as where a run is made
+        in pieces.
 
         >>> sitting = Sitting(bytes.fromhex("3000 1021 0FFE"))
         >>> sitting.breakpoints.add(0x3001)
@@ -525,7 +567,7 @@ fewer than two: an object file is an origin and words, of two bytes each
             end = self._end(steps)
             self._begin()
             counts = self._counts()
-            self.stop = self._go(end)
+            self.stop = self._go(end, until, here)
             return self._report(*counts)
 
     def step(self) -> SittingReport:
@@ -634,9 +676,9 @@ PSR x8001 -> x0001, Saved_USP x0000 -> xFDFF, x2FFE x0000 -> x3002, x2FFF x0000 
             self._mark()
             self._first_pc = self._machine.record.pc
 
-    def _go(self, end: int) -> Stop:
+    def _go(self, end: int, until: Sequence[Event], here: bool) -> Stop:
         """Runs to a clock, in as many calls as it takes, unless something stops it."""
-        machine, search = self._machine, FIRST_SEARCH
+        search, begun, self.event = FIRST_SEARCH, -1 if here else self.clock, None
         while True:
             self._settle()
             if self.clock >= end:
@@ -647,13 +689,27 @@ PSR x8001 -> x0001, Saved_USP x0000 -> xFDFF, x2FFE x0000 -> x3002, x2FFF x0000 
                 return Stop.BREAKPOINT
             self._look_at_keyboard()
             n = self._reach(end)
-            if self._breakpoints:
-                stop = machine.advance_to(min(n, search), tuple(self._breakpoints))
-                search *= 2
+            if until:
+                stop = self._advance_until(min(n, search), until, self.clock == begun)
+            elif self._breakpoints:
+                stop = self._machine.advance_to(min(n, search), tuple(self._breakpoints))
             else:
-                stop = machine.advance(n)
+                stop = self._machine.advance(n)
+            search *= 2
+            if self.event is not None:
+                self._settle()
+                return stop
             if stop not in (Stop.DONE, Stop.BREAKPOINT):
                 return stop
+
+    def _advance_until(self, n: int, until: Sequence[Event], begins: bool) -> Stop:
+        """Makes up to n steps, unless an event happens or a breakpoint is met."""
+        events = [*until, *map(At, self._breakpoints)]
+        stop, event = advance_until(self._machine, n, events, begins)
+        if event in until:
+            self.event = event
+            self._passed = self._here() if stop is Stop.BREAKPOINT else self._passed
+        return stop
 
     def _interrupted(self) -> bool:
         """Whether Ctrl-C was pressed: its handler is called at the end of the run. Those of other
@@ -695,14 +751,14 @@ PSR x8001 -> x0001, Saved_USP x0000 -> xFDFF, x2FFE x0000 -> x3002, x2FFF x0000 
         while self._made < len(self._alterations) and self._alterations[self._made].clock <= clock:
             self._alterations[self._made].make(self._machine)
             self._made += 1
+        if self._ahead is not None and clock >= self._ahead.clock:
+            self._ahead = None
         if self._left is not None and clock >= self._left_until:
             self._typed = bytearray(self._left.text)
             self._look, self._since, self._left = self._left.look, self._left.since, None
         if clock - self._marks[-1].snapshot.clock >= MARK_EVERY:
             self._mark()
-            # The start is kept, the last one in User mode, and two more: the log may reach back
-            # beyond the last.
-            self._marks[1:-2] = [mark for mark in self._marks[1:-2] if mark.in_user_mode][-1:]
+            self._marks = thinned(self._marks)
 
     def _mark(self) -> None:
         """Takes a snapshot. In User mode the supervisor stack's pointer is seen as well."""
@@ -710,6 +766,168 @@ PSR x8001 -> x0001, Saved_USP x0000 -> xFDFF, x2FFE x0000 -> x3002, x2FFF x0000 
         self._marks.append(Mark(self._machine.snapshot(), self._made))
         if self.edition is Edition.THIRD and record.psr & PSR_USER:
             self._stack_base = record.saved_ssp
+
+    # Over calls, out of routines, and back.
+
+    def over(self) -> SittingReport:
+        """Makes one step, and where that is a call or an entry goes on until it has returned; a
+        breakpoint stops it before: see ``fanthrig.routines``.
+
+        >>> sitting = Sitting(bytes.fromhex("3000 1021 F021 F025"))
+        >>> sitting.over().steps, sitting.over().steps, sitting.here().text
+        (1, 9, 'TRAP x25')
+        """
+        report = self.step()
+        end = end_of(self.last_steps(1)[0], self.edition) if report.steps else None
+        if end is None:
+            return report
+        more = self.run(until=[end], here=True)
+        steps, keys = report.steps + more.steps, report.keys + more.keys
+        return SittingReport(steps, keys, report.shown + more.shown, more.stop, more.past)
+
+    def out(self) -> SittingReport:
+        """Runs until the routine has returned in which the machine stands, unless a breakpoint
+        stops it before."""
+        return self.run(until=[Leaves()])
+
+    def back(self, steps: int = 1) -> int:
+        """Goes back so many steps, or to the start where fewer were made; answers how many.
+
+        >>> sitting = Sitting(bytes.fromhex("3000 1021 0FFE"))
+        >>> _ = sitting.run(10_000_001)
+        >>> sitting.back(), sitting["R0"], sitting.back(9_999_998), sitting["R0"]
+        (1, 19264, 9999998, 1)
+        """
+        clock = self.clock - whole(steps, LONG_LIMIT, "steps")
+        with self._use:
+            self._begin()
+            before = self.clock
+            self._go_back(max(clock, self._marks[0].snapshot.clock))
+            return before - self.clock
+
+    @exclusive
+    def back_to(self, clock: int) -> None:
+        """Goes back to before the step of a number. One that lies ahead, or before the start, is a
+        ``ValueError``."""
+        self._begin()
+        start = self._marks[0].snapshot.clock
+        if not start <= whole(clock, LONG_LIMIT, "clock") <= self.clock:
+            raise ValueError(f"step {clock} is none from {start} to {self.clock}")
+        self._go_back(clock)
+
+    def back_over(self) -> int:
+        """Goes back one step, or where that returned from a routine to before the call; answers how
+        many steps that are."""
+        past = self._its_past()
+        return self.back(past.clock - before_last(past)) if past.clock > past.start else 0
+
+    def back_out(self) -> int:
+        """Goes back to before the call of the routine in which the machine stands; answers how many
+        steps that are, 0 where it stands in none."""
+        past = self._its_past()
+        call = call_of(past)
+        return 0 if call is None else self.back(past.clock - call)
+
+    def run_back_to(self, *where: int | Event) -> Found | None:
+        """Goes back to the last time that PC was at one of these addresses, or to before the last
+        step at which one of these events happened; without any, to the last breakpoint. Answers
+        which it was; where there is none, nothing, and the sitting stays where it is.
+
+        >>> from .events import Changed
+        >>> sitting = Sitting(bytes.fromhex("3000 1021 0FFE"))
+        >>> _ = sitting.run(1_000_000)
+        >>> sitting.run_back_to(0x3001).clock, sitting.run_back_to(Changed("R0")).clock
+        (999999, 999998)
+        """
+        asked = where or tuple(self._breakpoints)
+        events = [one if isinstance(one, Event) else At(one) for one in asked]
+        past = self._its_past()
+        found = last_event(past, past.start, events)
+        if found is not None:
+            self.back_to(found.clock)
+        return found
+
+    def last_write(self, address: int) -> Moment | None:
+        """The last step that wrote to a word, by a store or a push: see ``fanthrig.backwards``.
+
+        >>> sitting = Sitting(bytes.fromhex("3000 3002 1021 0FFD"))
+        >>> _ = sitting.run(1_000_000)
+        >>> print(sitting.last_write(0x3003))
+        999999  x3000  x3002  ST R0, #2         instruction  x3003 x1614 -> x1615
+        """
+        return last_write(self._its_past(), address)
+
+    def last_change(self, register: str) -> Moment | None:
+        """The last step that changed a register.
+
+        >>> sitting = Sitting(bytes.fromhex("3000 1021 F025"))
+        >>> _ = sitting.run()
+        >>> print(sitting.last_change("Saved_USP"))
+             1  x3001  xF025  TRAP x25          trap  R6 xFDFF -> x2FFE, PC x3001 -> x026D, \
+PSR x8001 -> x0001, Saved_USP x0000 -> xFDFF, x2FFE x0000 -> x3002, x2FFF x0000 -> x8001
+        """
+        return last_change(self._its_past(), register)
+
+    @exclusive
+    def _its_past(self) -> Past:
+        """What led to where the machine stands, be it nothing."""
+        self._begin()
+        return self._past()
+
+    def _go_back(self, clock: int) -> None:
+        """Puts the machine back to a clock. What lies ahead stays as it was, to come again."""
+        if clock == self.clock:
+            return
+        machine, walk = self._machine, Walk(self._past(), clock)
+        if walk.machine.shown < machine.dropped:
+            raise ValueError("the sitting has forgotten its display, and can't go back beyond that")
+        if self._ahead is None:
+            self._ahead = Ahead(self.clock, machine.arrived, self._made)
+        if self._left is None:
+            self._left = Typed(bytes(self._typed), self._look, self._since)
+            self._left_until, self._typed = self.clock, bytearray()
+        machine.restore(walk.machine.snapshot())
+        self._made, self._taken = walk.made, min(self._taken, machine.shown)
+        self._marks = [mark for mark in self._marks if mark.snapshot.clock <= clock]
+        users = [mark for mark in self._marks if mark.in_user_mode]
+        self._stack_base = users[-1].saved_ssp if users else None
+        self._run_past, self._passed, self.stop = None, self._here(), Stop.DONE
+
+    def _what_stays(self) -> tuple[array[int], array[int], list[Alteration], bytes]:
+        """Keys with their times and alterations without those that lie ahead because the sitting
+        went back; and the text of those keys that were typed."""
+        machine, ahead = self._machine, self._ahead
+        times, keys, alterations = machine.times[:], machine.keys[:], self._alterations[:]
+        if ahead is None:
+            return times, keys, alterations, b""
+        places = [place for place in self._typed_places if place >= machine.arrived]
+        text = bytes(keys[place] for place in places)
+        for place in reversed(places):
+            del times[place], keys[place]
+        del alterations[self._made : ahead.made]
+        if self._left is not None and self._left_is_own():
+            text += self._left.text
+        return times, keys, alterations, text
+
+    def _left_is_own(self) -> bool:
+        """Whether the text that is left for later was typed here, and is not a recording's."""
+        left, ahead = self._left, self._ahead
+        return left is not None and ahead is not None and self._left_until == ahead.clock
+
+    def _depart(self) -> bytes:
+        """Begins another future where the sitting went back, and answers what was typed of the old
+        one. The lists are new: what tells of the past still has the old ones."""
+        if self._ahead is None:
+            return b""
+        machine = self._machine
+        machine.times, machine.keys, self._alterations, text = self._what_stays()
+        while self._typed_places and self._typed_places[-1] >= machine.arrived:
+            self._typed_places.pop()
+        self._since = machine.times[self._typed_places[-1]] if self._typed_places else 0
+        self._look = self._since + FIRST_LOOK
+        self._left = None if self._left_is_own() else self._left
+        self._ahead = None
+        return text
 
     # The past.
 
@@ -856,17 +1074,20 @@ PSR x8001 -> x0001, Saved_USP x0000 -> xFDFF, x2FFE x0000 -> x3002, x2FFF x0000 
         if self._forgotten:
             raise ValueError("the sitting has forgotten its start, and can't be recorded")
         self._begin()
-        machine, left = self._machine, self._left
+        times, keys, alterations, text = self._what_stays()
+        typed = self._left or Typed(bytes(self._typed), self._look, self._since)
+        if self._left_is_own():
+            typed = Typed(text, self.clock, self.clock)
         begun = Machine(self.edition)
         begun.restore(self._marks[0][0])
         return Recording(
             edition=self.edition,
             start=begun.plain_record(),
             memory=begun.words,
-            keys=tuple(zip(machine.times, machine.keys)),
-            alterations=tuple(self._alterations),
-            end=End.of(machine),
-            typed=left or Typed(bytes(self._typed), self._look, self._since),
+            keys=tuple(zip(times, keys)),
+            alterations=tuple(alterations),
+            end=End.of(self._machine),
+            typed=typed,
             programs=tuple(self.programs),
         )
 

@@ -1,4 +1,5 @@
-"""JSON as our files have it: whole numbers of few digits, and no member of an object twice.
+"""JSON as our files have it: numbers of few digits, whole unless fractions are allowed, and no
+member of an object twice.
 
 Python's reader takes the last of two members with one name and drops the other, which another
 reader may take; it takes numbers of any length, fractions and ``NaN``. Here each is an error.
@@ -14,8 +15,9 @@ from typing import Any, NoReturn
 MOST_DIGITS = 20
 
 
-def strict_json(text: str | bytes) -> Any:
-    """The data of a text, or a ``ValueError`` that says what is wrong in it.
+def strict_json(text: str | bytes, fractions: bool = False) -> Any:
+    """The data of a text, or a ``ValueError`` that says what is wrong in it. Where ``fractions``
+    are allowed, they are written as 2.5.
 
     >>> strict_json('{"steps": 7}')
     {'steps': 7}
@@ -30,7 +32,7 @@ def strict_json(text: str | bytes) -> Any:
         text,
         object_pairs_hook=_members,
         parse_int=_number,
-        parse_float=_no_number,
+        parse_float=_fraction if fractions else _no_number,
         parse_constant=_no_number,
     )
 
@@ -49,6 +51,13 @@ def _number(digits: str) -> int:
     if len(digits.lstrip("-")) > MOST_DIGITS:
         raise ValueError(f"a number has more than {MOST_DIGITS} digits")
     return int(digits)
+
+
+def _fraction(text: str) -> float:
+    """A number with a fraction."""
+    if len(text) > MOST_DIGITS or "e" in text.lower():
+        raise ValueError(f"{text[:MOST_DIGITS]} is no number of a few digits")
+    return float(text)
 
 
 def _no_number(text: str) -> NoReturn:

@@ -2,6 +2,7 @@
 
 from __future__ import annotations
 
+import copy
 import json
 import random
 from pathlib import Path
@@ -29,8 +30,13 @@ def of_kind(kind: str, lines: Lines) -> Lines:
 
 
 def untimed(lines: Lines) -> Lines:
-    """The lines without what tells when they were written."""
-    return [{name: value for name, value in line.items() if name != "time"} for line in lines]
+    """The lines without what tells when they were written, and how long it took."""
+    told = copy.deepcopy(lines)
+    for line in told:
+        line.pop("time", None)
+        for one in line.get("results", []):
+            one.pop("seconds")
+    return told
 
 
 class Marking(Folder):

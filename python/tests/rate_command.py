@@ -59,7 +59,8 @@ def alone(count: int) -> None:
 
 def hello(folder: Path) -> float:
     """Prints the time of a hello; answers that of the installed command."""
-    install = ["make", "-s", "-C", str(ROOT), "-o", "lib", "install", f"DESTDIR={folder}"]
+    standing = ["-o", "lib", "-o", "page"]
+    install = ["make", "-s", "-C", str(ROOT), *standing, "install", f"DESTDIR={folder}"]
     subprocess.run(install, check=True)
     path = folder / "hello.obj"
     path.write_bytes(HELLO)

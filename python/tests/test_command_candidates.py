@@ -10,9 +10,9 @@ import unittest
 from pathlib import Path
 from unittest import mock
 
-from fanthrig.command.candidates import Found, candidate_file, found_in
-from fanthrig.command.messages import CommandError
-from fanthrig.command.regular import opened
+from fanthrig.marking.candidates import Found, candidate_file, found_in
+from fanthrig.marking.regular import opened
+from fanthrig.telling import FileError
 
 from .command_support import ENVIRONMENT, PYTHON, process
 from .mark_support import Marking, doubling, lines_of, names, of_kind, verdicts
@@ -37,7 +37,7 @@ class Walk(Marking):
         (self.top / "empty").mkdir()
         (self.top / "folder.obj").mkdir()
         self.file("students/folder.obj/x.obj", doubling())
-        other = "its name does not end in .obj"
+        other = "its name does not end in .obj, .bin or .hex"
         expected = [
             (".hid", other),
             ("UPPER.OBJ", ""),
@@ -46,7 +46,7 @@ class Walk(Marking):
             ("b/p.obj", ""),
             ("empty", "the folder is empty"),
             ("folder.obj/x.obj", ""),
-            ("notes.txt", other),
+            ("notes.txt", "its name ends in .txt: --texts has it marked"),
             ("obj", other),
         ]
         self.assertEqual(self.found(), expected)
@@ -60,7 +60,7 @@ class Walk(Marking):
         )
         table = self.mark(self.top).out.decode()
         self.assertIn("\n5 of 5 candidates right; 4 files passed over\n\npassed over:\n", table)
-        self.assertIn(f"\n  {self.top}/notes.txt: {other}\n", table)
+        self.assertIn(f"\n  {self.top}/notes.txt: its name ends in .txt", table)
         rows = self.mark("--csv", self.top).out.decode()
         self.assertIn(f'"{self.top}/notes.txt","","passed over"', rows)
 
@@ -256,7 +256,7 @@ class Special(Marking):
         for other in others:
             other.rename(path)
             # The look before the opening has seen the file as it was.
-            with mock.patch("os.stat", return_value=usual), self.assertRaises(CommandError):
+            with mock.patch("os.stat", return_value=usual), self.assertRaises(FileError):
                 with opened(str(path), links=False):
                     self.fail("it is opened")
             path.rename(other)

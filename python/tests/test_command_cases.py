@@ -10,9 +10,9 @@ import unittest
 from pathlib import Path
 from unittest import mock
 
-from fanthrig.command import cases as of_cases
-from fanthrig.command.cases import Case, cases_of
-from fanthrig.command.messages import CommandError
+from fanthrig.marking import cases as of_cases
+from fanthrig.marking.cases import Case, cases_of
+from fanthrig.telling import FileError
 
 from .command_support import ENVIRONMENT, HELLO, PYTHON, Folder, ran
 
@@ -138,7 +138,7 @@ class Cases(Folder):
 
     def refused(self, path: Path, said: str) -> None:
         """That cases are refused, by the command as well."""
-        with self.assertRaises(CommandError) as caught:
+        with self.assertRaises(FileError) as caught:
             cases_of(str(path))
         self.assertIn(said, str(caught.exception))
         self.assertTrue(str(caught.exception).startswith(str(path)))

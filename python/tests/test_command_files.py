@@ -13,7 +13,7 @@ from pathlib import Path
 from unittest import mock
 
 import fanthrig
-from fanthrig.formats import other_format
+from fanthrig.formats import is_text, other_format
 
 from .command_support import HELLO, Folder, Ran, ran
 from .support import object_file
@@ -59,7 +59,7 @@ class Hostile(Folder):
             self.file("high.obj", b"\xFF\xFF" + bytes(4)): "refused (18)",
             self.file("hello.asm", TEXT): "it is text",
             self.file("accents.asm", TEXT + "; sí, señor\n".encode()): "it is text",
-            self.file("hello.bin", b"0011000000000000\n1111000000100101\n"): "it is text",
+            self.file("hello.bin", b"0011000000000000\n1111000000100102\n"): "line 2, column 16",
             self.file("notepad.asm", b"\xef\xbb\xbf; a program\r\n" + TEXT): "it is text",
             self.file("latin.asm", "; sí, señor\n".encode("latin-1") + TEXT): "it is text",
             self.file("elf", b"\x7fELF\x02\x01\x01" + bytes(200)): "ELF",
@@ -206,11 +206,12 @@ class Formats(unittest.TestCase):
         for _ in range(200):
             words = [rng.getrandbits(16) for _ in range(rng.randrange(4, 60))]
             self.assertEqual(other_format(object_file(0x3000, *words)), "")
+            self.assertFalse(is_text(object_file(0x3000, *words)))
         # A few words of printable bytes alone are no text yet.
-        self.assertEqual(other_format(object_file(0x3030, 0x3131, 0x4142)), "")
+        self.assertFalse(is_text(object_file(0x3030, 0x3131, 0x4142)))
         self.assertEqual(other_format(HELLO), "")
         # So are the words of a string for PUTSP.
-        self.assertEqual(other_format(b"@@ehll oowlr!d"), "")
+        self.assertFalse(is_text(b"@@ehll oowlr!d"))
         # What begins as another format may still be a program.
         for begins in (0x1C30, 0x15C0), (0x7F45, 0x4C46), (0x504B, 0x0304):
             self.assertEqual(other_format(object_file(*begins, 0x5020, 0xF025)), "")
@@ -218,4 +219,5 @@ class Formats(unittest.TestCase):
 
     def test_texts_are(self) -> None:
         for text in (TEXT, b"hello world\r\n", "Grüße aus dem Süden\n".encode()):
-            self.assertIn("it is text", other_format(text))
+            self.assertTrue(is_text(text))
+            self.assertEqual(other_format(text), "")

@@ -10,8 +10,8 @@ from collections import Counter
 from typing import Any
 
 import fanthrig
-from fanthrig.command.flags import Flag, counted_flags
-from fanthrig.command.terminal import Signals
+from fanthrig.marking.flags import Flag, counted_flags
+from fanthrig.running import Unstopped
 from fanthrig.ending import EXCEPTIONS, has_service
 
 from .mark_support import Marking, doubling
@@ -38,6 +38,16 @@ def forgiving_monitor() -> bytes:
         memory[vector] = 0x0300
     memory[0x300 : 0x300 + len(GO_ON)] = type(memory)("H", map(fanthrig.word, GO_ON))
     return object_file(0, *memory[: 0x300 + len(GO_ON)])
+
+
+def returning_monitor() -> bytes:
+    """Another: all traps but GETC, OUT and HALT lead to an RTI alone."""
+    memory = fresh()
+    fanthrig.monitor(memory)
+    memory[0x300] = fanthrig.word("RTI")
+    for vector in {*range(0x100)} - {0x20, 0x21, 0x25}:
+        memory[vector] = 0x300
+    return object_file(0, *memory[:0x301])
 
 
 def then_doubling(*lines: str) -> bytes:
@@ -217,17 +227,24 @@ class Survived(Marking):
         self.assertIn(f"  2/2  right; flagged: {flags}", table)
 
     def test_traps_without_a_service_that_return(self) -> None:
-        # All traps but those that the program needs lead to an RTI alone.
-        memory = fresh()
-        fanthrig.monitor(memory)
-        memory[0x300] = fanthrig.word("RTI")
-        for vector in {*range(0x100)} - {0x20, 0x21, 0x25}:
-            memory[vector] = 0x300
-        self.monitor = self.file("monitor.obj", object_file(0, *memory[:0x301]))
+        self.monitor = self.file("monitor.obj", returning_monitor())
         self.assertEqual(self.flags(doubling()), [[], []])
         attempts = then_doubling("TRAP x26", "TRAP xFF", "TRAP x26")
         flag = ["trap without service", 0x3000, "TRAP x26", 3]
         self.assertEqual(self.flags(attempts), [[flag], [flag]])
+
+    def test_a_service_that_the_program_installs(self) -> None:
+        double = ["TRAP x20", "TRAP x21", "TRAP x21", "TRAP x25", "RTI"]
+        program = ["LEA R0, #6", "STI R0, #6", "TRAP x26", *double]
+        path = self.file("installs.obj", object_file(0x3000, *program, 0x0026))
+        (result,) = self.marked("--supervisor", path, code=0)
+        self.assertEqual([one["flags"] for one in result["results"]], [[], []])
+        # TRAP x26 before it has a service, twice while it has one, and after it has one.
+        program = ["LEA R0, #11", "LDI R1, #11", "TRAP x26", "STI R0, #9", "TRAP x26", "TRAP x26"]
+        content = object_file(0x3000, *program, "STI R1, #6", "TRAP x26", *double, 0x0026)
+        self.monitor = self.file("monitor.obj", returning_monitor())
+        flag = ["trap without service", 0x3002, "TRAP x26", 2]
+        self.assertEqual(self.flags(content, "--supervisor"), [[flag], [flag]])
 
     def test_supervisor_mode(self) -> None:
         # The program gives the illegal opcode a routine of its own, goes on, and sets it back.
@@ -264,7 +281,7 @@ class Counted(unittest.TestCase):
                 if name:
                     steps[name] += 1
                     first.setdefault(name, (step.pc, step.line))
-            flags = counted_flags(recording, Signals())
+            flags = counted_flags(recording, Unstopped())
             self.assertEqual({flag.flag: flag.times for flag in flags}, steps)
             self.assertEqual([(flag.pc, flag.line) for flag in flags], list(first.values()))
             seen += steps
@@ -275,7 +292,7 @@ class Counted(unittest.TestCase):
         loop = object_file(0x3000, "LD R0, #-256", "BRnzp #-2")
         sitting = fanthrig.Sitting(loop, examiner=[forgiving_monitor()], monitor=False)
         sitting.run(1_000_000)
-        (flag,) = counted_flags(sitting.recording(), Signals())
+        (flag,) = counted_flags(sitting.recording(), Unstopped())
         # Ten steps a round: the exception, the routine of eight, and the branch.
         self.assertEqual(flag, Flag("access exception", 0x3000, "LD R0, #-256", 100_000))
 

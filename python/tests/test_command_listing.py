@@ -8,7 +8,8 @@ import fanthrig
 from fanthrig.command.log import HEADER, row
 
 from .command_support import HELLO, UNTIL_Q, Folder, ran
-from .support import COUNTING, object_file
+from .support import COUNTING, Words, object_file
+from .timing import lines_long
 
 
 class Listing(Folder):
@@ -88,6 +89,15 @@ class Logging(Folder):
         steps = [line.split()[:2] for line in out.decode().splitlines()[1:]]
         self.assertEqual((code, steps), (1, [["9999998", "x3000"], ["9999999", "x3001"]]))
 
+    def test_the_time_of_a_log(self) -> None:
+        # Loads, stores, a trap and the monitor's own steps. A step of a log takes as long as 14 to
+        # 17 lines of text; it took as long as 50 while each was made and written by itself.
+        words: Words = ["LD R0, #6", "TRAP x21", "LEA R1, #-1", "STR R0, R1, #10"]
+        words += ["LDR R2, R1, #10", "ADD R2, R2, #1", "BRnzp #-6", 65]
+        path, steps = self.file("busy.obj", object_file(0x3000, *words)), 20_000
+        took = lines_long(lambda: ran("log", "--steps", steps, path))
+        self.assertLess(took / steps, 28)
+
     def test_keys_of_a_pipe_and_their_end(self) -> None:
         program = self.file("until.obj", UNTIL_Q)
         for options in ((), ("--last", 5)):
@@ -126,6 +136,23 @@ class Logging(Folder):
                 self.assertEqual(lines[1:], own[-last:] if last else [])
             again = ran("log", "--program", "--replay", saved).out.decode()
             self.assertEqual(again.splitlines(), [every[0], *own])
+
+    def test_the_program_while_a_routine_works_for_long(self) -> None:
+        # TRAP x30 counts R1 and R0 down for some 20 million steps.
+        routine = ["LD R1, #5", "ADD R0, R0, #-1", "BRnp #-2", "ADD R1, R1, #-1", "BRp #-4", "RTI"]
+        vector = self.file("vector.obj", object_file(0x0030, 0x1000))
+        work = self.file("work.obj", object_file(0x1000, *routine, 150))
+        path = self.file("calls.obj", object_file(0x3000, "ADD R3, R3, #7", "TRAP x30", "TRAP x25"))
+        options = ("--no-monitor", "--with", vector, "--with", work, "--program", "--last", 3)
+        for steps, rows in (
+            (100, ["       0  x3000  x16E7  ADD R3", "       1  x3001  xF030  TRAP x30 "]),
+            (15_000_000, ["       -  x3001  xF030  TRAP x30          trap"]),
+        ):
+            done = ran("log", *options, "--steps", steps, path)
+            lines = done.out.decode().splitlines()[1:]
+            self.assertEqual([line[: len(row)] for line, row in zip(lines, rows)], rows)
+            self.assertEqual(len(lines), len(rows))
+            self.assertIn("; PC x3001: TRAP x30\n", done.err)
 
     def test_the_program_of_a_crash(self) -> None:
         file = object_file(0x3000, "ADD R0, R0, #1", "TRAP x21", 0xD000)

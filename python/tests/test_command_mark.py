@@ -2,7 +2,6 @@
 
 from __future__ import annotations
 
-import argparse
 import csv
 import io
 import json
@@ -13,10 +12,8 @@ from typing import Any
 from unittest import mock
 
 import fanthrig
-from fanthrig.command import marking
-from fanthrig.command.cases import Case
-from fanthrig.command.options import parser
-from fanthrig.command.terminal import Signals
+from fanthrig import marking
+from fanthrig.marking import Case
 
 from .command_support import UNTIL_Q, ran
 from .mark_support import Marking, doubling, names, verdicts
@@ -180,12 +177,12 @@ class Machines(Marking):
     def test_files_that_all_share_are_read_once(self) -> None:
         data = self.file("data.obj", object_file(0x4000, ord("z")))
         shared = marking.Marking(
-            self.options(), [Case("z", b"zHalted\n")], data=[(str(data), data.read_bytes())]
+            [Case("z", b"zHalted\n")], data=[(str(data), data.read_bytes())]
         )
         reader = object_file(0x3000, "LDI R0, #2", "TRAP x21", "TRAP x25", 0x4000)
         path = self.file("reader.obj", reader)
         data.write_bytes(b"")
-        self.assertEqual(marking.mark(shared, str(path), Signals()).verdict, "right")
+        self.assertEqual(shared.mark(str(path)).verdict, "right")
 
     def test_a_candidate_is_confined(self) -> None:
         # The vector of the access exception, with which a candidate once took over the machine.
@@ -210,17 +207,13 @@ class Machines(Marking):
             return report if report is not None else usual(self_, *arguments)
 
         usual = fanthrig.Sitting.run
-        shared = marking.Marking(self.options(), [Case("a", secret, b"kq")])
+        shared = marking.Marking([Case("a", secret, b"kq")])
         with mock.patch.object(fanthrig.Sitting, "run", spy):
-            marking.mark(shared, str(path), Signals())
+            shared.mark(str(path))
         self.assertTrue(seen)
         for places in seen:
             for at in range(0, len(secret) - 3):
                 self.assertFalse(any(secret[at : at + 4] in place for place in places))
-
-    def options(self) -> argparse.Namespace:
-        """The options of a plain marking."""
-        return parser().parse_args(["mark", "--cases", "c", "candidate"])
 
 
 if __name__ == "__main__":

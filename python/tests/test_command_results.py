@@ -19,12 +19,12 @@ from datetime import datetime, timezone
 from typing import Any
 
 import fanthrig
-from fanthrig.command.report import COLUMNS, cell
-from fanthrig.command.seat import NOBODY_READS, WAITS
+from fanthrig.marking.report import COLUMNS, cell
+from fanthrig.running import NOBODY_READS, WAITS
 
 from . import ROOT
 from .command_support import ENVIRONMENT, PYTHON, process, ran
-from .mark_support import Marking, doubling, lines_of, of_kind
+from .mark_support import Lines, Marking, doubling, lines_of, of_kind
 from .support import object_file
 
 # Where GNU parallel is not installed: what it does with COMMAND ::: ARGUMENTS, by two processes.
@@ -36,14 +36,14 @@ printf '%s\0' "$@" | xargs -0 -n 1 -P 2 "${command[@]}"
 """
 
 
-def manual() -> str:
-    """The text of the manual page."""
-    return (ROOT / "docs/lc3.1").read_text(encoding="ascii")
+def manual(page: str = "lc3.1") -> str:
+    """The text of a manual page."""
+    return (ROOT / "docs" / page).read_text(encoding="ascii")
 
 
 def members_of_the_manual() -> dict[str, list[str]]:
     """The names that each section on results lists."""
-    text = manual().partition("\n.SH RESULTS\n")[2].partition("\n.SH ")[0]
+    text = manual("lc3-mark.5").partition("\n.SH RESULTS\n")[2].partition("\n.SH ")[0]
     _, *parts = re.split(r'\n\.SS "(.*)"\n', text)
     return {title: re.findall(r"\.TP\n\.B (.*)\n", body) for title, body in zip(*[iter(parts)] * 2)}
 
@@ -57,10 +57,12 @@ class Members(Marking):
             ("right.obj", doubling()),
             ("wrong.obj", doubling(1)),
             ("crash.obj", doubling(1, "RTI")),
+            ("other.obj", doubling(2, "AND R0, R0, #0") + doubling(0)[-2:]),
             ("refused.obj", b""),
             ("notes.txt", b""),
         ):
             self.file(f"students/{name}", content)
+        self.file("cases/two.json", '{"after": {"x5000": 1, "R0": 10}}')
         self.file("with.obj", object_file(0x2000, 1))
         self.file("data.obj", object_file(0x5000, 1))
         options = ("--with", self.folder / "with.obj", "--data", self.folder / "data.obj")
@@ -69,11 +71,12 @@ class Members(Marking):
     def test_json(self) -> None:
         lines, told = self.lines_of_all_kinds(), members_of_the_manual()
         results = [one for line in lines for one in line.get("results", [])]
-        written = {
+        written: dict[str, Lines] = {
             "JSON: a candidate": of_kind("candidate", lines),
             "JSON: a case in results": results,
             "JSON: a flag in flags": [flag for one in results for flag in one["flags"]],
             "JSON: difference": [one["difference"] for one in results if one["difference"]],
+            "JSON: a mismatch in mismatches": sum((one["mismatches"] for one in results), []),
             "JSON: options": [line["options"] for line in of_kind("candidate", lines)],
             "JSON: a file that was passed over": of_kind("passed over", lines),
             "JSON: the end": of_kind("end", lines),
@@ -98,10 +101,10 @@ class Members(Marking):
         rows = list(csv.reader(io.StringIO(text)))
         self.assertEqual(rows[0], members_of_the_manual()["CSV: columns"])
         self.assertEqual({len(row) for row in rows}, {len(COLUMNS)})
-        self.assertEqual(len(rows), 1 + 4 * 2 + 1)
+        self.assertEqual(len(rows), 1 + 5 * 2 + 1)
 
     def test_endings_and_verdicts_are_in_the_manual(self) -> None:
-        text = " ".join(manual().partition("\n.SH RESULTS\n")[2].split())
+        text = " ".join(manual("lc3-mark.5").partition("\n.SH RESULTS\n")[2].split())
         for kind in fanthrig.EndKind:
             # A marking has no breakpoints, and one that is interrupted has no result.
             if kind not in (fanthrig.EndKind.BREAKPOINT, fanthrig.EndKind.INTERRUPTED):

@@ -5,8 +5,11 @@ from __future__ import annotations
 import os
 import signal
 import subprocess
+from typing import Any
+from unittest import mock
 
 import fanthrig
+from fanthrig import Sitting
 
 from .command_support import ENDLESS, ENVIRONMENT, HELLO, PYTHON, UNTIL_Q, Folder, process, ran
 from .support import COUNTING, ECHO, Words, object_file
@@ -198,6 +201,23 @@ class Running(Folder):
                 self.assertIn(said, ended.err)
                 self.assertIn("; PC x3001: ", ended.err)
 
+    def test_what_was_shown_is_not_held(self) -> None:
+        flood = self.file("flood.obj", object_file(0x3000, "TRAP x21", "BRnzp #-2"))
+        seen: list[Sitting] = []
+
+        class Seen(Sitting):
+            """A sitting that can be looked at when the command has ended."""
+
+            def start(self, *settings: Any) -> None:
+                super().start(*settings)
+                seen.append(self)
+
+        for command in ("run", "log", "log --last 3"):
+            with mock.patch("fanthrig.command.files.Sitting", Seen):
+                out = ran(*command.split(), "--steps", 20_000, flood).out
+            self.assertGreater(len(out), 300)
+            self.assertEqual(seen[-1].display_bytes, b"")
+
     def test_all_bytes_of_the_display(self) -> None:
         # Shows R0 from 0 to 255, waiting for DSR each time.
         words: Words = ["LDI R2, #7", "BRzp #-2", "STI R0, #6", "ADD R0, R0, #1", "LD R3, #5"]
@@ -244,7 +264,7 @@ class WrongUse(Folder):
             self.assertNotIn("Traceback", err)
 
     def test_help_has_an_example(self) -> None:
-        for command in ("run", "list", "log", "mark"):
+        for command in ("run", "list", "log", "mark", "page"):
             code, out, err = ran(command, "--help")
             self.assertEqual((code, err), (0, ""))
             self.assertIn(f"  lc3 {command} ", out.decode())

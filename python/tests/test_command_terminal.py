@@ -12,6 +12,7 @@ from unittest import mock
 
 import fanthrig
 from fanthrig.command import terminal
+from fanthrig.running import NOTICED
 
 from .command_support import HELLO, UNTIL_Q, Folder, OnTerminal, ran
 from .support import COUNTING, ECHO, object_file
@@ -151,6 +152,38 @@ class Interactive(Folder):
                 self.assertEqual(shown.attributes(), shown.before)
                 self.assertIn(b"\r\nR4 x0000", shown.seen)
 
+    def test_words_that_work_on_terminals(self) -> None:
+        # Each of them would clear the window, or write to it what is not so.
+        evil = "\x1b[2J\x1b]0;a\x07\x9b1m\rlc3:halted\n"
+        seen = "\\x1b[2J\\x1b]0;a\\x07\\x9b1m\\rlc3:halted\\n"
+        hello = self.file("hello.obj", HELLO)
+        for words, code in (
+            ((f"--{evil}", "run", hello), 2),
+            ((evil,), 2),
+            (("run", f"--{evil}", hello), 2),
+            (("run", "--steps", evil, hello), 2),
+            (("run", "--pc", evil, hello), 2),
+            (("run", "--edition", evil, hello), 2),
+            (("run", f"--registers={evil}", hello), 2),
+            (("log", f"-{evil}", hello), 2),
+            (("list", hello, f"--{evil}"), 2),
+            (("mark", "--cases", "c", "--jobs", evil, hello), 2),
+            (("mark", "--cases", "c", f"--{evil}", hello), 2),
+            (("run", evil), 3),
+            (("run", "--with", evil, hello), 3),
+            (("run", "--keys", f"@{evil}", hello), 3),
+            (("run", "--replay", evil), 3),
+            (("run", "--save-sitting", f"{evil}/a", hello), 3),
+            (("mark", "--cases", evil, hello), 3),
+            (("mark", "--cases", "c", evil), 3),
+        ):
+            with OnTerminal(*words) as shown:
+                self.assertEqual(shown.process.wait(20), code, words)
+                said = shown.see(b"lc3:halted").decode()
+                self.assertIn(seen, said)
+                for control in ("\x1b[2J", "\x07", "\x9b", "\rlc3:halted"):
+                    self.assertNotIn(control, said)
+
     def test_progress_of_a_marking(self) -> None:
         hello = self.file("hello.obj", HELLO)
         self.file("cases/a.expected", "Hi\nHalted\n")
@@ -195,10 +228,10 @@ class Settings(Folder):
         self.assertEqual(termios.tcgetattr(self.end), before)
 
     def test_signals_are_left_as_they_were(self) -> None:
-        usual = [signal.getsignal(number) for number in terminal.NOTICED]
+        usual = [signal.getsignal(number) for number in NOTICED]
         program = self.file("hello.obj", HELLO)
         self.assertEqual(ran("run", program).code, 0)
-        self.assertEqual([signal.getsignal(number) for number in terminal.NOTICED], usual)
+        self.assertEqual([signal.getsignal(number) for number in NOTICED], usual)
 
     def test_ignored_signals_stay_ignored(self) -> None:
         usual = signal.signal(signal.SIGHUP, signal.SIG_IGN)

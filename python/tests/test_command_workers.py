@@ -111,9 +111,11 @@ class AsTheyCome(Running):
         return out.decode()
 
     def test_a_shell_sees_130(self) -> None:
-        marking = f"{' '.join(PYTHON)} mark --cases {self.cases} --steps {ENDLESS} {self.count}"
+        out, mark = self.folder / "out", f"{' '.join(PYTHON)} mark --jobs 1 --cases {self.cases}"
+        marking = f"{mark} --steps {ENDLESS} {self.right} {self.count} >{out}"
+        begun = f"until grep -q 2/2 {out}; do sleep 0.05; done"
         # The shell sends the signal to the marking alone, and tells how that ended.
-        script = f"set -m; {marking} & sleep 1; kill -INT $!; wait $!; echo $?"
+        script = f"set -m; {marking} & {begun}; kill -INT $!; wait $!; echo $?"
         ended = subprocess.run(["bash", "-c", script], env=ENVIRONMENT, capture_output=True)
         self.assertEqual(ended.stdout.split()[-1], b"130")
 
@@ -188,12 +190,13 @@ class Killed(Running):
         """A marking in which the worker is killed that comes to a candidate, where a condition on
         its ``name`` holds."""
         program = (
-            "import os, signal; from fanthrig.command import main, workers\n"
-            "usual = workers.mark\n"
-            "def killed(marking, name, signals):\n"
+            "import os, signal; from fanthrig.command import main\n"
+            "from fanthrig.marking import Marking\n"
+            "usual = Marking.mark\n"
+            "def killed(marking, name):\n"
             f"    if {when}: os.kill(os.getpid(), signal.SIGKILL)\n"
-            "    return usual(marking, name, signals)\n"
-            "workers.mark = killed\n"
+            "    return usual(marking, name)\n"
+            "Marking.mark = killed\n"
             f"options = ['mark', '--cases', {str(self.cases)!r}, '--jobs', '2', *{options!r}]\n"
             f"raise SystemExit(main([*options, *{files!r}]))\n"
         )

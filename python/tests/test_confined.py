@@ -7,14 +7,17 @@ import argparse
 import json
 import random
 import unittest
-from typing import Any, Iterator
+from functools import partial
+from typing import Any
 from unittest import mock
 
 import fanthrig
 from fanthrig import PlaceError, Refused, Sitting
 from fanthrig.command.files import sitting_of
-from fanthrig.command.messages import CommandError
 from fanthrig.command.options import parser
+from fanthrig.marking import Options
+from fanthrig.marking.playing import sitting_of as marked_sitting_of
+from fanthrig.telling import FileError
 
 from .command_support import HELLO, Folder, ran
 from .support import COUNTING, object_file, random_word
@@ -352,13 +355,16 @@ class Commands(Folder):
     def test_random_files_in_every_sitting(self) -> None:
         rng, taken = random.Random(34), 0
         fresh = outside(Sitting(examiner=[ANSWERS]).memory.words)
-        commands = (["run"], ["log"], ["mark", "--cases", "none"])
-        options = [self.options(*command) for command in commands]
+        makers = (
+            partial(sitting_of, self.options("run")),
+            partial(sitting_of, self.options("log")),
+            partial(marked_sitting_of, Options()),
+        )
         for number in range(10_000):
-            file, option = random_file(rng), options[number % 3]
+            file, make = random_file(rng), makers[number % 3]
             try:
-                sitting = sitting_of(option, [("a", ANSWERS)], [("c", HELLO), ("b", file)])
-            except CommandError:
+                sitting = make([("a", ANSWERS)], [("c", HELLO), ("b", file)])
+            except FileError:
                 continue
             self.assertEqual(outside(sitting.memory.words), fresh, number)
             taken += 1
@@ -374,7 +380,7 @@ class Commands(Folder):
             self.assertEqual(outside(sitting.memory.words), fresh)
             seen += 1
 
-        run, trace = Sitting.run, Sitting.trace
+        run, trace = Sitting.run, Sitting.trace_at_once
 
         def spied_run(sitting: Sitting, steps: int | None = None) -> fanthrig.Report:
             """A run, looked at before and after."""
@@ -383,16 +389,15 @@ class Commands(Folder):
             check(sitting)
             return report
 
-        def spied_trace(
-            sitting: Sitting, steps: int | None = None
-        ) -> Iterator[fanthrig.TracedStep]:
+        def spied_trace(sitting: Sitting, steps: int) -> list[fanthrig.TracedStep]:
             """The same of a run a step at a time."""
             check(sitting)
-            yield from trace(sitting, steps)
+            told = trace(sitting, steps)
             check(sitting)
+            return told
 
         with mock.patch.object(Sitting, "run", spied_run):
-            with mock.patch.object(Sitting, "trace", spied_trace):
+            with mock.patch.object(Sitting, "trace_at_once", spied_trace):
                 for _ in range(150):
                     path = self.file("random.obj", random_file(rng))
                     for command in (self.commands()[0], *self.commands()[3:6]):

@@ -164,17 +164,18 @@ class Demonstration(unittest.TestCase):
             self.assertIn(text, said.stdout)
 
 
-class Readme(unittest.TestCase):
-    """What README.md shows of the command and the module."""
+class Documents(unittest.TestCase):
+    """What README.md and docs/GUIDE.md show of the command and the module."""
 
     def setUp(self) -> None:
-        self.text = (ROOT / "README.md").read_text(encoding="utf-8")
+        documents = (ROOT / "README.md", ROOT / "docs/GUIDE.md")
+        self.text = "".join(document.read_text(encoding="utf-8") for document in documents)
         self.addCleanup(os.chdir, os.getcwd())
         os.chdir(ROOT)
 
     def test_the_module(self) -> None:
         block = self.text.split("```python\n")[1].split("```\n")[0]
-        test = doctest.DocTestParser().get_doctest(block, {}, "README.md", "README.md", 0)
+        test = doctest.DocTestParser().get_doctest(block, {}, "GUIDE.md", "GUIDE.md", 0)
         self.assertGreater(len(test.examples), 5)
         self.assertEqual(doctest.DocTestRunner(verbose=False).run(test).failed, 0)
 

@@ -1,4 +1,4 @@
-"""``make install`` and ``make uninstall``, into a folder of the test; and the manual page."""
+"""``make install`` and ``make uninstall``, into a folder of the test; and the manual pages."""
 
 from __future__ import annotations
 
@@ -7,6 +7,7 @@ import os
 import re
 import shlex
 import shutil
+import signal
 import subprocess
 import tempfile
 import unittest
@@ -14,7 +15,11 @@ from pathlib import Path
 from typing import Callable, Iterator
 
 import fanthrig
+from fanthrig.choices import CHOICES
+from fanthrig.command.debugger.commands import Debugger
+from fanthrig.command.debugger.console import Console
 from fanthrig.command.options import parser
+from fanthrig.marking.cases import ENDS, MEMBERS
 
 from . import ROOT
 from .test_folder import plant
@@ -22,6 +27,8 @@ from .test_folder import plant
 PREFIX = "usr/local"
 PACKAGE = ROOT / "python" / "fanthrig"
 MANUAL = ROOT / "docs" / "lc3.1"
+DEBUG_MANUAL = ROOT / "docs" / "lc3-debug.1"
+FORMATS = ROOT / "docs" / "lc3-mark.5"
 HELLO = ROOT / "examples" / "hello.obj"
 
 PROGRAM = """\
@@ -58,10 +65,23 @@ def obey(*command: str | Path, **more: str) -> subprocess.CompletedProcess[str]:
 
 
 def make(target: str, folder: Path, *settings: str) -> None:
-    """Makes a target into a folder, with the library as it stands."""
-    said = obey("make", "-C", ROOT, "-s", "-o", "lib", target, f"DESTDIR={folder}", *settings)
+    """Makes a target into a folder, with the library and the page as they stand."""
+    standing = ("-o", "lib", "-o", "page")
+    said = obey("make", "-C", ROOT, "-s", *standing, target, f"DESTDIR={folder}", *settings)
     if said.returncode or said.stderr:
         raise AssertionError(f"make {target}: {said.stdout}{said.stderr}")
+
+
+def take(number: int, ignores: bool) -> None:
+    """Has a signal ignored, or taken as it usually is."""
+    signal.signal(number, signal.SIG_IGN if ignores else signal.SIG_DFL)
+
+
+def end(running: subprocess.Popen[bytes]) -> None:
+    """Ends a command that a failed test has left."""
+    with running:
+        if running.poll() is None:
+            running.kill()
 
 
 def files(folder: Path) -> set[str]:
@@ -120,9 +140,13 @@ class Installed(unittest.TestCase):
             "bin/lc3",
             "include/fanthrig/lc3.h",
             "share/man/man1/lc3.1",
+            "share/man/man1/lc3-debug.1",
+            "share/man/man5/lc3-mark.5",
             "lib/pkgconfig/fanthrig.pc",
         }
         expected.add("share/bash-completion/completions/lc3")
+        page = ("lc3.html", "fanthrig.mjs", "fanthrig.wasm")
+        expected |= {f"share/fanthrig/{name}" for name in page}
         library = ("libfanthrig.a", "libfanthrig.so", f"libfanthrig.so.{fanthrig.VERSION}")
         expected |= {f"lib/{name}" for name in library}
         compiled = {name for name in files(self.prefix) if name.endswith(".pyc")}
@@ -140,6 +164,8 @@ class Installed(unittest.TestCase):
         for source, name in (
             (ROOT / "include/fanthrig/lc3.h", "include/fanthrig"),
             (MANUAL, "share/man/man1"),
+            (DEBUG_MANUAL, "share/man/man1"),
+            (FORMATS, "share/man/man5"),
         ):
             installed = self.prefix / name / source.name
             self.assertEqual(installed.read_bytes(), source.read_bytes())
@@ -193,6 +219,12 @@ class Installed(unittest.TestCase):
         self.assertTrue(said.stderr.startswith("lc3: no libfanthrig.so of version "), said.stderr)
         self.assertNotIn("Traceback", said.stderr)
 
+    def test_the_command_by_a_python_that_is_too_old(self) -> None:
+        program = "import sys; sys.version_info = (3, 8, 1); exec(open(sys.argv[1]).read())"
+        said = obey("python3", "-c", program, self.prefix / "bin/lc3")
+        self.assertEqual((said.returncode, said.stdout), (3, ""))
+        self.assertRegex(said.stderr, r"^lc3: Python 3\.9 or later is needed: this is \S+\n$")
+
     def test_the_command_among_submissions(self) -> None:
         folder = new_folder(self.addCleanup)
         ran = plant(
@@ -225,6 +257,53 @@ class Installed(unittest.TestCase):
         words = HELLO.stat().st_size // 2 - 1
         self.assertEqual(obey(link, "list", HELLO).stdout.count("\n"), words)
         self.assertEqual(obey(link, "run").returncode, 2)
+
+    def started(
+        self, prefix: Path, *words: object, ignores: bool = False
+    ) -> subprocess.Popen[bytes]:
+        """An installed command that runs; it may be started with Ctrl-C ignored, as by nohup."""
+        running = subprocess.Popen(
+            [str(prefix / "bin/lc3"), *map(str, words)],
+            stdin=subprocess.PIPE,
+            stdout=subprocess.PIPE,
+            stderr=subprocess.PIPE,
+            env=environment(),
+            # The tests themselves may have been started with Ctrl-C ignored.
+            preexec_fn=lambda: take(signal.SIGINT, ignores),
+        )
+        self.addCleanup(end, running)
+        return running
+
+    def test_ctrl_c_while_the_command_begins(self) -> None:
+        # The same command with a module that says that it is there, and waits for a byte.
+        slow = new_folder(self.addCleanup) / "slow"
+        shutil.copytree(self.folder, slow, symlinks=True)
+        module = slow / self.package.relative_to(self.folder) / "_folder.py"
+        module.write_text("import os\nos.write(1, b'.')\nos.read(0, 1)\n")
+        hello = b"Hello, world!\nHalted\n"
+        for ignores, code, out in ((False, -signal.SIGINT, b""), (True, 0, hello)):
+            running = self.started(slow / PREFIX, "run", HELLO, ignores=ignores)
+            assert running.stdout is not None
+            self.assertEqual(running.stdout.read(1), b".")
+            running.send_signal(signal.SIGINT)
+            shown, said = running.communicate(b"\n", timeout=60)
+            # It ends as any program does, and not in the middle of a line of Python.
+            self.assertEqual((running.returncode, shown), (code, out), said)
+            self.assertNotIn(b"Traceback", said)
+            self.assertEqual(said.count(b"\n"), int(ignores))
+
+    def test_ctrl_c_when_the_command_has_begun(self) -> None:
+        # It waits for an object file, which nobody writes.
+        pipe = new_folder(self.addCleanup) / "program.obj"
+        os.mkfifo(pipe)
+        for command in ("run", "list", "log"):
+            running = self.started(self.prefix, command, pipe)
+            with open(pipe, "wb"):
+                # It has opened the pipe.
+                running.send_signal(signal.SIGINT)
+                self.assertEqual(running.wait(60), 1)
+            _, said = running.communicate()
+            self.assertEqual(said, b"lc3: stopped by Ctrl-C\n")
 
     def test_the_command_marks_in_processes_of_its_own(self) -> None:
         cases = new_folder(self.addCleanup)
@@ -260,8 +339,12 @@ class Elsewhere(unittest.TestCase):
         for libraries in ("lib64", "lib/x86_64-linux-gnu", "other/libraries"):
             self.check("/opt/lc3", libraries)
 
+    def test_a_prefix_that_ends_in_a_slash_or_is_the_root(self) -> None:
+        for prefix in ("/opt/lc3/", ""):
+            self.check(prefix, "lib")
+
     def test_spaces_in_paths(self) -> None:
-        placed = self.check("/opt/my machines", "lib of mine")
+        placed = self.check("/opt/R&D machines", "lib of mine")
         if not (shutil.which("gcc") and shutil.which("pkg-config")):
             self.skipTest("gcc or pkg-config not found")
         where = {
@@ -305,6 +388,12 @@ class Uninstalled(unittest.TestCase):
         left = {str(path.relative_to(folder)) for path in [package.parent / "other.py", *others]}
         self.assertEqual((files(folder), package.exists()), (left, False))
 
+    def test_no_folder_of_our_own_is_left(self) -> None:
+        prefix = new_folder(self.addCleanup)
+        for target in ("install", "uninstall"):
+            make(target, prefix, "DESTDIR=", f"PREFIX={prefix}", "LOADER=")
+        self.assertEqual([path for path in prefix.rglob("*") if path.name == "fanthrig"], [])
+
     def test_a_prefix_in_which_no_python_looks(self) -> None:
         found = self.installed("PREFIX=/opt/lc3")
         self.assertIn("opt/lc3/lib/python3/dist-packages/fanthrig/words.py", found)
@@ -319,13 +408,23 @@ class Uninstalled(unittest.TestCase):
 
 
 class Manual(unittest.TestCase):
-    """docs/lc3.1."""
+    """docs/lc3.1, docs/lc3-debug.1 and docs/lc3-mark.5."""
 
     def test_no_warning(self) -> None:
         if not (shutil.which("man") and shutil.which("groff")):
             self.skipTest("man or groff not found")
-        said = obey("man", "--warnings", "-l", MANUAL, LC_ALL="C.UTF-8", MANPAGER="cat")
-        self.assertEqual((said.returncode, said.stderr), (0, ""))
+        for manual in (MANUAL, DEBUG_MANUAL, FORMATS):
+            said = obey("man", "--warnings", "-l", manual, LC_ALL="C.UTF-8", MANPAGER="cat")
+            self.assertEqual((said.returncode, said.stderr), (0, ""))
+
+    def test_every_command_of_the_debugger_is_there(self) -> None:
+        text = DEBUG_MANUAL.read_text(encoding="ascii").replace("\\-", "-")
+        debugger = Debugger(fanthrig.Sitting(), {}, Console())
+        for name in debugger.commands:
+            self.assertRegex(text, rf'(?m)^\.B[IR]? (\w+ ", " )?{name}\b')
+        options = dict(commands(parser()))["debug"]
+        for option in (o for action in options._actions for o in action.option_strings):
+            self.assertIn(option, text + "-h --help", option)
 
     def test_every_command_and_option_is_there(self) -> None:
         text = MANUAL.read_text(encoding="ascii").replace("\\-", "-")
@@ -335,10 +434,23 @@ class Manual(unittest.TestCase):
                 if option != "-h":
                     self.assertRegex(text, rf"(?m)^\.BI? (lc3 )?.*{re.escape(option)}\b")
 
+    def test_the_environment(self) -> None:
+        for document in (MANUAL, ROOT / "docs/GUIDE.md"):
+            self.assertIn("FANTHRIG_LIBRARY", document.read_text(encoding="utf-8"))
+
     def test_version_and_lines(self) -> None:
-        text = MANUAL.read_text(encoding="ascii")
-        self.assertIn(f'"lc3 {fanthrig.__version__}, interface {fanthrig.VERSION}"', text)
-        self.assertLessEqual(max(map(len, text.splitlines())), 120)
+        for manual in (MANUAL, DEBUG_MANUAL, FORMATS):
+            text = manual.read_text(encoding="ascii")
+            self.assertIn(f'"lc3 {fanthrig.__version__}, interface {fanthrig.VERSION}"', text)
+            self.assertLessEqual(max(map(len, text.splitlines())), 120)
+
+    def test_every_member_of_a_case_is_there(self) -> None:
+        text = FORMATS.read_text(encoding="ascii")
+        for name in MEMBERS:
+            self.assertIn(f".TP\n.I {name}\n", text)
+        told = " ".join(text.replace("\\-", "-").split())
+        for word in (*ENDS, *CHOICES):
+            self.assertIn(word, told)
 
 
 def commands(whole: argparse.ArgumentParser) -> Iterator[tuple[str, argparse.ArgumentParser]]:

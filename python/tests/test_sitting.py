@@ -21,6 +21,7 @@ from fanthrig.sitting import File
 
 from .support import COUNTING, ECHO, Words, fresh, object_file, random_keys, random_memory
 from .support import random_record, simulator, sitting_of, user, whole_state
+from .timing import lines_long
 
 THIRD, SECOND = fanthrig.Edition.THIRD, fanthrig.Edition.SECOND
 
@@ -103,6 +104,13 @@ class Running(unittest.TestCase):
         steps = 3 * fanthrig.MAX_STEPS + 5
         self.assertEqual(sitting.run(steps), fanthrig.Report(steps, 0, 0, Stop.DONE))
         self.assertEqual((sitting.clock, sitting["R0"]), (steps, (steps + 1) // 2 & 0xFFFF))
+
+    def test_the_time_of_single_steps(self) -> None:
+        # A step takes as long as 9 to 11 lines of text, which is 100,000 a second or more; it took
+        # as long as 21.
+        sitting, steps = Sitting(COUNTING), 20_000
+        took = lines_long(lambda: [sitting.step() for _ in range(steps)])
+        self.assertLess(took / steps, 15)
 
     def test_a_run_without_a_number_goes_on_to_the_halt(self) -> None:
         sitting = Sitting(object_file(0x3000, "ADD R0, R0, #1", "BRnp #-2", 0xF025))

@@ -1,26 +1,26 @@
-"""The command ``lc3``: run, list, log and mark object files.
+"""The command ``lc3``: run, list, make, log, debug and mark programs, and open the page.
 
 ``lc3 run FILE.obj...``              runs a program on the terminal, or with the bytes of a pipe
 ``lc3 list FILE.obj...``             lists the words of files with their lines
+``lc3 make FILE.txt -o FILE.obj``    makes an object file of a program as text
 ``lc3 log FILE.obj...``              tells of every step what it did
+``lc3 debug FILE.obj...``            steps through a program, forwards and back
 ``lc3 mark --cases CASES FILE...``   marks many programs against cases
+``lc3 page``                         opens the LC-3 in a browser
 
 ``lc3 COMMAND --help`` says more. Of each command one module has the work; the others are
 
+``debugger``    the commands of the debugger, its prompt and its screen
 ``options``     what may stand on the command line
 ``files``       object files and saved sittings as the command takes them
-``seat``        a sitting with keyboard and display, run until something ends it
+``symbols``     the labels of the files
+``seat``        a sitting with keyboard and display, as the options have it
 ``terminal``    where keys come from, and signals
 ``messages``    what is said to people, and the exit codes
-``cases``       the cases of a marking
-``candidates``  which files are marked, and which are passed over
-``regular``     files that can't keep a process waiting
-``marking``     one candidate against the cases
-``flags``       what an examiner looks at in a run, whatever was shown
-``audit``       what a marking was made with
-``workers``     many candidates by several processes
-``report``      results as a table, as CSV and as JSON
-``output``      standard output for them
+``output``      standard output for results
+
+What marks is ``fanthrig.marking``, and what runs a sitting until something ends it
+``fanthrig.running``.
 """
 
 from __future__ import annotations
@@ -33,7 +33,8 @@ from importlib import import_module
 from typing import Sequence
 
 from .._library import LibraryError
-from .messages import GONE, Code, CommandError, let_go, of_os_error, say, tell
+from ..telling import FileError, of_os_error
+from .messages import GONE, Code, CommandError, let_go, say, tell
 from .options import parser
 
 
@@ -54,6 +55,9 @@ def main(argv: Sequence[str] | None = None) -> int:
     except CommandError as error:
         say(str(error))
         return int(error.code)
+    except FileError as error:
+        say(str(error))
+        return int(Code.REFUSED)
     except LibraryError as error:
         # It has a line for each place that was tried.
         tell(f"lc3: {error}\n")

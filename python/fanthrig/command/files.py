@@ -4,16 +4,18 @@ from __future__ import annotations
 
 import argparse
 import os
+import stat
 from os import PathLike, fspath
 from typing import Sequence
 
-from ..formats import SWAPPED, is_swapped, other_format
+from ..loading import as_object_file, load
 from ..places import PlaceError
-from ..records import Edition, Mode, Refusal, Refused
-from ..recording import REPLAY_STEPS, Program, Recording, RecordingError
-from ..sitting import LONGEST_FILE, Sitting
-from .messages import Code, CommandError, of_os_error
-from .regular import opened
+from ..programs import read_program
+from ..records import Edition, Mode
+from ..recording import REPLAY_STEPS, Recording, RecordingError
+from ..sitting import Sitting
+from ..telling import of_os_error
+from .messages import Code, CommandError
 
 # A longer file of keys is taken for one that never ends.
 LONGEST = 1 << 24
@@ -27,40 +29,23 @@ NO_SECOND_MONITOR = (
 
 
 def object_file(path: str) -> bytes:
-    """The bytes of an object file, which may be a pipe; of a longer file no more than is needed to
-    refuse it."""
+    """The bytes of an object file, or of the one that a text stands for; it may be a pipe."""
     try:
         with open(path, "rb") as stream:
-            data = stream.read(LONGEST_FILE)
+            data = read_program(stream)
     except OSError as error:
+        # What is refused only when it is read has no name.
+        error.filename = path
         raise CommandError(of_os_error(error)) from None
     except ValueError as error:
         # A name with a byte 0 in it is no name of a file.
         raise CommandError(f"{path!r}: {error}: check its name") from None
-    check_format(path, data)
-    return data
-
-
-def check_format(path: str, data: bytes) -> None:
-    """That a file is not plainly something else than an object file."""
-    problem = other_format(data)
-    if problem:
-        raise CommandError(f"{path}: refused: {problem}")
+    return as_object_file(path, data)
 
 
 def object_files(paths: Sequence[str]) -> list[tuple[str, bytes]]:
     """Object files by their names, each with its bytes."""
     return [(path, object_file(path)) for path in paths]
-
-
-def shared_files(paths: Sequence[str]) -> list[tuple[str, bytes]]:
-    """The same for a marking, which nobody sits beside: none can keep it waiting for ever."""
-    files = []
-    for path in paths:
-        with opened(path, links=True, pipes=True) as stream:
-            files.append((path, stream.read(LONGEST_FILE)))
-        check_format(*files[-1])
-    return files
 
 
 def whole_file(path: str | PathLike[str]) -> bytes:
@@ -71,22 +56,6 @@ def whole_file(path: str | PathLike[str]) -> bytes:
         text = f"{fspath(path)}: refused: it is longer than {LONGEST >> 20} MiB"
         raise CommandError(f"{text}: name a shorter file")
     return data
-
-
-def load(
-    sitting: Sitting, path: str, data: bytes, examiner: bool = False, trusted: str = ""
-) -> Program:
-    """Loads the bytes of an object file, or says what is wrong with it; and of one that would have
-    to be trusted, how that is said."""
-    try:
-        return sitting.load(data, path, examiner)
-    except PlaceError as error:
-        raise CommandError(str(error)) from None
-    except Refused as refused:
-        if not examiner and is_swapped(data):
-            raise CommandError(f"{path}: refused: {SWAPPED}") from None
-        more = trusted if refused.number is Refusal.USER else ""
-        raise CommandError(f"{refused}{more}") from None
 
 
 def check_edition(options: argparse.Namespace) -> None:
@@ -124,6 +93,14 @@ def same_file(one: str, other: str) -> bool:
         return os.path.realpath(one) == os.path.realpath(other)
 
 
+def is_fifo(path: str) -> bool:
+    """Whether a name is that of a FIFO, or of a pipe of the shell's."""
+    try:
+        return stat.S_ISFIFO(os.stat(path).st_mode)
+    except OSError:
+        return False
+
+
 def save(sitting: Sitting, path: str) -> None:
     """Saves a sitting, or says why it can't be."""
     try:
@@ -139,6 +116,7 @@ def recording_of(path: str, steps: int | None) -> Recording:
     except RecordingError as error:
         raise CommandError(f"{error}; name a file that --save-sitting wrote") from None
     except OSError as error:
+        error.filename = path
         raise CommandError(of_os_error(error)) from None
     if steps is None and recording.steps > REPLAY_STEPS:
         text = f"{path}: refused: it has {recording.steps} steps, and to make so many takes long"

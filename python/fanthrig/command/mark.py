@@ -7,42 +7,52 @@ written, adds what is marked by then, and ends the process by that signal.
 from __future__ import annotations
 
 import argparse
+import os
+import secrets
 import signal
+import stat
+import sys
 from contextlib import closing
+from dataclasses import fields, replace
 from typing import Iterator, Sequence
 
-from .audit import audit_of
-from .candidates import Found, found_in
-from .cases import cases_of
-from .files import check_edition, shared_files, sitting_of
-from .marking import Marking, Result
+from ..marking.candidates import Found, found_in
+from ..marking.feedback import FeedbackFolder
+from ..marking.forms import FORMS, SINGLE
+from ..marking.marker import Marking, Result
+from ..marking.options import Options
+from ..marking.platforms import handed_in
+from ..marking.report import Form, Total
+from ..marking.resume import results_of, still_holds
+from ..marking.workers import mark_all
+from ..places import PlaceError
+from .files import check_edition
 from .messages import Code, CommandError, say
 from .options import processors
 from .output import Bar, Output
-from .report import FORMS, Form, Total
 from .terminal import Signals, die
-from .workers import marked
+
+# The bits of a seed that nobody has named.
+SEED_BITS = 32
 
 
 def command(options: argparse.Namespace) -> Code:
     """Marks as the options have it, and answers the exit code."""
+    single = options.form in SINGLE
     try:
-        one = options.form == "one"
-        found = found_in(options.candidates, options.follow_links, one)
-        if one and len(found) != 1:
-            text = f"--one marks one file, and {len(found)} are named or found in the folders"
-            raise CommandError(text + "; leave out --one, or run it once for each", Code.WRONG_USE)
+        found = candidates_of(options)
         marking = marking_of(options)
+        before = _before(options, marking, found)
+        feedback = _feedback(options, marking)
     except KeyboardInterrupt:
         return _stopped(signal.SIGINT, "stopped by Ctrl-C; nothing is marked")
-    audit = audit_of(options, marking.cases, marking.examiner, marking.data)
-    form = FORMS[options.form](audit, marking.cases, found)
+    form = FORMS[options.form](marking.audit, marking.cases, found)
     with Signals() as signals:
-        total = _written(marking, found, form, signals)
+        total = _Writing(options, marking, form, feedback, signals).written(found, before)
         if signals.caught:
             done = f"{total.marked} of {total.candidates} candidates are marked"
             return _stopped(signals.caught, f"stopped by {signals.name}; {done}")
-    return Code.HALTED if total.whole or one else Code.NOT_HALTED
+    return Code.HALTED if total.whole or single else Code.NOT_HALTED
 
 
 def _stopped(number: int, text: str) -> Code:
@@ -52,46 +62,131 @@ def _stopped(number: int, text: str) -> Code:
     return Code.INTERRUPTED
 
 
+def candidates_of(options: argparse.Namespace) -> list[Found]:
+    """The files that the command line names, and those of its folders."""
+    single = options.form in SINGLE
+    found = found_in(options.candidates, options.follow_links, single, options.texts)
+    if options.export is not None:
+        found = handed_in(found, options.export)
+    marked = [file for file in found if not file.passed_over]
+    if single and len(found if options.form == "one" else marked) != 1:
+        many = f"{len(found)} are named or found in the folders"
+        text = f"--{options.form} marks one file, and {many}; leave it out, or run it once for each"
+        raise CommandError(text, Code.WRONG_USE)
+    return found
+
+
 def marking_of(options: argparse.Namespace) -> Marking:
     """What the candidates share. What is wrong with it is wrong with the marking, and not with a
     candidate."""
     check_edition(options)
-    cases = cases_of(options.cases)
-    examiner, data = shared_files(options.with_files), shared_files(options.data_files)
-    sitting_of(options, examiner, data)
-    return Marking(options, cases, examiner, data)
+    given = {field.name: getattr(options, field.name) for field in fields(Options)}
+    given["lenient"] = tuple(options.lenient)
+    if options.seed == "random":
+        given["seed"] = secrets.randbits(SEED_BITS)
+    try:
+        chosen = Options(**given)
+        return Marking.of(options.cases, chosen, options.with_files, options.data_files)
+    except (PlaceError, ValueError) as error:
+        raise CommandError(str(error), Code.WRONG_USE) from None
 
 
-def _written(marking: Marking, found: Sequence[Found], form: Form, signals: Signals) -> Total:
-    """Marks and writes, and answers the sums."""
-    output, options = Output(signals), marking.options
-    names = [file.name for file in found if not file.passed_over]
-    total = Total(len(names))
-    output.write(form.head())
-    by_processes = marked(marking, names, options.jobs or processors(), signals)
-    with Bar(len(names)) as bar, closing(by_processes) as results:
-        for file in _in_order(found, results):
-            if isinstance(file, Found):
-                total.passed_over += 1
-                output.write(form.passed_over(file))
-                continue
-            if options.form == "one" and not output.lock():
-                break
-            total.add(file)
-            output.write(form.result(file))
-            bar.grow(total.marked)
-    total.stopped_by = signals.name if signals.caught else None
-    output.write(form.end(total))
-    return total
+def _before(
+    options: argparse.Namespace, marking: Marking, found: Sequence[Found]
+) -> dict[str, Result]:
+    """The results that are there already, and still hold."""
+    if options.resume is None:
+        return {}
+    _check_resume(options.resume)
+    results = results_of(options.resume, marking.audit)
+    named = {file.name for file in found if not file.passed_over}
+    return {
+        name: result
+        for name, result in results.items()
+        if name in named and still_holds(result, options.follow_links)
+    }
 
 
-def _in_order(found: Sequence[Found], results: Iterator[Result]) -> Iterator[Found | Result]:
+def _check_resume(path: str) -> None:
+    """That results are not written to the file that they are read from."""
+    try:
+        written, read = os.fstat(sys.stdout.fileno()), os.stat(path)
+    except (OSError, ValueError):
+        return
+    if stat.S_ISREG(read.st_mode) and os.path.samestat(written, read):
+        text = f"--resume: {path} is read, and can't be written to at once: name another file"
+        raise CommandError(text, Code.WRONG_USE)
+
+
+def _feedback(options: argparse.Namespace, marking: Marking) -> FeedbackFolder | None:
+    """The folder of feedback files, where one is asked for."""
+    if options.feedback is None:
+        return None
+    return FeedbackFolder(options.feedback, marking.cases, marking.options.lenient)
+
+
+class _Writing:
+    """Marks candidates, and writes what comes."""
+
+    def __init__(
+        self,
+        options: argparse.Namespace,
+        marking: Marking,
+        form: Form,
+        feedback: FeedbackFolder | None,
+        signals: Signals,
+    ) -> None:
+        """Nothing is written yet."""
+        self._options, self._marking, self._form = options, marking, form
+        self._feedback, self._signals = feedback, signals
+        self._output = Output(signals)
+
+    def written(self, found: Sequence[Found], before: dict[str, Result]) -> Total:
+        """Marks and writes, and answers the sums."""
+        names = [file.name for file in found if not file.passed_over]
+        left = [name for name in names if name not in before]
+        total = Total(len(names))
+        self._output.write(self._form.head())
+        jobs = self._options.jobs or processors()
+        by_processes = mark_all(self._marking, left, jobs, self._signals, say)
+        with Bar(len(names)) as bar, closing(by_processes) as results:
+            for file, result in _in_order(found, results, before):
+                if not self._wrote(file, result, total):
+                    break
+                total.resumed += file.name in before and result is not None
+                bar.grow(total.marked)
+        total.stopped_by = self._signals.name if self._signals.caught else None
+        self._output.write(self._form.end(total))
+        return total
+
+    def _wrote(self, file: Found, result: Result | None, total: Total) -> bool:
+        """Writes a result, or that a file was passed over; whether it could be."""
+        if result is None:
+            total.passed_over += 1
+            self._output.write(self._form.passed_over(file))
+            return True
+        if self._options.form == "one" and not self._output.lock():
+            return False
+        if file.student is not None:
+            result = replace(result, student=file.student.name, student_id=file.student.id)
+        total.add(result)
+        self._output.write(self._form.result(result))
+        if self._feedback is not None:
+            self._feedback.write(result, file.place)
+        return True
+
+
+def _in_order(
+    found: Sequence[Found], results: Iterator[Result], before: dict[str, Result]
+) -> Iterator[tuple[Found, Result | None]]:
     """The files that are passed over and the results, each in its place. Where a signal has come,
     some candidates have no result."""
     waiting = next(results, None)
     for file in found:
         if file.passed_over:
-            yield file
+            yield file, None
+        elif file.name in before:
+            yield file, before[file.name]
         elif waiting is not None and waiting.candidate == file.name:
-            yield waiting
+            yield file, waiting
             waiting = next(results, None)

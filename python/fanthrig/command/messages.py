@@ -2,15 +2,17 @@
 
 from __future__ import annotations
 
-import errno
 import os
+import select
 import sys
 from enum import IntEnum
-from typing import IO, Any
+from typing import IO, Any, BinaryIO
 
 from ..ending import Ending
+from ..labels import Labels
 from ..records import Record
 from ..sitting import Sitting
+from ..telling import counted, plain
 
 
 GONE = "standard output can't be written to any more: whoever read it is gone"
@@ -43,24 +45,35 @@ def say(text: str) -> None:
     tell(f"lc3: {plain(text)}\n")
 
 
-def plain(text: str) -> str:
-    """Text without characters that would work on a terminal: names of files come from anybody.
-
-    >>> plain("a\\nb\\x1b[2J.obj")
-    'a\\\\nb\\\\x1b[2J.obj'
-    """
-    if text.isprintable():
-        return text
-    return "".join(c if c.isprintable() else repr(c)[1:-1] for c in text)
-
-
 def tell(text: str) -> None:
     """Writes text to standard error. A terminal whose window is closed takes none."""
     try:
-        sys.stderr.write(text)
         sys.stderr.flush()
+        if hasattr(sys.stderr, "buffer"):
+            data = text.encode(sys.stderr.encoding or "utf-8", "backslashreplace")
+            write_all(sys.stderr.buffer, data)
+        else:
+            # It is a text of the host's, and no stream of bytes.
+            sys.stderr.write(text)
     except OSError:
         let_go(sys.stderr)
+
+
+def write_all(stream: BinaryIO, data: bytes) -> None:
+    """Writes bytes at once. Where others have set the stream not to wait, as a terminal that is
+    shared with them, it is waited for: Python's own stream would drop what is not taken."""
+    try:
+        fd = stream.fileno()
+    except (OSError, ValueError):
+        # It is no file at all.
+        stream.write(data)
+        return
+    left = memoryview(data)
+    while left:
+        try:
+            left = left[os.write(fd, left) :]
+        except BlockingIOError:
+            select.select([], [fd], [])
 
 
 def let_go(stream: IO[Any]) -> None:
@@ -74,55 +87,20 @@ def let_go(stream: IO[Any]) -> None:
         pass
 
 
-_TO_DO = {
-    errno.ENOENT: "no such file: check its name",
-    errno.EBADF: "it is closed: give it a file, a pipe or a terminal",
-    errno.EISDIR: "it is a directory: name the files in it, as in DIRECTORY/*.obj",
-    errno.ENOTDIR: "no such file: a part of its path is no directory",
-    errno.EACCES: "permission denied: ask its owner for it, or change its mode by chmod",
-    errno.ENOSPC: "no space is left: free some, or name another place",
-    errno.ENAMETOOLONG: "the name is too long: check it",
-    errno.ELOOP: "its symbolic links lead in a circle: name the file itself",
-}
-
-
-def of_os_error(error: OSError) -> str:
-    """The file, what the system refused, and what to do.
-
-    >>> of_os_error(FileNotFoundError(2, "No such file or directory", "hello.obj"))
-    'hello.obj: no such file: check its name'
-    """
-    name = "" if error.filename is None else f"{error.filename}: "
-    plain = f"{error.strerror or error}: check the file and its place"
-    return name + _TO_DO.get(error.errno or 0, plain)
-
-
-def readable(byte: int | None) -> str:
-    """A byte as a person reads it, or the end where there is none.
-
-    >>> readable(0x41), readable(10), readable(None)
-    ("'A' (x41)", "'\\\\n' (x0A)", 'the end')
-    """
-    return "the end" if byte is None else f"{repr(bytes([byte]))[1:]} (x{byte:02X})"
-
-
-def counted(number: int, noun: str) -> str:
-    """A number of things.
-
-    >>> counted(1, "step"), counted(0, "step")
-    ('1 step', '0 steps')
-    """
-    return f"{number} {noun}" if number == 1 else f"{number} {noun}s"
-
-
-def end_line(ending: Ending, steps: int) -> str:
-    """The line at the end of a run: how it ended, the steps, and the program's PC with its line.
+def end_line(ending: Ending, steps: int, labels: Labels = Labels()) -> str:
+    """The line at the end of a run: how it ended, the steps, and the program's PC with its label
+    and its line.
 
     >>> sitting = Sitting(bytes.fromhex("3000 1021 0FFE"))
     >>> end_line(sitting.run(3).ending, 3)
     'all steps asked for were made; 3 steps; PC x3001: BRnzp #-2'
+    >>> end_line(sitting.ending, 3, Labels({"LOOP": 0x3000}))
+    'all steps asked for were made; 3 steps; PC x3001 (LOOP+1): BRnzp #-2'
     """
-    return f"{ending.text}; {counted(steps, 'step')}; {ending.place}"
+    name, place = labels.name(ending.pc), ending.place
+    if name:
+        place = place.replace(":", f" ({name}):", 1)
+    return f"{ending.text}; {counted(steps, 'step')}; {place}"
 
 
 # Said above the registers where a routine of the monitor made the last steps.

@@ -8,9 +8,11 @@ import re
 import sys
 from typing import IO, Any, NoReturn, Sequence
 
+from ..choices import CHOICES, MOST_SEED, PLATFORMS
 from ..constants import MAX_CLOCK, USER_STACK, VERSION, __version__
+from ..programs import Form
 from ..records import WORD_LIMIT
-from .messages import plain
+from ..telling import plain
 
 VERSIONS = f"lc3 {__version__}, interface {VERSION}"
 
@@ -54,13 +56,35 @@ examples:
 
 """
 LIST_EXAMPLE = """\
-example:
+examples:
   lc3 list hello.obj
   x3000  xE002  LEA R0, #2
   x3001  xF022  TRAP x22
+  lc3 list --fields hello.obj > hello.txt     a program as text, that every command reads
 
 exit codes: 0 listed, 2 wrong use of the command, 3 a file was refused or could not be read
 """
+MAKE = (
+    "Makes an object file of a program as text: the origin, then the words, one a line, each as 16 "
+    "binary digits (with spaces between fields where wanted), as x and four hexadecimal digits, or "
+    "as a line that lc3 list writes; comments after a semicolon. There are no labels: this is no "
+    "assembler. The other commands read such a text in the place of an object file."
+)
+MAKE_EXAMPLE = """\
+example:
+  lc3 make sum.txt -o sum.obj
+  where sum.txt has
+    0011 0000 0000 0000     ; the origin, x3000
+    0001 000 000 1 00001    ; ADD R0, R0, #1
+    xF025                   ; HALT
+
+exit codes: 0 written, 2 wrong use of the command, 3 a file was refused or could not be read or
+written
+"""
+SYMBOLS = (
+    "the labels of this symbol table, as the book's assembler writes it; without it those of the "
+    "file that lies beside an object file, with .sym in the place of .obj"
+)
 LOG_EXAMPLES = """\
 examples:
   lc3 log hello.obj                      every step: number, PC, word, line, reason, changes
@@ -68,16 +92,38 @@ examples:
   lc3 log --program hello.obj            without the steps of the monitor's routines
 
 """
+DEBUG = (
+    "Loads the files as lc3 run does, and takes commands: step, over, out, run, break, watch, "
+    "list, registers, print, set, and back, which goes back by steps, over calls, to breakpoints, "
+    "to the last write of a word and to the last change of a register, exactly. On a terminal, "
+    "lines can be edited and completed, keys go to the program while it runs, and Ctrl-C stops "
+    "it; from a pipe the lines are a script. What the program shows is standard output, and what "
+    "the debugger says is standard error. The command help tells all commands."
+)
+DEBUG_EXAMPLES = """\
+examples:
+  lc3 debug hello.obj                   a prompt; help tells the commands
+  lc3 debug --screen hello.obj          all in one screen
+  lc3 debug sum.obj < commands.txt      a script of commands, one a line; # begins a comment
+
+exit codes:
+  0  the debugger was left, or the commands of a script were obeyed
+  1  some command of a script could not be obeyed
+  2  wrong use of the command
+  3  a file was refused, or could not be read
+"""
 MARK = (
     "Runs every candidate with the keys of every case and compares all that it shows with what is "
-    "expected, byte for byte; the machine must be halted by HALT as well. Exceptions, traps "
-    "without a service and strings that the monitor refused are flagged, whatever was shown. A "
-    "folder is walked with all folders in it, for files named *.obj; every other file is listed "
-    "as passed over. CASES is a folder with NAME.keys (the keys; none where it is missing), "
-    "NAME.steps (the greatest number of steps, where it is not that of --steps) and NAME.expected "
-    'for each case, or a JSON file: a list of objects with the members "name", "expected" and, '
-    'where wanted, "keys" and "steps", one character for each byte. Results are written as they '
-    "come; the manual page has the members of JSON and the columns of CSV."
+    "expected, byte for byte or lenient by --lenient; the machine must be halted by HALT as well. "
+    "A case may also set registers and words before the run and expect others after it, or call a "
+    "subroutine. Exceptions, traps without a service and strings that the monitor refused are "
+    "flagged, whatever was shown. A folder is walked with all folders in it, for files named "
+    "*.obj, *.bin and *.hex; every other file is listed as passed over. CASES is a folder with "
+    "NAME.keys (the keys; none where it is missing), NAME.steps (the greatest number of steps, "
+    "where it is not that of --steps), NAME.expected and NAME.json (the other members) for each "
+    'case, or a JSON file: a list of objects with the members "name", "expected" and, where '
+    "wanted, others. lc3-mark(5) has all of them, the members of JSON and the columns of CSV. "
+    "Results are written as they come."
 )
 MARK_EXAMPLES = """\
 examples:
@@ -85,6 +131,9 @@ examples:
   lc3 mark --cases cases students                              a table for a folder of files
   lc3 mark --cases cases --with answers.obj students           the examiner's words beside each
   lc3 mark --cases cases --csv students > marks.csv
+  lc3 mark --cases cases --feedback hand-back students         a text for each candidate as well
+  lc3 mark --cases cases --resume marks.jsonl students         go on from results by --json
+  lc3 mark --cases cases --gradescope submission > results.json
   parallel lc3 mark --cases cases --one ::: students/*.obj     one JSON line for each candidate;
                                                                with --sshlogin on many hosts
 
@@ -95,6 +144,21 @@ exit codes:
   3  nothing to mark, cases or a file of --with or --data were refused, or the results could not
      be written
   130, or as a shell tells of the signal: stopped by Ctrl-C or a signal; results so far are written
+"""
+
+
+PAGE = (
+    "Opens the LC-3 in the default browser: one file, with the same proved library in it, that a "
+    "student may copy anywhere and that needs neither this command nor a network. Where there is "
+    "no browser, its path is written. A browser belongs to whoever sits at it, with all memory on "
+    "the screen: nothing of an examiner belongs in it."
+)
+PAGE_EXAMPLE = """\
+examples:
+  lc3 page                               opens it
+  cp "$(lc3 page --path)" /srv/course    hands it out
+
+exit codes: 0 opened, or its path written, 2 wrong use of the command, 3 no page is installed
 """
 
 
@@ -131,6 +195,25 @@ def jobs(text: str) -> int:
     if not 1 <= number <= 1024:
         raise argparse.ArgumentTypeError(f"{text!r} is no number of processes from 1 to 1024")
     return number
+
+
+def seed(text: str) -> int | str:
+    """A seed of the command line, or the wish for any."""
+    number = MOST_SEED + 1 if text == "random" else count(text)
+    if text != "random" and number > MOST_SEED:
+        raise argparse.ArgumentTypeError(f"{text!r} is no number from 0 to {MOST_SEED}")
+    return text if text == "random" else number
+
+
+def seconds(text: str) -> float:
+    """A number of seconds of the command line.
+
+    >>> seconds("2.5")
+    2.5
+    """
+    if not re.fullmatch(r"[0-9]{1,9}(\.[0-9]{1,9})?", text, re.ASCII) or not float(text):
+        raise argparse.ArgumentTypeError(f"{text!r} is no number of seconds above 0")
+    return float(text)
 
 
 def processors() -> int:
@@ -217,7 +300,8 @@ def _add_files(to: argparse.ArgumentParser, option: str, text: str) -> None:
 
 def _add_run(to: argparse.ArgumentParser) -> None:
     """The options that run and log share."""
-    to.add_argument("files", nargs="*", metavar="FILE.obj", help="object files; the last one runs")
+    files = "object files, or programs as text; the last one runs"
+    to.add_argument("files", nargs="*", metavar="FILE.obj", help=files)
     _add_machine(to)
     _add_files(to, "with", WITH)
     to.add_argument(
@@ -249,21 +333,43 @@ def _add_run(to: argparse.ArgumentParser) -> None:
     to.add_argument(
         "--registers", action="store_true", help="write the program's registers at the end"
     )
+    _add_symbols(to)
 
 
-def _add_mark(to: argparse.ArgumentParser) -> None:
-    """The options of mark."""
+def _add_symbols(to: argparse.ArgumentParser) -> None:
+    """The option that names a symbol table."""
+    to.add_argument("--symbols", metavar="FILE.sym", help=SYMBOLS)
+
+
+def _add_candidates(to: argparse.ArgumentParser) -> None:
+    """The options of which files are marked."""
     to.add_argument(
         "candidates",
         nargs="+",
         metavar="CANDIDATE",
-        help="object files to mark, or folders of files named *.obj",
+        help="object files or programs as text to mark, or folders of files named *.obj, *.bin and "
+        "*.hex",
+    )
+    to.add_argument(
+        "--texts",
+        action="store_true",
+        help="mark files of folders that are named *.txt as well: programs as text",
+    )
+    to.add_argument(
+        "--export",
+        choices=PLATFORMS,
+        help="the folders are as this course platform exports them: results have the students",
     )
     to.add_argument(
         "--follow-links",
         action="store_true",
         help="follow symbolic links, which are refused or passed over without it",
     )
+
+
+def _add_mark(to: argparse.ArgumentParser) -> None:
+    """The options of mark."""
+    _add_candidates(to)
     to.add_argument("--cases", required=True, metavar="CASES", help="a folder, or a JSON file")
     to.add_argument(
         "--steps",
@@ -277,19 +383,48 @@ def _add_mark(to: argparse.ArgumentParser) -> None:
         action="store_true",
         help="a case is passed however the machine was halted, and not by HALT alone",
     )
+    _add_comparison(to)
     _add_files(to, "with", WITH)
     _add_files(to, "data", DATA)
     _add_machine(to)
-    # A candidate is never trusted.
-    to.set_defaults(anywhere=False, trusted="")
     to.add_argument(
         "--jobs", type=jobs, metavar="N", help=f"processes at once ({processors()} here)"
     )
     _add_forms(to)
 
 
+def _add_comparison(to: argparse.ArgumentParser) -> None:
+    """The options of how candidates are compared, and for how long they run."""
+    to.add_argument(
+        "--lenient",
+        action="append",
+        default=[],
+        choices=CHOICES,
+        help="compare displays without regard to this; may be given several times",
+    )
+    to.add_argument(
+        "--seed",
+        type=seed,
+        metavar="N|random",
+        help="random contents of all words of User mode and all registers that a case leaves open, "
+        "the same for every candidate; the seed is told in the results",
+    )
+    to.add_argument(
+        "--seconds",
+        type=seconds,
+        metavar="S",
+        help="the time that a candidate has for all its cases together",
+    )
+
+
 def _add_forms(to: argparse.ArgumentParser) -> None:
     """The forms of the results; without one they are a table."""
+    to.add_argument("--feedback", metavar="FOLDER", help="write a text for each candidate there")
+    to.add_argument(
+        "--resume",
+        metavar="FILE",
+        help="take over what this file of --json or --one has, and mark only what is missing",
+    )
     forms = to.add_mutually_exclusive_group()
     forms.add_argument(
         "--json",
@@ -308,21 +443,34 @@ def _add_forms(to: argparse.ArgumentParser) -> None:
         const="one",
         help="mark one candidate and write one line of JSON, for GNU parallel or a batch queue",
     )
+    forms.add_argument(
+        "--gradescope",
+        dest="form",
+        action="store_const",
+        const="gradescope",
+        help="mark one candidate and write Gradescope's results.json",
+    )
+    forms.add_argument(
+        "--junit", dest="form", action="store_const", const="junit", help="JUnit XML"
+    )
 
 
 def parser() -> argparse.ArgumentParser:
     """The parser of the whole command line."""
     whole = Parser(
         prog="lc3",
-        description="The LC-3 of Patt and Patel: run, list, log and mark object files.",
+        description="The LC-3 of Patt and Patel: run, list, log, debug and mark object files.",
         epilog="example: lc3 run hello.obj\nlc3 COMMAND --help says more of a command.",
     )
     whole.add_argument("--version", action="version", version=VERSIONS)
     commands: Sequence[tuple[str, str, str, str, str]] = (
         ("run", "run", "run a program", RUN, RUN_EXAMPLES + EXIT_CODES),
         ("list", "listing", "list address, word and line", "", LIST_EXAMPLE),
+        ("make", "make", "make an object file of a program as text", MAKE, MAKE_EXAMPLE),
         ("log", "log", "tell of every step what it did", "", LOG_EXAMPLES + EXIT_CODES),
+        ("debug", "debug", "step through a program, forwards and back", DEBUG, DEBUG_EXAMPLES),
         ("mark", "mark", "mark programs against cases", MARK, MARK_EXAMPLES),
+        ("page", "page", "open the LC-3 in a browser", PAGE, PAGE_EXAMPLE),
     )
     adding = whole.add_subparsers(metavar="COMMAND", required=True, parser_class=Parser)
     for name, module, short, text, epilog in commands:
@@ -335,9 +483,32 @@ def parser() -> argparse.ArgumentParser:
 
 def _add_list(to: argparse.ArgumentParser) -> None:
     """The options of list."""
-    to.add_argument("files", nargs="+", metavar="FILE.obj", help="object files")
+    to.add_argument(
+        "files", nargs="+", metavar="FILE.obj", help="object files, or programs as text"
+    )
     to.add_argument(
         "--registers", action="store_true", help="write the registers as a run begins with them"
+    )
+    _add_symbols(to)
+    forms = to.add_mutually_exclusive_group()
+    for form, text in (
+        (Form.BINARY, "a program as text: the origin and the words in binary digits"),
+        (Form.FIELDS, "the same with spaces between the fields of each instruction"),
+        (Form.HEXADECIMAL, "the same in hexadecimal digits"),
+    ):
+        forms.add_argument(
+            f"--{form.value}", dest="form", action="store_const", const=form, help=text
+        )
+
+
+def _add_make(to: argparse.ArgumentParser) -> None:
+    """The options of make."""
+    to.add_argument("file", metavar="FILE.txt", help="a program as text")
+    to.add_argument(
+        "-o",
+        "--output",
+        metavar="FILE.obj",
+        help="the object file; FILE.obj beside the text unless it is given",
     )
 
 
@@ -350,4 +521,35 @@ def _add_log(to: argparse.ArgumentParser) -> None:
     )
 
 
-_ADD = {"run": _add_run, "list": _add_list, "log": _add_log, "mark": _add_mark}
+def _add_debug(to: argparse.ArgumentParser) -> None:
+    """The options of debug."""
+    to.add_argument("files", nargs="*", metavar="FILE.obj", help="object files; the last one runs")
+    _add_machine(to)
+    _add_files(to, "with", WITH)
+    to.add_argument("--anywhere", action="store_true", help="every file is trusted")
+    to.set_defaults(trusted=TRUSTED)
+    to.add_argument(
+        "--symbols",
+        metavar="FILE.sym",
+        help="labels, as the book's assembler writes them; without it those of FILE.sym beside "
+        "FILE.obj",
+    )
+    to.add_argument("--keys", metavar="TEXT|@FILE", help="keys that are typed before the start")
+    to.add_argument("--replay", metavar="FILE", help="debug a saved sitting, from its start")
+    to.add_argument("--screen", action="store_true", help="begin in the screen")
+
+
+def _add_page(to: argparse.ArgumentParser) -> None:
+    """The options of page."""
+    to.add_argument("--path", action="store_true", help="write the path of the file, and no more")
+
+
+_ADD = {
+    "run": _add_run,
+    "list": _add_list,
+    "make": _add_make,
+    "log": _add_log,
+    "debug": _add_debug,
+    "mark": _add_mark,
+    "page": _add_page,
+}

@@ -10,7 +10,8 @@ import select
 import sys
 import time
 
-from .messages import GONE, CommandError, let_go, of_os_error, tell
+from ..telling import of_os_error
+from .messages import GONE, CommandError, let_go, tell
 from .terminal import Signals
 
 # A pipe that has room at all has room for so many bytes.
@@ -48,9 +49,18 @@ class Output:
                 sys.stdout.write(data.decode(self._encoding))
                 return
             while data and self._writable(self._fd):
-                data = data[os.write(self._fd, data[:PIECE]) :]
+                data = data[self._taken(self._fd, data[:PIECE]) :]
         except OSError as error:
             self._failed(error)
+
+    @staticmethod
+    def _taken(fd: int, data: bytes) -> int:
+        """Writes some bytes, and answers how many were taken."""
+        try:
+            return os.write(fd, data)
+        except BlockingIOError:
+            # Others have set it not to wait, and have filled it meanwhile.
+            return 0
 
     def _failed(self, error: OSError) -> None:
         """What a write that failed means: nothing more where a signal has ended the reader too."""

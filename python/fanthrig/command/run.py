@@ -5,8 +5,9 @@ from __future__ import annotations
 import argparse
 
 from ..records import Stop
+from ..running import sit
 from .messages import Code
-from .seat import finish, registers_of, seat_of, sit
+from .seat import finish, registers_of, seat_of
 from .terminal import Display, Signals
 
 

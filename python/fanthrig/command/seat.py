@@ -1,128 +1,32 @@
-"""A sitting with its keyboard and display, run until something ends it: what run, log and mark
-have in common."""
+"""A sitting with its keyboard and display, as the options of run and log have it."""
 
 from __future__ import annotations
 
 import argparse
 import os
-from dataclasses import replace
-from typing import Callable, NamedTuple
+from typing import NamedTuple
 
-from ..constants import MAX_CLOCK, MAX_STEPS, USER_STACK, VECTOR_WORDS
-from ..ending import EndKind, Ending
+from ..constants import MAX_CLOCK, USER_STACK
+from ..ending import Ending
+from ..labels import Labels
 from ..recording import Recording, ReplayError
-from ..records import Stop
+from ..running import Keyboard
 from ..sitting import Sitting
-from .files import check_edition, object_files, recording_of, same_file, save, sitting_of
-from .files import whole_file
-from .messages import Code, CommandError, end_line, of_os_error, own_registers, say, tell
-from .terminal import Keyboard, Signals, die, standard_keyboard
-
-WAITS = "the program waits for a key, and no more keys come"
-LOOPS = "the program goes round in a loop that not even a key can end"
-NOBODY_READS = "nobody reads the display any more"
-MANY_KEYS = "stopped: a sitting with more keys is too long to be saved"
+from ..telling import of_os_error
+from .files import check_edition, is_fifo, object_files, recording_of, same_file, save
+from .files import sitting_of, whole_file
+from .messages import Code, CommandError, end_line, own_registers, say, tell
+from .symbols import labels_of
+from .terminal import Signals, Unblocked, die, standard_keyboard
 
 # The most keys of a sitting that is saved: a recording has to be read back.
 MOST_SAVED_KEYS = 1 << 20
 
 
-class Pace(NamedTuple):
-    """How often a run is looked at, in steps.
-
-    ``first`` are the steps until it is asked whether the program does nothing but wait for a key.
-    Each time that it does not, there are ``growth`` times as many to the next time, up to
-    ``longest``: to ask costs as much as some hundred thousand steps. Keys and display are seen to
-    every ``chunk`` steps at the latest.
-    """
-
-    first: int
-    growth: int
-    longest: int
-    chunk: int
-
-
-RUNNING = Pace(1 << 8, 16, 1 << 24, MAX_STEPS)
-TRACING = Pace(1 << 6, 4, 1 << 14, 1 << 10)
-# Nobody waits for what a candidate shows.
-MARKING = Pace(1 << 16, 16, 1 << 24, MAX_STEPS)
-
-
-Advance = Callable[[int], Stop]
-
-
-def sit(
-    sitting: Sitting,
-    keyboard: Keyboard,
-    signals: Signals,
-    end: int,
-    advance: Advance,
-    pace: Pace = RUNNING,
-    patient: bool = False,
-) -> Ending:
-    """Runs to a clock unless something ends it before. ``advance`` makes so many steps.
-
-    A program that waits for a key costs nothing: the process waits for keys as well. Where no more
-    come, that is the end; so is a loop that no key can end, and a trap or an exception that leads
-    to no routine. But who is ``patient`` has all steps made.
-    """
-    apart, keys = pace.first, keyboard.first
-    look = sitting.clock + apart
-    while True:
-        keys = keys or (keyboard.poll() if len(sitting.typed) < keyboard.ahead else b"")
-        if keyboard.most < len(keys):
-            return replace(sitting.ending, kind=EndKind.INTERRUPTED, text=MANY_KEYS)
-        if keys:
-            keyboard.most -= len(keys)
-            # Only then: even to type nothing is to depart from a replay.
-            sitting.type(keys)
-            apart, keys = pace.first, b""
-            look = sitting.clock + apart
-        goal = min(end, look, sitting.clock + pace.chunk)
-        ending = _ended(sitting, signals, advance(goal - sitting.clock), end)
-        if ending is not None:
-            return ending
-        if sitting.clock < look:
-            continue
-        apart = min(apart * pace.growth, pace.longest)
-        look, stuck = sitting.clock + apart, _stuck(sitting)
-        if stuck is not None and stuck.kind is EndKind.WAITING:
-            keys = keyboard.wait()
-            ending = None if keys else _ended(sitting, signals, Stop.DONE, end)
-        if ending is None and stuck is not None and not (keys or patient):
-            ending = stuck
-        if ending is not None:
-            return ending
-
-
-def _stuck(sitting: Sitting) -> Ending | None:
-    """Why a program will never end, where that is plain."""
-    idle = sitting.idle()
-    if idle is not None:
-        text = WAITS if idle is EndKind.WAITING else LOOPS
-        return replace(sitting.ending, kind=idle, text=text)
-    # Only by a vector word of x0000 can a program be left that runs on.
-    ending = sitting.ending if 0 in sitting.memory[:VECTOR_WORDS] else None
-    return ending if ending is not None and ending.kind.crash else None
-
-
-def _ended(sitting: Sitting, signals: Signals, stop: Stop, end: int) -> Ending | None:
-    """How a run ended after some steps, if it did."""
-    if signals.caught:
-        return replace(
-            sitting.ending, kind=EndKind.INTERRUPTED, text=f"stopped by {signals.name}"
-        )
-    if stop is Stop.INTERRUPTED and not sitting.halted:
-        return replace(sitting.ending, kind=EndKind.INTERRUPTED, text=NOBODY_READS)
-    if sitting.halted or stop is not Stop.DONE or sitting.clock >= end:
-        return sitting.ending
-    return None
-
-
 class Seat(NamedTuple):
     """What a command line asks for: a sitting, its keys, the clock at which it is over, and whether
     that is to be reached whatever happens: a number was given, or a recording has it. A sitting of
-    which no recording is made ``forgets`` what lies far back."""
+    which no recording is made ``forgets`` what lies far back. ``labels`` are for messages."""
 
     sitting: Sitting
     keyboard: Keyboard
@@ -130,6 +34,7 @@ class Seat(NamedTuple):
     patient: bool
     recording: Recording | None = None
     forgets: bool = False
+    labels: Labels = Labels()
 
 
 def seat_of(options: argparse.Namespace, signals: Signals) -> Seat:
@@ -150,7 +55,9 @@ def seat_of(options: argparse.Namespace, signals: Signals) -> Seat:
     if options.save_sitting is not None:
         _check_saving(options)
         seat.keyboard.most = MOST_SAVED_KEYS
-    return seat
+    return seat._replace(
+        labels=labels_of(options.symbols, [*options.with_files, *options.files])
+    )
 
 
 def _check_saving(options: argparse.Namespace) -> None:
@@ -162,6 +69,9 @@ def _check_saving(options: argparse.Namespace) -> None:
     if any(same_file(path, options.save_sitting) for path in inputs):
         text = f"--save-sitting would overwrite {options.save_sitting}: name another file"
         raise CommandError(text, Code.WRONG_USE)
+    if is_fifo(options.save_sitting):
+        # Whoever reads it would take this for the end.
+        return
     is_new = not os.path.lexists(options.save_sitting)
     with open(options.save_sitting, "ab"):
         pass
@@ -204,6 +114,7 @@ def _keyboard(keys: str | None, signals: Signals) -> Keyboard:
     try:
         return Keyboard(whole_file(keys[1:]))
     except OSError as error:
+        error.filename = keys[1:]
         raise CommandError(f"--keys: {of_os_error(error)}") from None
 
 
@@ -212,9 +123,9 @@ def finish(
 ) -> Code:
     """Tells of the end, saves the sitting where that is asked for, and answers the exit code."""
     tell(before)
-    say(end_line(ending, seat.sitting.clock))
+    say(end_line(ending, seat.sitting.clock, seat.labels))
     if options.save_sitting is not None:
-        save(seat.sitting, options.save_sitting)
+        _save(seat.sitting, options.save_sitting, signals)
     if signals.fatal:
         # The terminal is set back: whoever sent the signal shall see that it was obeyed.
         die(signals.caught)
@@ -222,6 +133,19 @@ def finish(
     if ending.kind.crash:
         return Code.CRASHED
     return Code.HALTED if ending.finished else Code.NOT_HALTED
+
+
+def _save(sitting: Sitting, path: str, signals: Signals) -> None:
+    """Saves a sitting. A FIFO may have no reader: there a signal ends the wait for one."""
+    try:
+        signals.may_block = is_fifo(path)
+        save(sitting, path)
+    except Unblocked:
+        if not signals.fatal:
+            text = f"{path}: nobody reads this FIFO: the sitting is not saved"
+            raise CommandError(text) from None
+    finally:
+        signals.may_block = False
 
 
 def _check_replay(path: str, seat: Seat, ending: Ending) -> None:

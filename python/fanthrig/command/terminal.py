@@ -19,17 +19,15 @@ from types import FrameType
 from typing import Any
 
 from ..constants import MAX_STEPS
-from .messages import let_go
+from ..running import NOTICED, Keyboard
+from .messages import let_go, write_all
 
 # The keys that are read at once. More are read when the program has taken these.
 AT_ONCE = 65536
 
-# Ctrl-C, the wish of another process, a closed window, and Ctrl-\.
-NOTICED = (signal.SIGINT, signal.SIGTERM, signal.SIGHUP, signal.SIGQUIT)
 
-
-class _Unblocked(Exception):
-    """A signal has come while the display was written to, which may last for ever."""
+class Unblocked(Exception):
+    """A signal has come while something was written, which may last for ever."""
 
 
 class Signals:
@@ -83,7 +81,7 @@ class Signals:
         self.caught, self.count = self.caught or number, self.count + 1
         if self.may_block:
             self.may_block = False
-            raise _Unblocked
+            raise Unblocked
 
     def wait(self, fd: int, seconds: float | None) -> bool:
         """Whether there is something to read, at the latest when a signal has come."""
@@ -98,34 +96,6 @@ def die(number: int) -> None:
     """Ends the process by a signal, so that whoever started it sees what ended it."""
     signal.signal(number, signal.SIG_DFL)
     os.kill(os.getpid(), number)
-
-
-class Keyboard:
-    """The keys that are given before the first step; no others come. Of another keyboard, more keys
-    are asked for where fewer than ``ahead`` are typed and not taken."""
-
-    ahead = 1
-    # The most keys that are typed.
-    most = sys.maxsize
-
-    def __init__(self, first: bytes = b"") -> None:
-        """The keys."""
-        self.first = first
-
-    def __enter__(self) -> Keyboard:
-        """Nothing is to be set up."""
-        return self
-
-    def __exit__(self, *_: object) -> None:
-        """Nothing is to be set back."""
-
-    def poll(self) -> bytes:
-        """The keys that have been pressed."""
-        return b""
-
-    def wait(self) -> bytes:
-        """Waits for keys; nothing where no more come, or where a signal has come instead."""
-        return b""
 
 
 class File(Keyboard):
@@ -277,14 +247,13 @@ class Display:
             self._signals.may_block = True
             self._write(data)
             self._signals.may_block = False
-        except _Unblocked:
+        except Unblocked:
             pass
 
     def _write(self, data: bytes) -> None:
         """Writes bytes, or notices that nobody reads them."""
         try:
-            self._stream.write(data)
-            self._stream.flush()
+            write_all(self._stream, data)
         except OSError as error:
             self._signals.may_block = False
             let_go(self._stream)

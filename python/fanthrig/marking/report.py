@@ -13,12 +13,13 @@ import os
 from dataclasses import asdict, dataclass, field
 from typing import Any, Iterator, Sequence
 
+from ..telling import counted, plain
 from .audit import Audit, now
 from .candidates import Found
 from .cases import Case
+from .feedback import failure, number
 from .flags import Flag
-from .marking import REFUSED, RIGHT, CaseResult, Result
-from .messages import counted, plain
+from .marker import REFUSED, RIGHT, CaseResult, Result
 
 PASSED_OVER = "passed over"
 
@@ -26,21 +27,39 @@ COLUMNS = (
     "candidate",
     "case",
     "verdict",
+    "points",
+    "most",
     "flags",
     "ending",
     "steps",
+    "seconds",
     "pc",
     "line",
     "shown",
     "byte",
     "expected",
     "got",
+    "mismatches",
     "problem",
+    "student",
+    "student_id",
     "sha256",
+    "words_sha256",
     "time",
     "lc3",
     "interface",
     "options",
+)
+
+# The columns that are the same for all cases of a candidate.
+_OF_RESULT = (
+    "candidate",
+    "student",
+    "student_id",
+    "problem",
+    "sha256",
+    "words_sha256",
+    "time",
 )
 
 # What a spreadsheet takes for the beginning of a formula, also as East Asian keyboards write it.
@@ -49,21 +68,37 @@ FORMULAS = ("=", "+", "-", "@", "\uff1d", "\uff0b", "\uff0d", "\uff20")
 
 @dataclass
 class Total:
-    """The sums of a marking: the candidates that there are and those that were marked, the right
-    and the flagged ones among these, and the signal that ended it, if any."""
+    """The sums of a marking: the candidates that there are and those that have a result, the right
+    and the flagged ones among these, those whose result was there already, the files that were
+    passed over, and the signal that ended it, if any."""
 
     candidates: int
     marked: int = 0
     right: int = 0
     flagged: int = 0
+    resumed: int = 0
     passed_over: int = 0
     stopped_by: str | None = None
+    _by_words: dict[str, list[str]] = field(default_factory=dict)
 
     def add(self, result: Result) -> None:
         """Counts a result."""
         self.marked += 1
         self.right += result.verdict == RIGHT
         self.flagged += bool(result.flagged)
+        if result.words_sha256 is not None:
+            self._by_words.setdefault(result.words_sha256, []).append(result.candidate)
+
+    @property
+    def duplicates(self) -> list[list[str]]:
+        """The candidates whose files have equal words, in groups."""
+        groups = (list(dict.fromkeys(names)) for names in self._by_words.values())
+        return [group for group in groups if len(group) > 1]
+
+    def told(self) -> dict[str, Any]:
+        """The members, as JSON has them."""
+        sums = {name: value for name, value in vars(self).items() if name != "_by_words"}
+        return {**sums, "duplicates": self.duplicates}
 
     @property
     def whole(self) -> bool:
@@ -115,12 +150,12 @@ class Json(One):
 
     def end(self, total: Total) -> str:
         """The sums."""
-        return _line({"kind": "end", **vars(total), "time": now()})
+        return _line({"kind": "end", **total.told(), "time": now()})
 
 
 def _line(data: dict[str, Any]) -> str:
     """An object as a line of JSON."""
-    return json.dumps(_text(data)) + "\n"
+    return json.dumps(safe_text(data)) + "\n"
 
 
 def _named(name: str) -> dict[str, str | None]:
@@ -129,18 +164,18 @@ def _named(name: str) -> dict[str, str | None]:
     return {"candidate": name, "name_hex": None if exact else os.fsencode(name).hex()}
 
 
-def _text(value: Any) -> Any:
+def safe_text(value: Any) -> Any:
     """Data without lone surrogates, which many readers of JSON refuse: names of files that are no
     text have them. They are written as escapes.
 
-    >>> _text({"name": ["a\\udcff.obj", 1]})
+    >>> safe_text({"name": ["a\\udcff.obj", 1]})
     {'name': ['a\\\\udcff.obj', 1]}
     """
     if isinstance(value, str):
         return value.encode("utf-8", "backslashreplace").decode("utf-8")
     if isinstance(value, dict):
-        return {key: _text(item) for key, item in value.items()}
-    return [_text(item) for item in value] if isinstance(value, (list, tuple)) else value
+        return {key: safe_text(item) for key, item in value.items()}
+    return [safe_text(item) for item in value] if isinstance(value, (list, tuple)) else value
 
 
 class Csv(Form):
@@ -153,16 +188,13 @@ class Csv(Form):
     def result(self, result: Result) -> str:
         """The rows of a result; a candidate that was refused has one for each case as well."""
         told: dict[str, Any] = {
-            "candidate": result.candidate,
-            "problem": result.problem,
-            "sha256": result.sha256,
-            "time": result.time,
+            **{name: getattr(result, name) for name in _OF_RESULT},
             **vars(self.audit),
-            "options": json.dumps(_text(self.audit.options)),
+            "options": json.dumps(safe_text(self.audit.options)),
         }
         rows = [_cells(one) for one in result.results]
         if result.verdict == REFUSED:
-            rows = [{"case": case.name, "verdict": REFUSED} for case in self.cases]
+            rows = [_refused(case) for case in self.cases]
         return "".join(self._written({**told, **row}) for row in rows)
 
     def passed_over(self, file: Found) -> str:
@@ -176,9 +208,15 @@ class Csv(Form):
         return _row([cells.get(name) for name in COLUMNS])
 
 
+def _refused(case: Case) -> dict[str, Any]:
+    """The cells of a case of a candidate that was refused."""
+    return {"case": case.name, "verdict": REFUSED, "points": 0, "most": case.points}
+
+
 def _cells(one: CaseResult) -> dict[str, Any]:
     """The cells of a case."""
     cells: dict[str, Any] = {**vars(one), "flags": "; ".join(map(str, one.flags))}
+    cells["mismatches"] = "; ".join(map(str, one.mismatches))
     found = one.difference
     if found is not None:
         cells.update(byte=found.byte, expected=found.expected, got=found.got)
@@ -199,7 +237,7 @@ def cell(value: object) -> object:
     >>> cell("=1+1"), cell("a\\nb"), cell(None), cell(7)
     ("'=1+1", 'a\\\\nb', '', 7)
     """
-    if isinstance(value, int):
+    if isinstance(value, (int, float)):
         return value
     text = plain(str("" if value is None else value))
     return f"'{text}" if text.lstrip().startswith(FORMULAS) else text
@@ -221,14 +259,19 @@ class Table(Form):
         """The names of the columns."""
         self._told = _Told()
         self._width = max(len(plain(name)) for name in ("candidate", *self.names))
-        return f"{'candidate':<{self._width}}  {'right':>7}  verdict\n"
+        # Where each case is worth one point, the number of right ones tells all.
+        self._pointed = any(case.points != 1 for case in self.cases)
+        points = f"{'points':>9}  " if self._pointed else ""
+        return f"{'candidate':<{self._width}}  {'right':>7}  {points}verdict\n"
 
     def result(self, result: Result) -> str:
         """The line of a candidate; the cases that failed are kept for the end."""
         name, share = plain(result.candidate), f"{result.right}/{result.cases}"
         failed = [(name, one) for one in result.results if one.verdict != RIGHT]
         self._told.failures += failed
-        return f"{name:<{self._width}}  {share:>7}  {plain(_verdict(result))}\n"
+        told = f"{number(result.points)}/{number(result.most)}"
+        points = f"{told:>9}  " if self._pointed else ""
+        return f"{name:<{self._width}}  {share:>7}  {points}{plain(_verdict(result))}\n"
 
     def passed_over(self, file: Found) -> str:
         """Nothing yet: it is kept for the end."""
@@ -240,9 +283,16 @@ class Table(Form):
         lines = ["", _sums(total)]
         if self._told.passed_over:
             lines += ["", f"{PASSED_OVER}:", *self._told.passed_over]
+        if total.duplicates:
+            lines += ["", "equal words:", *map(_group, total.duplicates)]
         for name, one in self._told.failures:
             lines += ["", *_failure(name, one)]
         return "\n".join(lines) + "\n"
+
+
+def _group(names: Sequence[str]) -> str:
+    """The line of candidates that have equal words."""
+    return "  " + ", ".join(map(plain, names))
 
 
 def _sums(total: Total) -> str:
@@ -254,6 +304,8 @@ def _sums(total: Total) -> str:
     parts = [f"{total.right} of {total.marked} candidates right"]
     if total.flagged:
         parts.append(f"{total.flagged} flagged")
+    if total.resumed:
+        parts.append(f"{total.resumed} of them from before")
     if total.passed_over:
         parts.append(f"{counted(total.passed_over, 'file')} passed over")
     if total.stopped_by:
@@ -291,17 +343,4 @@ def _flags(flagged: Sequence[tuple[str, Flag]]) -> Iterator[str]:
 def _failure(candidate: str, one: CaseResult) -> Iterator[str]:
     """The lines that tell of a case that failed."""
     yield f"{candidate}, case {plain(one.case)}: {one.verdict}"
-    steps, line = counted(one.steps, "step"), one.line or "not fetched"
-    yield f"  {one.ended}; {steps}; PC x{one.pc:04X}: {line}"
-    yield from (f"  flagged: {flag}" for flag in one.flags)
-    if one.difference is not None:
-        yield f"  {one.difference}"
-        yield f"    expected: {one.difference.expected_text!r}"
-        yield f"    got:      {one.difference.got_text!r}"
-    if one.last:
-        lines = "line" if len(one.last) == 1 else f"{len(one.last)} lines"
-        yield f"  the last {lines} obeyed:"
-    yield from (f"    {last}" for last in one.last)
-
-
-FORMS = {None: Table, "csv": Csv, "json": Json, "one": One}
+    yield from (f"  {line}" for line in failure(one))

@@ -7,26 +7,28 @@ With the ready-made monitor each of these halts the machine, so that how the run
 where the steps were made before it could, the entry that is open does.
 A monitor of the class's own may go on after an exception or a trap without a service, and a
 program in Supervisor mode may alter the monitor. There the run is made once more with a log, and
-every exception and every such trap is counted. By the second edition's rules no run is logged, and
+every exception and every such trap is counted. A trap is told by where it led, so that a service
+that the program itself has installed is one. By the second edition's rules no run is logged, and
 only what ended the run is told.
 """
 
 from __future__ import annotations
 
-import argparse
 import sys
 from array import array
+from collections import Counter
 from dataclasses import dataclass, replace
 from typing import Sequence
 
 from ..constants import LOG_WORDS
-from ..ending import EXCEPTIONS, TRAPS, Ending, EndKind, has_service
+from ..ending import EXCEPTIONS, HALT_VECTOR, TRAPS, Ending, EndKind, has_service
 from ..log import LoggedStep, logged_steps
 from ..machine import LOGGED_AT_ONCE, Machine
 from ..recording import Recording
 from ..records import Edition, Reason
+from ..running import Stopper
 from ..sitting import Sitting
-from .terminal import Signals
+from .options import Options
 
 
 # Of each reason what is left of it where only traps are looked at.
@@ -59,14 +61,14 @@ class Flag:
 
 
 def flags_of(
-    options: argparse.Namespace, sitting: Sitting, ending: Ending, signals: Signals
+    options: Options, sitting: Sitting, ending: Ending, stopper: Stopper
 ) -> tuple[Flag, ...]:
     """The flags of a candidate's run that has ended, in the order in which they came first."""
     flags: list[Flag] = []
     halts_at_each = options.monitor and not options.supervisor
     counted = not halts_at_each and options.edition == Edition.THIRD
     if counted:
-        flags = counted_flags(sitting.recording(), signals)
+        flags = counted_flags(sitting.recording(), stopper)
     last = _last(ending, array("H", sitting.memory[:TRAPS]))
     # Every exception is counted, also one in a routine that serves the program.
     told = counted and ending.kind is EndKind.EXCEPTION
@@ -86,17 +88,16 @@ def _last(ending: Ending, table: array[int]) -> Flag | None:
     return Flag(name, ending.pc, ending.line) if name else None
 
 
-def counted_flags(recording: Recording, signals: Signals) -> list[Flag]:
-    """The exceptions of a run and its traps that have no service by the vector table at the start,
-    counted in the log of the run made once more. Where a signal has come, what is answered means
-    nothing."""
+def counted_flags(recording: Recording, stopper: Stopper) -> list[Flag]:
+    """The exceptions of a run and its traps that have led to no service of their own, counted in
+    the log of the run made once more. Where a signal has come, what is answered means nothing."""
     machine, flags = _machine_of(recording), dict[str, Flag]()
-    unserved = _unserved(machine.words)
+    shared = _shared_routine(machine.words)
     left = recording.steps
-    while left and not signals.caught:
+    while left and not stopper.caught:
         log = machine.advance_logged(min(left, LOGGED_AT_ONCE))[1]
         left -= len(log) // LOG_WORDS
-        for step, times in _flagged_in(log, unserved):
+        for step, times in _flagged_in(log, machine.record.pc, shared):
             flag = flags.setdefault(_name(step.reason), replace(Flag.of(step), times=0))
             flags[flag.flag] = replace(flag, times=flag.times + times)
     return list(flags.values())
@@ -116,23 +117,25 @@ def _name(reason: Reason) -> str:
     return reason.text if reason in EXCEPTIONS else EndKind.TRAP_WITHOUT_SERVICE.value
 
 
-def _unserved(words: array[int]) -> bytes:
-    """Of each vector the reason of its trap where that has no service, and 0 where it has one."""
-    return bytes(0 if has_service(words, vector) else Reason.TRAP for vector in range(TRAPS))
+def _shared_routine(words: array[int]) -> int:
+    """Where the traps lead that have no service: the vector word of most of the 256, or x0000."""
+    word, count = Counter(words[:TRAPS]).most_common(1)[0]
+    return word if 2 * count > TRAPS else 0
 
 
-def _flagged_in(log: array[int], unserved: bytes) -> Sequence[tuple[LoggedStep, int]]:
+def _flagged_in(log: array[int], after: int, shared: int) -> Sequence[tuple[LoggedStep, int]]:
     """The first step of each kind of event in a log that is flagged, with their number, in order.
+    PC is ``after`` behind its last step; ``shared`` is where traps without a service lead.
 
     >>> log = array("H", [0x3000, 0xF026, 1, 0x3001, 0xA002, 4, 0x3002, 0xA002, 4])
-    >>> [(hex(step.pc), times) for step, times in _flagged_in(log, bytes(256))]
+    >>> [(hex(step.pc), times) for step, times in _flagged_in(log, 0x3003, 0x0280)]
     [('0x3001', 2)]
-    >>> [(hex(step.pc), times) for step, times in _flagged_in(log, bytes([1] * 256))]
+    >>> [(hex(step.pc), times) for step, times in _flagged_in(log, 0x3003, 0x3001)]
     [('0x3000', 1), ('0x3001', 2)]
     """
-    reasons = _low_bytes(log[LOG_WORDS - 1 :: LOG_WORDS])
+    reasons = _halves(log[LOG_WORDS - 1 :: LOG_WORDS])[1]
     kinds = dict.fromkeys(EXCEPTIONS, reasons)
-    kinds[Reason.TRAP] = _unserved_traps(log, reasons, unserved)
+    kinds[Reason.TRAP] = _unserved_traps(log, reasons, after, shared)
     found = []
     for reason, steps in kinds.items():
         at = steps.find(reason)
@@ -142,21 +145,42 @@ def _flagged_in(log: array[int], unserved: bytes) -> Sequence[tuple[LoggedStep, 
     return [(step, times) for _, step, times in sorted(found, key=lambda entry: entry[0])]
 
 
-def _unserved_traps(log: array[int], reasons: bytes, unserved: bytes) -> bytes:
-    """Of each step of a log the reason where it is a trap without a service, and else 0."""
-    if Reason.TRAP not in reasons or not any(unserved):
+def _unserved_traps(log: array[int], reasons: bytes, after: int, shared: int) -> bytes:
+    """Of each step of a log the reason where it is a trap without a service, and else 0. A trap
+    has led to where PC is at the next step."""
+    if Reason.TRAP not in reasons:
         return b""
-    by_vector = _low_bytes(log[1::LOG_WORDS]).translate(unserved)
-    traps = reasons.translate(_TRAPS_ALONE)
-    # As two numbers: to go through the steps one by one would take longer than to make them.
-    both = int.from_bytes(by_vector, "little") & int.from_bytes(traps, "little")
-    return both.to_bytes(len(reasons), "little")
+    led_to = log[LOG_WORDS::LOG_WORDS]
+    led_to.append(after)
+    # As numbers of a byte for each step: to go through them one by one would take longer than to
+    # make them. TRAP x25 is HALT wherever it leads but to x0000.
+    halts = _same(_halves(log[1::LOG_WORDS])[1], HALT_VECTOR)
+    nowhere = _where(led_to, shared) & ~halts | _where(led_to, 0)
+    traps = int.from_bytes(reasons.translate(_TRAPS_ALONE), "little")
+    return (traps & nowhere).to_bytes(len(reasons), "little")
 
 
-def _low_bytes(words: array[int]) -> bytes:
-    """The low byte of each word.
+def _where(words: array[int], word: int) -> int:
+    """A number with a byte for each word, the first one lowest: xFF where it is this one, and 0.
 
-    >>> _low_bytes(array("H", [0xF025, 1])).hex()
-    '2501'
+    >>> hex(_where(array("H", [0x3000, 0x0030, 0x3000]), 0x3000))
+    '0xff00ff'
     """
-    return words.tobytes()[0 if sys.byteorder == "little" else 1 :: 2]
+    high, low = _halves(words)
+    return _same(high, word >> 8) & _same(low, word & 0xFF)
+
+
+def _same(data: bytes, byte: int) -> int:
+    """The same of bytes."""
+    table = bytes(0xFF if other == byte else 0 for other in range(256))
+    return int.from_bytes(data.translate(table), "little")
+
+
+def _halves(words: array[int]) -> tuple[bytes, bytes]:
+    """The high bytes of words, and the low ones.
+
+    >>> [half.hex() for half in _halves(array("H", [0xF025, 1]))]
+    ['f000', '2501']
+    """
+    data, high = words.tobytes(), int(sys.byteorder == "little")
+    return data[high::2], data[1 - high :: 2]

@@ -12,7 +12,7 @@ import stat
 from contextlib import contextmanager
 from typing import BinaryIO, Iterator
 
-from .messages import CommandError, of_os_error
+from ..telling import FileError, of_os_error
 
 # How shells name a pipe that is open already, as <(..) makes one. It has a writer, or its end is
 # there.
@@ -44,14 +44,14 @@ def _check(path: str, mode: int, pipes: bool) -> None:
     problem = other_kind(mode)
     pipe = pipes and stat.S_ISFIFO(mode) and path.startswith(OPEN_PIPES)
     if problem and not pipe:
-        raise CommandError(f"{path}: refused: {problem}")
+        raise FileError(f"{path}: refused: {problem}")
 
 
 @contextmanager
 def opened(path: str, links: bool, pipes: bool = False) -> Iterator[BinaryIO]:
     """A regular file, opened to be read; symbolic links are followed where ``links`` is set, and
     the shell's pipes are read where ``pipes`` is. Whatever else it is, and whatever the system
-    refuses, is a ``CommandError``."""
+    refuses, is a ``FileError``."""
     flags = os.O_RDONLY | os.O_NONBLOCK | os.O_NOCTTY | os.O_CLOEXEC
     try:
         _check(path, os.stat(path, follow_symlinks=links).st_mode, pipes)
@@ -65,7 +65,7 @@ def opened(path: str, links: bool, pipes: bool = False) -> Iterator[BinaryIO]:
             os.close(descriptor)
     except OSError as error:
         error.filename = path
-        raise CommandError(of_os_error(error)) from None
+        raise FileError(of_os_error(error)) from None
     except ValueError as error:
         # A name with a byte 0 in it is no name of a file.
-        raise CommandError(f"{path!r}: {error}: check its name") from None
+        raise FileError(f"{path!r}: {error}: check its name") from None

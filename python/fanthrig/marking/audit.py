@@ -3,18 +3,18 @@ in every result, so that each can be held against another, and made once more, y
 
 from __future__ import annotations
 
-import argparse
 import hashlib
 import json
-from dataclasses import dataclass
+from dataclasses import asdict, dataclass
 from datetime import datetime, timezone
 from typing import Any, Sequence
 
 from ..constants import VERSION, __version__
 from .cases import Case
+from .options import Options
 
-# The options that bear on results; how many processes there are does not.
-OPTIONS = ("steps", "edition", "supervisor", "pc", "stack", "monitor", "any_halt", "follow_links")
+# Of these results are the same wherever the files lie.
+_PLACES = ("cases", "follow_links")
 
 
 @dataclass(frozen=True)
@@ -26,22 +26,39 @@ class Audit:
     interface: int
     options: dict[str, Any]
 
+    def fits(self, told: dict[str, Any]) -> bool:
+        """Whether a result that tells of these versions and options is one of this marking: the
+        names of files do not matter, and what is in them does."""
+        versions = told.get("lc3") == self.lc3 and told.get("interface") == self.interface
+        return versions and _bearing(told.get("options")) == _bearing(self.options)
+
+
+def _bearing(options: Any) -> Any:
+    """What of the options bears on results."""
+    if not isinstance(options, dict):
+        return None
+    bearing = {name: value for name, value in options.items() if name not in _PLACES}
+    for name in ("with", "data"):
+        files = bearing.get(name)
+        bearing[name] = [file.get("sha256") for file in files] if isinstance(files, list) else None
+    return json.loads(json.dumps(bearing))
+
 
 def audit_of(
-    options: argparse.Namespace,
+    options: Options,
+    name: str,
     cases: Sequence[Case],
     with_files: Sequence[tuple[str, bytes]],
     data_files: Sequence[tuple[str, bytes]],
 ) -> Audit:
     """What a marking is made with; files are given by their names and their bytes."""
     told: dict[str, Any] = {
-        "cases": options.cases,
+        "cases": name,
         "cases_sha256": cases_sha256(cases),
         "with": [_hashed(*file) for file in with_files],
         "data": [_hashed(*file) for file in data_files],
     }
-    told.update((name, getattr(options, name)) for name in OPTIONS)
-    return Audit(__version__, VERSION, told)
+    return Audit(__version__, VERSION, {**told, **asdict(options)})
 
 
 def sha256(data: bytes) -> str:
@@ -55,9 +72,12 @@ def _hashed(path: str, data: bytes) -> dict[str, str]:
 
 
 def cases_sha256(cases: Sequence[Case]) -> str:
-    """The SHA-256 of cases, be they a folder or a JSON file: that of their names, keys, displays
-    and steps in order."""
-    parts = [[case.name, sha256(case.keys), sha256(case.expected), case.steps] for case in cases]
+    """The SHA-256 of cases, be they a folder or a JSON file: that of all their members in order."""
+    parts = []
+    for case in cases:
+        told: dict[str, Any] = {**asdict(case), "keys": sha256(case.keys)}
+        told["expected"] = None if case.expected is None else sha256(case.expected)
+        parts.append(told)
     return sha256(json.dumps(parts).encode("ascii"))
 
 

@@ -1,0 +1,71 @@
+"""Keyboard and display of the program while it runs under the debugger."""
+
+from __future__ import annotations
+
+import sys
+from typing import Sequence
+
+from ...constants import MAX_CLOCK
+from ...ending import Ending
+from ...events import Event
+from ...records import Stop
+from ...running import Keyboard, sit
+from ...sitting import Sitting
+from ..terminal import Display, Signals, Terminal, die
+
+
+class Console:
+    """The terminal, where there is one: keys that are pressed while the program runs are the
+    program's, and Ctrl-C stops it. Where commands come from a pipe, no other keys come than those
+    that are typed by a command."""
+
+    def __init__(self) -> None:
+        """Nothing runs."""
+        self._line_begun = False
+
+    def _keyboard(self, signals: Signals) -> Keyboard:
+        """The program's keyboard for one run."""
+        try:
+            return Terminal(sys.stdin.fileno(), signals) if sys.stdin.isatty() else Keyboard()
+        except (OSError, ValueError):
+            # Standard input is no file at all, or closed.
+            return Keyboard()
+
+    def run(
+        self, sitting: Sitting, steps: int | None, until: Sequence[Event], here: bool = False
+    ) -> Ending:
+        """Runs so many steps, or until something ends it; an event stops it as well."""
+        signals, first = Signals(), not here
+        end = MAX_CLOCK if steps is None else min(sitting.clock + steps, MAX_CLOCK)
+        display = Display(signals)
+
+        def advance(count: int) -> Stop:
+            """Makes some steps, and shows what they showed."""
+            nonlocal first
+            stop = sitting.run(count, until=until, here=not first).stop
+            first = False
+            self.show(sitting, display)
+            return Stop.INTERRUPTED if display.gone else stop
+
+        with signals, self._keyboard(signals) as keyboard:
+            ending = sit(sitting, keyboard, signals, end, advance, patient=steps is not None)
+        if signals.fatal:
+            self.close()
+            # Whoever sent the signal shall see that it was obeyed.
+            die(signals.caught)
+        return ending
+
+    def show(self, sitting: Sitting, display: Display) -> None:
+        """Shows what the program has shown: on standard output, byte for byte."""
+        data = sitting.take_display()
+        display.show(data)
+        if data:
+            self._line_begun = bool(display.line_feed())
+
+    def line_feed(self) -> str:
+        """A line feed where the program has left the cursor of a terminal within a line."""
+        begun, self._line_begun = self._line_begun, False
+        return "\n" if begun else ""
+
+    def close(self) -> None:
+        """Leaves the terminal as it was."""

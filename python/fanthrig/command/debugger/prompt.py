@@ -1,0 +1,89 @@
+"""The debugger's prompt: commands line by line, from a terminal or from a pipe."""
+
+from __future__ import annotations
+
+import sys
+
+from ...telling import plain
+from ..messages import Code, tell
+from .commands import Debugger
+from .console import Console
+from .motion import Wrong
+
+try:
+    import readline
+except ImportError:
+    # A Python without it still reads lines.
+    readline = None  # type: ignore[assignment]
+
+PROMPT = "(lc3) "
+
+# Between words that can be completed.
+DELIMITERS = " \t[]=<>!+-"
+
+
+class Lines:
+    """Where commands come from. On a terminal a line can be edited, earlier ones are called back,
+    and Tab completes a word."""
+
+    def __init__(self, debugger: Debugger) -> None:
+        """The standard input of this process."""
+        self._debugger = debugger
+        self.on_terminal = sys.stdin.isatty()
+        if hasattr(sys.stdin, "reconfigure"):
+            # A script of commands may have any bytes.
+            sys.stdin.reconfigure(errors="surrogateescape")
+        if self.on_terminal and readline is not None:
+            readline.set_completer(self._complete)
+            readline.set_completer_delims(DELIMITERS)
+            readline.parse_and_bind("tab: complete")
+
+    def next(self) -> str | None:
+        """The next line, or nothing at the end."""
+        if self.on_terminal and sys.stdout.isatty():
+            try:
+                return input(PROMPT)
+            except EOFError:
+                tell("\n")
+                return None
+        if self.on_terminal:
+            tell(PROMPT)
+        line = sys.stdin.readline()
+        return line.rstrip("\n") if line else None
+
+    def _complete(self, begun: str, number: int) -> str | None:
+        """One after the other what a word may become."""
+        before = readline.get_line_buffer()[: readline.get_begidx()]
+        found = self._debugger.completed(before, begun)
+        return found[number] if number < len(found) else None
+
+
+def obey(debugger: Debugger, console: Console, line: str) -> bool:
+    """Obeys one line, and tells the answer; whether it could be obeyed."""
+    try:
+        answer, right = debugger.obey(line), True
+    except Wrong as wrong:
+        answer, right = plain(str(wrong)), False
+    except KeyboardInterrupt:
+        answer, right = "stopped by Ctrl-C", False
+    tell(console.line_feed())
+    tell(f"{answer}\n" if answer else "")
+    return right
+
+
+def interact(debugger: Debugger, console: Console) -> Code:
+    """Obeys lines until the debugger is left for the screen, or ends. The exit code tells of a
+    command that could not be obeyed, where they do not come from a terminal."""
+    lines, code = Lines(debugger), Code.HALTED
+    while not (debugger.ended or debugger.on_screen):
+        try:
+            line = lines.next()
+            if line is None:
+                debugger.ended = True
+            elif not line.lstrip().startswith("#"):
+                if not (obey(debugger, console, line) or lines.on_terminal):
+                    code = Code.NOT_HALTED
+        except KeyboardInterrupt:
+            # Ctrl-C at the prompt begins a new line.
+            tell("\n")
+    return code

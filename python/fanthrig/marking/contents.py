@@ -1,0 +1,142 @@
+"""Registers and words: what a case sets before the run, what it expects after it, and the random
+contents of all that it leaves open."""
+
+from __future__ import annotations
+
+import hashlib
+import re
+from array import array
+from dataclasses import dataclass
+from typing import Any, Iterable, Iterator, Mapping, Sequence
+
+from ..constants import MEMORY_WORDS
+from ..places import USER_WORDS
+from ..records import Record, as_word
+from ..recording import from_high_first
+from ..sitting import Sitting
+
+# The register of the user's stack: random contents leave it alone.
+STACK = 6
+
+# The differences that are told of a case.
+MOST_TOLD = 20
+
+_REGISTER = re.compile("R([0-7])", re.IGNORECASE | re.ASCII)
+_ADDRESS = re.compile("0?x([0-9A-F]{4})", re.IGNORECASE | re.ASCII)
+_NUMBER = re.compile("#?([+-]?[0-9]{1,5})", re.ASCII)
+
+
+@dataclass(frozen=True)
+class Contents:
+    """Registers by their numbers and words by their addresses, each with its value.
+
+    >>> Contents.of({"R0": -1, "x4000": [1, "x0010"]})
+    Contents(registers=((0, 65535),), words=((16384, 1), (16385, 16)))
+    """
+
+    registers: tuple[tuple[int, int], ...] = ()
+    words: tuple[tuple[int, int], ...] = ()
+
+    @classmethod
+    def of(cls, places: Mapping[str, Any]) -> Contents:
+        """The contents of a mapping. A register, R0 to R7, has a number; an address, as x4000, a
+        number, or a list of them for that word and the next ones. Numbers are from -32768 to
+        65535, or texts as x000A and #-3."""
+        registers: dict[int, int] = {}
+        words: dict[int, int] = {}
+        for place, value in places.items():
+            register, address = _REGISTER.fullmatch(place), _ADDRESS.fullmatch(place)
+            if register:
+                _add(registers, place, [(int(register[1]), _value(place, value))])
+            elif address:
+                _add(words, place, _run_of_words(int(address[1], 16), place, value))
+            else:
+                known = "neither a register, R0 to R7, nor an address as x4000"
+                raise ValueError(f"{place!r} is {known}")
+        return cls(tuple(sorted(registers.items())), tuple(sorted(words.items())))
+
+    def __bool__(self) -> bool:
+        """Whether there are any."""
+        return bool(self.registers or self.words)
+
+    def put(self, sitting: Sitting) -> None:
+        """Puts the contents into a machine before its first step."""
+        for address, value in self.words:
+            sitting.memory[address] = value
+        for register, value in self.registers:
+            sitting[f"R{register}"] = value
+
+    def mismatches(self, record: Record, memory: Sequence[int]) -> Iterator[Mismatch]:
+        """What is not as it is here: registers first, then words by address."""
+        for register, value in self.registers:
+            if record.regs[register] != value:
+                yield Mismatch(f"R{register}", value, record.regs[register])
+        for address, value in self.words:
+            if memory[address] != value:
+                yield Mismatch(f"x{address:04X}", value, memory[address])
+
+
+@dataclass(frozen=True)
+class Mismatch:
+    """A register or a word that is not as expected."""
+
+    place: str
+    expected: int
+    got: int
+
+    def __str__(self) -> str:
+        """The place and both values.
+
+        >>> print(Mismatch("R0", 6, 65535))
+        R0: expected x0006 (6), got xFFFF (-1)
+        """
+        return f"{self.place}: expected {_told(self.expected)}, got {_told(self.got)}"
+
+
+def _told(value: int) -> str:
+    """A word as a person reads it."""
+    return f"x{value:04X} ({value - ((value & 0x8000) << 1)})"
+
+
+def _add(found: dict[int, int], place: str, more: Iterable[tuple[int, int]]) -> None:
+    """Adds what a place is given, unless it has a value already: r0 is R0, and lists overlap."""
+    for number, value in more:
+        if number in found:
+            raise ValueError(f"{place!r} gives a value to what has one already")
+        found[number] = value
+
+
+def _run_of_words(first: int, place: str, value: Any) -> Iterator[tuple[int, int]]:
+    """The words from an address on."""
+    values = value if isinstance(value, (list, tuple)) else [value]
+    if first + len(values) > MEMORY_WORDS:
+        raise ValueError(f"{place!r} has words beyond xFFFF")
+    for offset, item in enumerate(values):
+        yield first + offset, _value(place, item)
+
+
+def _value(place: str, value: Any) -> int:
+    """The number that a register or a word is given."""
+    if isinstance(value, str):
+        hexadecimal, decimal = _ADDRESS.fullmatch(value), _NUMBER.fullmatch(value)
+        value = int(hexadecimal[1], 16) if hexadecimal else int(decimal[1]) if decimal else None
+    if type(value) is not int or not -32768 <= value <= 65535:
+        raise ValueError(f"{place!r} has no number from -32768 to 65535, nor one as x000A or #-3")
+    return as_word(value, place)
+
+
+def put_random(sitting: Sitting, seed: int, case: str) -> None:
+    """Fills the registers but R6, and the words of User mode that no file has, by random contents.
+    They follow from the seed and the name of the case alone, so that all candidates meet the
+    same: SHAKE-256 of both, the registers first, then the words from x3000 on."""
+    source = hashlib.shake_256(f"{seed} {case}".encode("utf-8", "surrogatepass"))
+    drawn = from_high_first(source.digest(2 * (8 + len(USER_WORDS))))
+    for register in set(range(8)) - {STACK}:
+        sitting[f"R{register}"] = drawn[register]
+    words = drawn[8:]
+    for program in sitting.programs:
+        if program.origin in USER_WORDS:
+            first, end = program.addresses.start, program.addresses.stop
+            taken = slice(first - USER_WORDS.start, end - USER_WORDS.start)
+            words[taken] = array("H", sitting.memory[first:end])
+    sitting.memory[USER_WORDS.start : USER_WORDS.stop] = words
