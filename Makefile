@@ -3,16 +3,24 @@
 # make test       everything: formatting, the proofs with the wrong programs that must be refused, the host tests
 # make lint       mypy and flake8 on our Python; setup.cfg says how
 # make lib        build/libfanthrig.a and build/libfanthrig.so; the header is include/fanthrig/lc3.h
-# make install    library, header, fanthrig.pc, module, command, manual page and examples, under DESTDIR and PREFIX
+# make page       build/page/lc3.html, the LC-3 as one file for a browser; build/fanthrig.wasm, build/fanthrig.mjs
+# make page-test  these against the reference, the native library and real browsers
+# make install    library, header, fanthrig.pc, module, command, manual pages, page, examples, under DESTDIR and PREFIX
 # make uninstall  takes away what `make install` put there
 # make dist       a release in build/dist: source, binary archive, wheel, Debian packages, sums, provenance
 # make bench      time against C: runs, lines of text, and object files
 # make rate       time of the Python module and of the command beside that of lc3_run alone
 # make soak       many more random runs against the reference simulator
+# make mutants    alters the definitions one point at a time: would a wrong rule be noticed? (no part of make test)
 # make release-test   a release, made twice, and installed without the kit: wheel, packages in a fresh Debian, archive
 
 EXPORTS = lc3_machine lc3_logging lc3_long lc3_second lc3_words lc3_lines lc3_objects lc3_monitor lc3_version
 ARCHIVES = $(EXPORTS:%=target/staticlib/lib%.a)
+# The crates that they rest on.
+BELOW := $(sort $(foreach name,$(EXPORTS),$(shell sed -n 's/^$(name)://p' crates.txt)))
+# How many crates rt proves at a time. It waits for all of them before it begins the next ones, so that four keep two
+# cores busier than two would; each takes up to 1.4 GB.
+export RT_JOBS ?= 4
 # The product's version. The shared library has the name by which hosts ask for it, which ends in the version of the
 # header: that of the interface.
 RELEASE := $(shell cat VERSION)
@@ -37,21 +45,24 @@ MODULES = $(or $(shell $(PYTHON) -c 'import site, sys; lib = sys.argv[1].rstrip(
     print(next((p for p in places if p.startswith(lib)), lib + "python3/dist-packages"))' \
     "$(PREFIX)"),$(error $(PYTHON) does not run: name another by PYTHON=))
 DOC = $(PREFIX)/share/doc/fanthrig
+# Writes a path as it is from a folder, also where that ends in a slash or is the root.
+FROM = $(PYTHON) -c 'import os, sys; print(os.path.relpath(*sys.argv[1:]))'
 # What may be left empty of a staged tree, and goes as well then; folders of a system stay.
-SHARED = share/man/man1 share/doc share/bash-completion/completions
+SHARED = share/man/man1 share/man/man5 share/doc share/bash-completion/completions
 FOLDERS = "$(LIBDIR)/pkgconfig" "$(MODULES)" $(foreach part,$(dir include/$(HEADER)) bin $(SHARED),"$(PREFIX)/$(part)")
 # Tells the system's loader of the library, unless the tree is only staged.
 LOADER = @[ -n "$(DESTDIR)" ] || /sbin/ldconfig 2>/dev/null || \
     echo "Run ldconfig as root, so that programs find $(SONAME)."
 
-.PHONY: run told demo test lib install uninstall dist release-test bench rate soak format lint host clean
+.PHONY: run told demo test lib page page-test install uninstall dist release-test bench rate soak mutants
+.PHONY: format lint clean host host-c host-counts host-rust host-python
 
 run: told lib
 	@examples/run.sh
 
 told:
 	@command -v python3 >/dev/null || { echo "The command needs python3, and none is found." >&2; exit 2; }
-	@[ -e build/libfanthrig.so ] || echo "The library is proved and built first: about 8 minutes on two cores, once."
+	@[ -e build/libfanthrig.so ] || echo "The library is proved and built first: about 5 minutes on two cores, once."
 
 # `make test` compares what it prints with crates/demo/stdout.
 demo:
@@ -62,49 +73,64 @@ demo:
 # The archives are built from the crates that `rt ci` has just proved. Its verdict is repeated as the last line of all.
 test:
 	@echo "Everything: formatting, all proofs from nothing, wrong programs that must be refused, and then the host tests."
-	@echo "That takes about 75 minutes on two cores."
+	@echo "That takes about 45 minutes on two cores."
 	@tools/prerequisites
 	@$(MAKE) --no-print-directory format lint
 	@tools/progress build/ci.log rt ci
-	@$(MAKE) --no-print-directory host release-test
+	@$(MAKE) --no-print-directory lib page
+	@$(MAKE) --no-print-directory -j2 -O host page-test release-test
 	@tail -n 1 build/ci.log
 
 format:
 	python3 docs/check.py
+	python3 tools/contracts.py
 	rt fmt --check
 	cargo fmt --all --check --manifest-path host/Cargo.toml
 
 lint:
 	mypy
-	flake8 python docs examples tools
+	flake8 python docs examples tools page
 
-host: lib
+# The host tests, in four parts: `make -j2 host` runs two at a time. A part that calls make itself is not to ask for the
+# jobs of this one.
+APART = env -u MAKEFLAGS -u MFLAGS
+host: host-c host-counts host-rust host-python
+
+host-c: lib
 	host/c/run.sh
 	host/bench/symbols.sh lc3_run '*::run' '*::go' '*::run_accepted' '*::quiet_steps'
 	host/bench/symbols.sh lc3_run_logged '*::run_logged' '*::go' '*::run_accepted'
 	host/bench/symbols.sh lc3_run_long '*::run' '*::go' '*::run_accepted' '*::visit' '*::read_in'
 	host/bench/symbols.sh lc3_run_second '*::call' '*::run_by' '*::go' '*::run_accepted'
+
+host-counts: lib
 	host/bench/count.sh
+
+host-rust: lib
 	$(CARGO) --workspace -- --nocapture
 	$(subst cargo test,cargo run,$(CARGO)) --example log | diff host/examples/log.txt -
 	RUSTDOCFLAGS="-D warnings" \
 	    cargo doc --workspace --quiet --no-deps --offline --manifest-path host/Cargo.toml --target-dir build/cargo
-	python3 -m unittest discover -s python/tests -t python
+
+host-python: lib page
+	$(APART) python3 -m unittest discover -s python/tests -t python
 
 lib: build/libfanthrig.so
 
-# The archives rest on the same crates. All that they rest on is proved first, two crates at a time where that can be;
-# then each archive takes seconds.
+# The archives rest on the same crates, which are proved first, several at a time. Each archive is then proved and
+# written in seconds, two at a time.
+KIT = command -v rt >/dev/null || { cat tools/no-kit.txt >&2; exit 2; }
 build/proved: crates.txt $(shell find crates -name '*.rt' -o -name '*.antt')
-	@command -v rt >/dev/null || { cat tools/no-kit.txt >&2; exit 2; }
-	@tools/progress build/proved.log rt check $(EXPORTS)
+	@$(KIT)
+	@tools/progress build/proved.log rt check $(BELOW)
 	@touch $@
 
-target/staticlib/lib%.a: build/proved
-	@tools/progress build/$*.log rt staticlib $*
+$(ARCHIVES): target/staticlib/lib%.a: build/proved
+	@tools/archive $*
 
 # The archives' objects under names of their own.
-build/libfanthrig.a: $(ARCHIVES)
+build/libfanthrig.a: build/proved
+	@$(MAKE) --no-print-directory -j2 $(ARCHIVES)
 	rm -rf $@ build/objects
 	@for name in $(EXPORTS); do \
 	    mkdir -p build/objects/$$name && (cd build/objects/$$name && ar x ../../../target/staticlib/lib$$name.a) && \
@@ -118,23 +144,47 @@ build/$(SONAME): build/libfanthrig.a
 build/libfanthrig.so: build/$(SONAME)
 	ln -sf $(SONAME) $@
 
-# `make -o lib install` takes the library as it stands.
-install: lib
+# For browsers and hosts in JavaScript: the LLVM modules of the archives, compiled by the kit for WebAssembly.
+page: build/page/lc3.html build/fanthrig.mjs
+
+build/wasm/%.bc: target/staticlib/lib%.a tools/bitcode
+	@$(KIT)
+	@mkdir -p $(@D)
+	@tools/bitcode $*
+
+build/fanthrig.wasm: $(EXPORTS:%=build/wasm/%.bc) tools/wasm include/$(HEADER)
+	tools/wasm $@ $(EXPORTS:%=build/wasm/%.bc)
+
+build/fanthrig.mjs: tools/page.py $(wildcard page/lib/*)
+	python3 tools/page.py module $@
+
+build/page/lc3.html: build/fanthrig.wasm tools/page.py VERSION $(wildcard page/lib/* page/ui/* page/*.* examples/*.obj)
+	python3 tools/page.py page build/fanthrig.wasm $@
+
+page-test: lib page
+	page/tests/run.sh
+
+# `make -o lib -o page install` takes the library and the page as they stand.
+install: lib page
 	install -d "$(IN_LIB)/pkgconfig" "$(IN)/bin" "$(IN)/share/man/man1" "$(DESTDIR)$(DOC)/examples"
 	install -m 644 build/libfanthrig.a build/$(SONAME) "$(IN_LIB)"
 	ln -sf $(SONAME) "$(IN_LIB)/libfanthrig.so"
 	install -D -m 644 include/$(HEADER) "$(IN)/include/$(HEADER)"
-	sed 's|@PREFIX@|$(PREFIX)|; s|@LIBDIR@|$(subst $(PREFIX)/,$${prefix}/,$(LIBDIR))|; s|@VERSION@|$(RELEASE)|' \
+	sed -e 's|@PREFIX@|$(subst &,\&,$(PREFIX))|' -e 's|@VERSION@|$(RELEASE)|' \
+	    -e 's|@LIBDIR@|$(subst &,\&,$(subst $(PREFIX)/,$${prefix}/,$(LIBDIR)))|' \
 	    tools/fanthrig.pc.in | install -m 644 /dev/stdin "$(IN_LIB)/pkgconfig/fanthrig.pc"
 	rm -rf "$(PACKAGE)"
 	find python/fanthrig -type f ! -path '*/__pycache__/*' -printf '%P\n' | while read -r file; do \
 	    install -D -m 644 "python/fanthrig/$$file" "$(PACKAGE)/$$file" || exit; done
 	umask 022 && $(PYTHON) -m compileall -q -s "$(DESTDIR)" -p / "$(PACKAGE)"
-	$(PYTHON) -c 'import os, sys; print(os.path.relpath(*sys.argv[1:]))' "$(LIBDIR)/$(SONAME)" "$(MODULES)/fanthrig" | \
+	$(FROM) "$(LIBDIR)/$(SONAME)" "$(MODULES)/fanthrig" | \
 	    install -m 644 /dev/stdin "$(PACKAGE)/libfanthrig.path"
-	sed "s|@PYTHON@|$$($(PYTHON) -c 'import sys; print(sys.executable)')|; s|@MODULES@|$(subst $(PREFIX)/,,$(MODULES))|" \
+	sed -e "s|@PYTHON@|$$($(PYTHON) -c 'import sys; print(sys.executable)')|" \
+	    -e "s|@MODULES@|$$($(FROM) "$(MODULES)" "$(PREFIX)/")|" \
 	    tools/lc3.in | install -m 755 /dev/stdin "$(IN)/bin/lc3"
-	install -m 644 docs/lc3.1 "$(IN)/share/man/man1"
+	install -m 644 docs/lc3.1 docs/lc3-debug.1 "$(IN)/share/man/man1"
+	install -D -m 644 docs/lc3-mark.5 "$(IN)/share/man/man5/lc3-mark.5"
+	install -D -m 644 -t "$(IN)/share/fanthrig" build/page/lc3.html build/fanthrig.wasm build/fanthrig.mjs
 	install -D -m 644 tools/completion.bash "$(IN)/share/bash-completion/completions/lc3"
 	install -m 644 examples/*.lst examples/*.obj examples/*.keys "$(DESTDIR)$(DOC)/examples"
 	$(LOADER)
@@ -142,18 +192,20 @@ install: lib
 uninstall:
 	rm -f "$(IN_LIB)/libfanthrig.a" "$(IN_LIB)/$(SONAME)" "$(IN_LIB)/libfanthrig.so" "$(IN_LIB)/pkgconfig/fanthrig.pc" \
 	    "$(IN)/include/$(HEADER)" "$(IN)/bin/lc3" "$(IN)/share/man/man1/lc3.1" \
+	    "$(IN)/share/man/man1/lc3-debug.1" "$(IN)/share/man/man5/lc3-mark.5" \
 	    "$(IN)/share/bash-completion/completions/lc3"
-	rm -rf "$(PACKAGE)" "$(DESTDIR)$(DOC)"
+	rm -rf "$(PACKAGE)" "$(DESTDIR)$(DOC)" "$(IN)/share/fanthrig"
 	@[ -z "$(DESTDIR)" ] || for folder in $(FOLDERS); do \
 	    (cd "$(DESTDIR)" && rmdir -p --ignore-fail-on-non-empty ".$$folder") 2>/dev/null || true; done
+	@rmdir "$(IN)/$(dir include/$(HEADER))" 2>/dev/null || true
 	$(LOADER)
 
-# `make -o lib dist` takes the library as it stands.
-dist: lib
+# `make -o lib -o page dist` takes the library and the page as they stand.
+dist: lib page
 	PYTHONPATH=tools python3 -m release
 
-release-test: lib
-	host/release/run.sh
+release-test: lib page
+	$(APART) host/release/run.sh
 
 bench: lib
 	host/bench/run.sh
@@ -163,10 +215,15 @@ bench: lib
 rate: lib
 	cd python && python3 -m tests.rate
 	cd python && python3 -m tests.rate_command
+	cd python && python3 -m tests.rate_marking
 
 soak: lib
 	LC3_RUNS=20000000 $(CARGO) --test differential soak -- --ignored --nocapture
 	LC3_RUNS=2000000 $(CARGO) --test long soak -- --ignored --nocapture
+
+# It proves nothing and builds nothing: definitions, tables and theorems are computed by Python.
+mutants:
+	PYTHONPATH=tools python3 -m mutants
 
 clean:
 	rm -rf target build .mypy_cache

@@ -1,12 +1,12 @@
 #!/bin/sh
 # Counts the library's processor instructions per step, which no load on the computer disturbs.
-# Exits 1 where a program takes more than the limit. `poll` and `show` wait for a device: `poll` loads a device register
-# in every second step, which is an ordinary step after a quiet one was tried, and `show` somewhat less often; `last`
-# stands among the device registers, where no step is quiet. They have a limit of their own. `timer` is `count` with the
-# timer on, at an interval of 1000 steps.
+# Exits 1 where a program takes more than the limit. `poll` and `show` wait for a device; `show` has a limit of its own,
+# since the step that shows a byte is an ordinary one. `last` stands among the device registers. `timer` is `count` with
+# the timer on, at an interval of 1000 steps.
 #
-# The run for long sittings is held against the run. `count`, `timer`, `copy` and `sieve` are loops that fit its window,
-# and it must be faster there by far; elsewhere, and in a call with n = 1, it may be a little slower.
+# The run for long sittings is held against the run. `count`, `timer`, `copy`, `sieve` and `last` are loops that fit its
+# window, and it must be faster there by far; elsewhere, and in a call with n = 1, it may be a little slower. Its polls
+# are ordinary steps: for `poll` and `show` it has a limit, and no ratio.
 #
 # The cost of starting and of the call itself is the same for any number of steps, so the
 # difference between two lengths counts steps alone, and that between two numbers of calls, calls.
@@ -14,7 +14,8 @@
 #   FANTHRIG_LIB_DIR   where libfanthrig.a is                               build
 #   CC            C compiler                                      gcc
 #   COUNT_LIMIT   instructions per step                           40
-#   POLL_LIMIT    for last, poll and show                         100
+#   SHOW_LIMIT    for show                                        60
+#   LONG_LIMIT    for the long run                                115
 #   LOG_LIMIT     for logged runs                                 110
 #   LOOP_RATIO    of the long run's to the run's, in hundredths   65
 #   OTHER_RATIO   for programs that are no loops in the window    125
@@ -23,7 +24,8 @@ set -eu
 cd "$(dirname "$0")/../.."
 
 limit=${COUNT_LIMIT:-40}
-poll_limit=${POLL_LIMIT:-100}
+show_limit=${SHOW_LIMIT:-60}
+long_limit=${LONG_LIMIT:-115}
 log_limit=${LOG_LIMIT:-110}
 loop_ratio=${LOOP_RATIO:-65}
 other_ratio=${OTHER_RATIO:-125}
@@ -74,7 +76,7 @@ within() {
     status=1
 }
 
-# count_program PROGRAM LIMIT RATIO: a line of the table, held against the limits.
+# count_program PROGRAM LIMIT [RATIO]: a line of the table, held against the limits.
 count_program() {
     library=$(per_step library "$1")
     long=$(per_step long "$1")
@@ -84,7 +86,8 @@ count_program() {
     longer=$(ratio "$long" "$library")
     verdict=
     within $(($2 * 100)) "$library" library
-    within "$3" "$longer" long
+    within $((long_limit * 100)) "$long" long
+    [ $# -lt 3 ] || within "$3" "$longer" long
     within $((log_limit * 100)) "$logged" logged
     printf '%-7s library %6s   long %6s, ratio %s   logged %6s   plain C %6s   tuned C %6s%s\n' "$1" \
         "$(decimal "$library")" "$(decimal "$long")" "$(decimal "$longer")" "$(decimal "$logged")" \
@@ -102,11 +105,13 @@ count_calls() {
 }
 
 status=0
-echo "instructions per step, limit $limit, for last, poll and show $poll_limit, for logged runs $log_limit;"
-echo "ratio of the long run, limit $(decimal "$loop_ratio") for count, timer, copy and sieve," \
-    "$(decimal "$other_ratio") for others, $(decimal "$call_ratio") for calls with n = 1"
-for program in count timer copy sieve; do count_program $program "$limit" "$loop_ratio"; done
+echo "instructions per step, limit $limit, for show $show_limit, for the long run $long_limit," \
+    "for logged runs $log_limit;"
+echo "ratio of the long run, limit $(decimal "$loop_ratio") for count, timer, copy, sieve and last," \
+    "$(decimal "$other_ratio") for others but poll and show, $(decimal "$call_ratio") for calls with n = 1"
+for program in count timer copy sieve last; do count_program $program "$limit" "$loop_ratio"; done
 for program in self calls outs wander; do count_program $program "$limit" "$other_ratio"; done
-for program in last poll show; do count_program $program "$poll_limit" "$other_ratio"; done
+count_program poll "$limit"
+count_program show "$show_limit"
 count_calls
 exit $status

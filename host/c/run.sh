@@ -1,6 +1,6 @@
 #!/bin/sh
 # Compiles the header by every standard from C89 and C++98 on without a warning, runs the test of
-# the interface and the README's example, and sees that header, library and the shared library's
+# the interface and the guide's example, and sees that header, library and the shared library's
 # SONAME have one version.
 #
 #   FANTHRIG_LIB_DIR   where libfanthrig.a and libfanthrig.so are   build
@@ -29,12 +29,12 @@ for compiler in "${CXX:-g++}" clang++; do header "$compiler" c++ c++98 c++11 c++
 # shellcheck disable=SC2086
 ${CC:-gcc} -std=c11 -O1 -g $strict -fsanitize=address,undefined host/c/interface.c "$lib" \
     -o "$work/interface"
-awk '/^```c$/ { on = 1; next } /^```$/ { on = 0 } on' README.md >"$work/readme.c"
+awk '/^```c$/ { on = 1; next } /^```$/ { on = 0 } on' docs/GUIDE.md >"$work/guide.c"
 # shellcheck disable=SC2086
-${CC:-gcc} -std=c11 $strict "$work/readme.c" "$lib" -o "$work/readme"
+${CC:-gcc} -std=c11 $strict "$work/guide.c" "$lib" -o "$work/guide"
 # shellcheck disable=SC2086
 ${CC:-gcc} -std=c11 $strict host/c/version.c -L"$dir" -lfanthrig -o "$work/version"
-"$work/readme"
+"$work/guide"
 LD_LIBRARY_PATH=$dir "$work/version"
 "$work/interface"
 

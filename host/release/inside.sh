@@ -19,9 +19,12 @@ files >before
 quietly dpkg --install ./*.deb
 ! command -v rt >/dev/null || fail "there is a kit"
 same "$(lc3 run /usr/share/doc/fanthrig-tools/examples/hello.obj </dev/null 2>/dev/null)" "$HELLO" "lc3 run"
+same "$(lc3 page)" /usr/share/fanthrig/lc3.html "lc3 page"
 lc3 --version | grep -qw "$VERSION" || fail "lc3 --version does not tell $VERSION"
 same "$(python3 -c 'import fanthrig; print(fanthrig.__version__)')" "$VERSION" "the module"
-man lc3 | grep -q 'run, list, log and mark programs' || fail "man lc3"
+man lc3 | grep -q 'run, list, make, log, debug and mark programs' || fail "man lc3"
+man lc3-debug | grep -q 'step through' || fail "man lc3-debug"
+man lc3-mark | grep -q 'cases and results of lc3 mark' || fail "man lc3-mark"
 same "$(pkg-config --modversion fanthrig)" "$VERSION" "the version that pkg-config tells"
 gcc line.c $(pkg-config --cflags --libs fanthrig) -o line
 same "$(./line)" "$LINED" "a program in C"

@@ -15,11 +15,14 @@ $pip install --no-index "$dist"/fanthrig-*.whl
 cd "$work"
 lc3() { env -i PATH=/usr/bin:/bin "$work/venv/bin/lc3" "$@" </dev/null 2>/dev/null; }
 same "$(lc3 run "$work/venv/share/doc/fanthrig/examples/hello.obj")" "$hello" "lc3 run"
+same "$(lc3 page)" "$work/venv/share/fanthrig/lc3.html" "lc3 page"
 lc3 --version | grep -qw "$version" || fail "lc3 --version does not tell $version"
 told='import fanthrig, os; print(fanthrig.__version__, fanthrig.version(), os.path.dirname(fanthrig.__file__))'
 same "$(env -i "$work/venv/bin/python" -c "$told")" \
     "$version $interface $(echo "$work"/venv/lib/python3*/site-packages/fanthrig)" "the module"
-[ -e "$work/venv/share/man/man1/lc3.1" ] || fail "no manual page"
+for page in man1/lc3.1 man1/lc3-debug.1 man5/lc3-mark.5; do
+    [ -e "$work/venv/share/man/$page" ] || fail "no manual page $page"
+done
 $pip uninstall --yes fanthrig
 files | diff "$work/before" - || fail "pip uninstall leaves something"
 

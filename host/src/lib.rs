@@ -89,8 +89,8 @@ pub fn version() -> u32 {
     ffi::lc3_version()
 }
 
-// The examples of both READMEs are tests.
+// The examples of the guide and of the crate's README are tests.
 #[cfg(doctest)]
-#[doc = include_str!("../../README.md")]
+#[doc = include_str!("../../docs/GUIDE.md")]
 #[doc = include_str!("../README.md")]
 struct Readme;

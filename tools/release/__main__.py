@@ -13,11 +13,25 @@ from . import trees, wheel
 
 SOURCE = f"fanthrig-{VERSION}"
 
+# What a user's own settings of git would alter in a source archive: modes, and the ends of lines.
+SETTINGS = ("tar.umask=0022", "core.autocrlf=false", "core.eol=lf")
+
+
+def emptied(folder: Path) -> Path:
+    """A folder for a release: an older release goes, and nothing that is anything else."""
+    release = folder == DIST or (folder / "SHA256SUMS").exists()
+    if not release and folder.is_dir() and any(folder.iterdir()):
+        raise SystemExit(f"{folder} has files, and they are no release")
+    shutil.rmtree(folder, ignore_errors=True)
+    folder.mkdir(parents=True)
+    return folder
+
 
 def write_source(folder: Path) -> str:
     """Writes the source archive: the files of the commit."""
     name = f"{SOURCE}.tar.gz"
-    command = ["git", "archive", "--format=tar", f"--prefix={SOURCE}/", "HEAD"]
+    settings = [word for setting in SETTINGS for word in ("-c", setting)]
+    command = ["git", *settings, "archive", "--format=tar", f"--prefix={SOURCE}/", "HEAD"]
     packed = subprocess.run(command, cwd=ROOT, check=True, stdout=subprocess.PIPE).stdout
     (folder / name).write_bytes(archives.compressed(packed))
     return name
@@ -32,9 +46,9 @@ def write_binary(work: Path, folder: Path, seconds: int) -> str:
 
 def main() -> int:
     """Makes a release."""
-    folder = Path(sys.argv[1]).resolve() if len(sys.argv) > 1 else DIST
-    shutil.rmtree(folder, ignore_errors=True)
-    folder.mkdir(parents=True)
+    if not (ROOT / ".git").exists():
+        raise SystemExit("a release names its commit, and this tree is no clone; pip wheel . works")
+    folder = emptied(Path(sys.argv[1]).resolve() if len(sys.argv) > 1 else DIST)
     seconds = time_of_sources()
     with tempfile.TemporaryDirectory(dir=BUILD) as place:
         work = Path(place)
@@ -46,6 +60,8 @@ def main() -> int:
     (folder / "SHA256SUMS").write_text("".join(sums), encoding="utf-8")
     for name in [*names, "PROVENANCE.txt", "SHA256SUMS"]:
         print(f"{(folder / name).stat().st_size:10,}  {name}")
+    if provenance.altered():
+        print("The tree is not as its commit has it, and PROVENANCE.txt says so.", file=sys.stderr)
     return 0
 
 

@@ -99,12 +99,15 @@ PACKAGES = (
         "education",
         "all",
         f"python3, python3-fanthrig (= {REVISION})",
-        "run, list, log and mark programs for the LC-3",
-        "the command lc3, its manual page and examples",
+        "run, list, make, log, debug and mark programs for the LC-3",
+        "the command lc3, the page for browsers, manuals and examples",
         (
             "usr/bin/lc3",
             "usr/share/man/man1/lc3.1.gz",
+            "usr/share/man/man1/lc3-debug.1.gz",
+            "usr/share/man/man5/lc3-mark.5.gz",
             "usr/share/bash-completion/completions/lc3",
+            "usr/share/fanthrig/*",
             "usr/share/doc/fanthrig-tools/examples/*",
         ),
     ),
@@ -155,7 +158,7 @@ def control(package: Package, size: int) -> str:
 
 
 def installed(folder: Path) -> None:
-    """The tree that the packages share out: `make install`, with the manual page compressed."""
+    """The tree that the packages share out: `make install`, with manual pages compressed."""
     trees.install(
         folder,
         PREFIX="/usr",
@@ -163,9 +166,10 @@ def installed(folder: Path) -> None:
         PYTHON="/usr/bin/python3",
         DOC="/usr/share/doc/fanthrig-tools",
     )
-    manual = folder / "usr/share/man/man1/lc3.1"
-    manual.with_suffix(".1.gz").write_bytes(archives.compressed(manual.read_bytes()))
-    manual.unlink()
+    for manual in sorted(folder.glob("usr/share/man/man?/*.?")):
+        compressed = manual.with_name(f"{manual.name}.gz")
+        compressed.write_bytes(archives.compressed(manual.read_bytes()))
+        manual.unlink()
 
 
 def take(package: Package, tree: Path, folder: Path) -> None:

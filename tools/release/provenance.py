@@ -18,10 +18,16 @@ def hash_of(path: Path) -> str:
     return hashlib.sha256(path.read_bytes()).hexdigest()
 
 
+def altered() -> bool:
+    """Whether the tree is not as its commit has it. Files that git does not know count: modules are
+    packed as they stand. What Python compiles is packed nowhere."""
+    lines = said("git", "status", "--porcelain", "--untracked-files=all").splitlines()
+    return any("__pycache__/" not in line for line in lines)
+
+
 def commit() -> str:
     """The commit, and whether the tree is as it has it."""
-    altered = said("git", "status", "--porcelain", "--untracked-files=no")
-    return said("git", "rev-parse", "HEAD") + (", altered since" if altered else "")
+    return said("git", "rev-parse", "HEAD") + (", altered since" if altered() else "")
 
 
 def kit() -> str:
@@ -32,10 +38,19 @@ def kit() -> str:
         return "not there when the release was packed"
 
 
+def changed_after(log: Path) -> bool:
+    """Whether a source of the crates is newer than a log."""
+    names = said("git", "ls-files", "--", "crates").splitlines()
+    return max((ROOT / name).stat().st_mtime for name in names) > log.stat().st_mtime
+
+
 def verdict() -> list[str]:
-    """The crates that `rt ci` has proved and its last line, where a log of it is there."""
+    """The crates that `rt ci` has proved and its last line, where a log of it is there that is of
+    these sources."""
     if not LOG.exists():
         return ["no log of `rt ci` is in build: this release was packed without its verdict"]
+    if changed_after(LOG):
+        return ["the log of `rt ci` is older than the sources: its verdict is left out"]
     lines = LOG.read_text(encoding="utf-8", errors="replace").splitlines()
     proved = [line for line in lines if re.match(r"^rt: \S+ proved \(", line)]
     refused = sum(line.startswith("rt: must-fail ") and "refused" in line for line in lines)

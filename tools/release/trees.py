@@ -23,14 +23,15 @@ Python   PYTHONPATH=lib/python3/dist-packages
 C        gcc -Iinclude program.c lib/libfanthrig.a
          or by pkg-config, with PKG_CONFIG_PATH=lib/pkgconfig
 Rust     FANTHRIG_LIB_DIR=this folder's lib, with the crates of the source archive
-Manual   man -l share/man/man1/lc3.1
+Browser  share/fanthrig/lc3.html, one file that may be handed out as it is
+Manual   man -l share/man/man1/lc3.1, share/man/man1/lc3-debug.1, share/man/man5/lc3-mark.5
 """
 
 
 def install(folder: Path, **settings: str) -> None:
     """`make install` to a folder, with the library as it stands, and without compiled modules."""
     words = [f"{name}={value}" for name, value in settings.items()]
-    command = ["make", "-s", "-o", "lib", "install", f"DESTDIR={folder}", *words]
+    command = ["make", "-s", "-o", "lib", "-o", "page", "install", f"DESTDIR={folder}", *words]
     subprocess.run(command, cwd=ROOT, check=True)
     for cache in list(folder.rglob("__pycache__")):
         shutil.rmtree(cache)

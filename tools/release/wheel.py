@@ -1,4 +1,4 @@
-"""The wheel: the module with the library in its folder, the command, manual page and examples."""
+"""The wheel: the module with the library in its folder, the command, manual pages and examples."""
 
 from __future__ import annotations
 
@@ -57,12 +57,23 @@ def package() -> dict[str, bytes]:
     return {**found, f"fanthrig/{soname}": library.read_bytes()}
 
 
+def _page() -> Path:
+    """The LC-3 in a browser."""
+    page = BUILD / "page/lc3.html"
+    if not page.exists():
+        raise SystemExit("no build/page/lc3.html: `make page` makes it; a released wheel has it")
+    return page
+
+
 def beside() -> dict[str, bytes]:
     """What goes to the folder share of where the wheel is installed."""
     examples = archives.files(ROOT / "examples")
     shared = {
         "man/man1/lc3.1": ROOT / "docs/lc3.1",
+        "man/man1/lc3-debug.1": ROOT / "docs/lc3-debug.1",
+        "man/man5/lc3-mark.5": ROOT / "docs/lc3-mark.5",
         "bash-completion/completions/lc3": ROOT / "tools/completion.bash",
+        "fanthrig/lc3.html": _page(),
         **{
             f"doc/fanthrig/examples/{path.name}": path
             for path in examples

@@ -6,6 +6,7 @@
 pub mod candidates;
 pub mod cases;
 pub mod hosts;
+pub mod lines;
 pub mod pairs;
 pub mod program;
 pub mod sittings;
