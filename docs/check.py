@@ -6,7 +6,8 @@ difference.
   whose first heading is Edit, as `CRATE/NAME`; and these tables name no other.
 - Each rule that a document, a crate, the header, the Rust wrapper or the Python module cites (M4.1)
   is in docs/MACHINE.md, once.
-- Each relative link of a document leads to a file.
+- Each crate is in docs/ARCHITECTURE.md, and crates.txt and the folders of crates/ have the same.
+- Each relative link of a document leads to a file, and to a heading where it names one.
 
 With an argument, the root of the repository to check; otherwise the one that this file is in.
 """
@@ -20,6 +21,7 @@ from typing import Iterator
 EDIT = re.compile(r"`([^`]*)`")
 RULE = re.compile(r"\bM\d+\.\d+\b")
 DEFINED_RULE = re.compile(r"\*\*(M\d+\.\d+)\*\*")
+CRATE = re.compile(r"\w+:")
 LINK = re.compile(r"\]\(([^)\s]+)\)")
 FENCE = re.compile(r"^```.*?^```$", re.MULTILINE | re.DOTALL)
 CITING = (
@@ -72,21 +74,46 @@ def rules(root: Path, documents: list[Path]) -> list[str]:
     return found
 
 
-def links(root: Path, documents: list[Path]) -> list[str]:
-    """Relative links that lead to no file."""
-    return [
-        f"{path.relative_to(root)}: no file {target}"
-        for path in documents
-        for target in LINK.findall(FENCE.sub("", path.read_text(encoding="utf-8")))
-        if not re.match(r"[a-z]+:|#", target) and not (path.parent / target.split("#")[0]).exists()
+def crates(root: Path) -> list[str]:
+    """Crates that crates.txt, crates/ or ARCHITECTURE.md lacks."""
+    text = (root / "crates.txt").read_text(encoding="utf-8")
+    listed = {line.split(":")[0].strip() for line in text.splitlines() if CRATE.match(line)}
+    folders = {path.parent.parent.name for path in root.glob("crates/*/src/*.rt")}
+    told = (root / "docs/ARCHITECTURE.md").read_text(encoding="utf-8")
+    untold = [name for name in sorted(listed) if not re.search(rf"\b{name}\b", told)]
+    return [f"docs/ARCHITECTURE.md: no {name}" for name in untold] + [
+        f"crates.txt: {name} is not in both it and crates/" for name in sorted(listed ^ folders)
     ]
+
+
+def anchors(document: Path) -> set[str]:
+    """What the headings of a document are linked by: lower case, words joined by hyphens."""
+    text = FENCE.sub("", document.read_text(encoding="utf-8"))
+    headings = [line.lstrip("#").strip().lower() for line in text.splitlines() if line[:1] == "#"]
+    return {re.sub(r"[^\w\- ]", "", heading).replace(" ", "-") for heading in headings}
+
+
+def links(root: Path, documents: list[Path]) -> list[str]:
+    """Relative links that lead to no file, or to no heading of a document."""
+    found = []
+    for path in documents:
+        for target in LINK.findall(FENCE.sub("", path.read_text(encoding="utf-8"))):
+            file, _, anchor = target.partition("#")
+            place = path.parent / file if file else path
+            if re.match("[a-z]+:", target):
+                continue
+            if not place.exists():
+                found.append(f"{path.relative_to(root)}: no file {target}")
+            elif anchor and place.suffix == ".md" and anchor not in anchors(place):
+                found.append(f"{path.relative_to(root)}: no heading {target}")
+    return found
 
 
 def main() -> int:
     """Checks the documents of a repository."""
     root = Path(sys.argv[1] if len(sys.argv) > 1 else Path(__file__).parent.parent).resolve()
     documents = [*sorted(root.glob("*.md")), *sorted(root.glob("docs/**/*.md"))]
-    found = edits(root) + rules(root, documents) + links(root, documents)
+    found = edits(root) + crates(root) + rules(root, documents) + links(root, documents)
     for line in found:
         print(line, file=sys.stderr)
     if not found:
