@@ -141,8 +141,32 @@ pub extern "C" fn lc3_run(
     }
 }
 
-// The single step: the run with n = 1, on a record that the host keeps. It goes through `run` as `lc3_run` does, so
-// that the archive has one loop, with the one call of the step in it.
+// What a call answers: the record, and the report in numbers.
+pub struct Called {
+    pub machine: Machine,
+    pub report: Lc3Report,
+}
+
+// The single step by value. It goes through `run` as `lc3_run` does, so that the archive has one loop, with the one call
+// of the step in it.
+fn one_step(
+    m: Machine,
+    memory: &mut [u16],
+    times: &[u64],
+    bytes: &[u8],
+    output: &mut [u8],
+) -> Called
+    ensures { λ r. ⌜ reported (r .machine) (r .report) (now (memory .exit)) (now (output .exit))
+        ≡ answerOf (callOf (startOf m (now (memory .entry)) (now (times .entry)) (now (bytes .entry))
+        (now (output .entry))) 1) ⌝ }
+{
+    let a = runner::one_step(m, memory, times, bytes, output);
+    let machine = a.machine;
+    let report = report_of(a.report);
+    Called { machine, report }
+}
+
+// The single step on a record that the host keeps: the record that it answers takes the place of the one handed in.
 #[no_mangle]
 pub extern "C" fn lc3_step(
     m: &mut Machine,
@@ -155,6 +179,7 @@ pub extern "C" fn lc3_step(
         ≡ answerOf (callOf (startOf (now (m .entry)) (now (memory .entry)) (now (times .entry)) (now (bytes .entry))
         (now (output .entry))) 1) ⌝ }
 {
-    let report = runner::single_step(m, memory, times, bytes, output);
-    report_of(report)
+    let a = one_step(*m, memory, times, bytes, output);
+    *m = a.machine;
+    a.report
 }

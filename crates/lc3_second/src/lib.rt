@@ -1,18 +1,13 @@
 // The run and the single step by the rules of the second edition, for hosts in C and Rust: answered as those of
 // `lc3_machine` are. They have an archive of their own: the edition is a constant in each archive, so that the compiler
 // leaves out what the other edition needs.
+use lc3_machine::Called;
 use lc3_machine::Lc3Answer;
 use lc3_machine::Lc3Report;
 use machine::Machine;
 ghost use mathlib.Core.Path.{_≡_};
 ghost use Rattle.run.specs.Call.{startOf, secondCallOf};
 ghost use Rattle.lc3_machine.specs.Answer.{answerOf, reported, answered};
-
-// What a call answers: the record, and the report in numbers.
-pub struct Called {
-    pub machine: Machine,
-    pub report: Lc3Report,
-}
 
 fn call(
     m: Machine,

@@ -13,7 +13,6 @@ runs-in-place m = record {
   step-to-c = refl;
   run-to-c = refl;
   run = refl;
-  step = refl;
 }
 
 logged-runs-in-place : (m : Machine) → LoggedRunsInPlace m

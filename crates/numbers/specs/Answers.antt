@@ -11,7 +11,7 @@ use Rattle.run.specs.declared.Report.{Report}
 use Rattle.run.specs.declared.Ending.{Ending}
 use Rattle.run.specs.declared.Ending.the-variants.{Done, Halted, OutputFull, Refused}
 use Rattle.run.specs.Run.{End}
-use Rattle.run.specs.Call.{endOf, stepEndOf}
+use Rattle.run.specs.Call.{endOf}
 use Rattle.logging.specs.declared.LoggedEnding.{LoggedEnding}
 use Rattle.logging.specs.declared.LoggedEnding.the-variants.{Run, LogFull}
 use Rattle.logging.specs.LoggedRun.{Logged, withLog}
@@ -63,9 +63,8 @@ pub record RunsInPlace (m : Machine) : Type 0 where
       answered (record { machine = m; steps = 1; keys = 2; shown = 3; index = 4; refusal = 5; stop = 6 }) (8 ∷ [])
       (9 ∷ [])
       ≡ placed m 4 5 6
-  -- the run of crate `runner`, and its step
+  -- the run and the step of crate `runner`
   pub run : endOf (record { machine = m; report = report Halted }) (8 ∷ []) (9 ∷ []) ≡ ended m Halted
-  pub step : stepEndOf m (report Halted) (8 ∷ []) (9 ∷ []) ≡ ended m Halted
 
 -- ---- a logged run
 

@@ -1,0 +1,2 @@
+-- The walk through a single step on a lent record.
+pub mod LentRecord
