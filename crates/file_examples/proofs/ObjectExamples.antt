@@ -1,7 +1,8 @@
 -- The table of files and ranges, by computation.
 use mathlib.Core.Path.{refl}
 use Rattle.object.specs.File.{wordsOf, bytesOf}
-use Rattle.object.specs.Calls.{wrongSize, wrongLength, beyondMemory, tooShort, loadRefusal, loadAccepted, loadBy, loadOf}
+use Rattle.object.specs.Calls.{wrongSize, wrongLength, beyondMemory, tooShort, loadRefusal, loadAccepted, loadBy}
+use Rattle.object.specs.Calls.{loadOf}
 use Rattle.object.specs.Calls.{saveRefusal, saveAccepted, saveBy, saveOf}
 use Rattle.file_examples.specs.ObjectExamples.{ExamplesHold}
 

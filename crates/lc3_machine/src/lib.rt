@@ -147,8 +147,8 @@ pub struct Called {
     pub report: Lc3Report,
 }
 
-// The single step by value. It goes through `run` as `lc3_run` does, so that the archive has one loop, with the one call
-// of the step in it.
+// The single step by value. It goes through `run` as `lc3_run` does, so that the archive has one loop, with the one
+// call of the step in it.
 fn one_step(
     m: Machine,
     memory: &mut [u16],

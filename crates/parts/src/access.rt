@@ -43,7 +43,8 @@ fn after_instruction(c: Control, pc: u16, psr: u16) -> Control
 // An instruction that puts a value in a register and sets the codes from it.
 pub fn move_to(c: Control, regs: &mut [u16; 8], r: u8, v: u16, pc: u16) -> Control
     ensures { λ n. ⌜ ((clock : ℕ) → whole (now (regs .exit)) clock n
-        ≡ afterInstruction (withRegister (now (regs .entry)) r v) pc (setFrom v) (whole (now (regs .entry)) clock c)) ⌝ }
+        ≡ afterInstruction (withRegister (now (regs .entry)) r v) pc (setFrom v)
+        (whole (now (regs .entry)) clock c)) ⌝ }
 {
     set_register(regs, r, v);
     after_instruction(c, pc, with_codes(c.psr, v))

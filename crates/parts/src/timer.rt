@@ -10,7 +10,8 @@ ghost use Rattle.machine.specs.Timer.{fallenTo, afterTimer};
 // The count of a timer that is on falls; at zero it sets ready and begins anew.
 fn fall(c: Control, status: u16, interval: u16, count: u16) -> Control
     ensures { λ n. ⌜ ((regs : List ℕ) (clock : ℕ) → whole regs clock n
-        ≡ withTimer (fallenTo (record { status = status; interval = interval; count = count })) (whole regs clock c)) ⌝ }
+        ≡ withTimer (fallenTo (record { status = status; interval = interval; count = count }))
+        (whole regs clock c)) ⌝ }
 {
     if count <= 1 {
         return with_timer(c, status % 0x8000 + 0x8000, interval, interval);

@@ -382,7 +382,8 @@ module _ (step : Step) (law : AlteredWordsUnread step) where
             subst (NoneAltered (left altered s₁ i)) (reads-in-run s₂ n i (p .accepted₂) (omega arith)) r₁ in
             let a : SameEnds (left altered s₁ i) (run s₂ i) (run s₁ i) =
             ends-swapped (left altered s₁ i) (run s₁ i) (run s₂ i) (b .same) in
-            let o = steps-alike s₂ s₁ (sym same-times) (sym same-bytes) (left altered s₁ i) (run s₂ i) (run s₁ i) a r₂ in
+            let o =
+            steps-alike s₂ s₁ (sym same-times) (sym same-bytes) (left altered s₁ i) (run s₂ i) (run s₁ i) a r₂ in
             sym (full-alike s₂ s₁ (sym same-times) (sym same-bytes) (left altered s₁ i) (run s₂ i) (run s₁ i) a o) ∙ f
 
         -- The step that a full output stops the first run before takes no altered word: then the second is full too.

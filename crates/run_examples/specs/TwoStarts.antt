@@ -29,7 +29,8 @@ start₁ = record {
 }
 
 -- The same to User mode, and different in all else: a trap vector word below x3000 and a word from xFE00 on, both saved
--- stack pointers, keyboard, busy count, timer and clock, a key that arrives in its second step, and an output with room.
+-- stack pointers, keyboard, busy count, timer and clock, a key that arrives in its second step, and an output with
+-- room.
 abbrev pub start₂ : Start
 start₂ = record {
   machine = record {

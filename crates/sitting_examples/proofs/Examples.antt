@@ -20,8 +20,9 @@ use Rattle.monitor.specs.Routines.{routineWords, monitorWords}
 use Rattle.monitor.specs.Install.{installOf}
 use Rattle.sitting.specs.Sitting.{isEnabled, stackFrom, isSecretAbove, isSecret, startAt, answerTo, answerAfter}
 use Rattle.sitting.specs.Sitting.{Begins, HasMonitor}
-use Rattle.sitting_examples.specs.Examples.{used, stackElsewhere, supervisor, showing, secretWith, fresh, monitored}
-use Rattle.sitting_examples.specs.Examples.{prying, unguarded, plainCall, loggedCall, restartingCall, interruptible}
+use Rattle.sitting_examples.specs.Examples.{used, stackElsewhere, supervisor, showing, secretWith, fresh}
+use Rattle.sitting_examples.specs.Examples.{monitored, prying, unguarded, plainCall, loggedCall, restartingCall}
+use Rattle.sitting_examples.specs.Examples.{interruptible}
 use Rattle.sitting_examples.specs.Examples.{packing, keyInThirdStep, ExamplesHold}
 
 -- ---- the premises

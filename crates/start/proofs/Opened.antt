@@ -1,4 +1,5 @@
--- To unfold `opened` is to unfold every definition that a start is made of: so a worked start is proved by computing it.
+-- To unfold `opened` is to unfold every definition that a start is made of: so a worked start is proved by computing
+-- it.
 use Rattle.object.specs.File.{wordsOf}
 use Rattle.object.specs.Calls.{wrongSize, wrongLength, beyondMemory, loadRefusal, loadAccepted, loadBy, loadOf}
 use Rattle.run.specs.Fresh.{freshOf}

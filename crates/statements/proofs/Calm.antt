@@ -12,7 +12,8 @@ use lib.ListN.{getD}
 use Rattle.word.specs.Reading.{readOf}
 use Rattle.machine.specs.declared.Machine.{Machine}
 use Rattle.machine.specs.declared.Plan.{Plan}
-use Rattle.machine.specs.declared.Plan.the-variants.{Move, Put, Jump, Load, LoadBy, Store, StoreBy, Call, Illegal, Return}
+use Rattle.machine.specs.declared.Plan.the-variants.{Move, Put, Jump, Load, LoadBy, Store, StoreBy}
+use Rattle.machine.specs.declared.Plan.the-variants.{Call, Illegal, Return}
 use Rattle.machine.specs.Record.{Timer, timerOf}
 use Rattle.machine.specs.Words.{next}
 use Rattle.machine.specs.Psr.{Codes, kept, setFrom, recoded, codesOf, inUserMode, priorityOf}
@@ -22,7 +23,8 @@ use Rattle.machine.specs.Timer.{isOff, expired, oneLess, fallenTo, ticked, afte
 use Rattle.machine.specs.Interrupts.{mayInterrupt, timerMayInterrupt, keyboardMayInterrupt}
 use Rattle.machine.specs.Protection.{denied}
 use Rattle.machine.specs.Entry.{entry, raised}
-use Rattle.machine.specs.Devices.{isDeviceBy, kbsrAfterLoad, timerStatusAfterLoad, afterLoad, storedBy, stored, KBDR, TSR}
+use Rattle.machine.specs.Devices.{isDeviceBy, kbsrAfterLoad, timerStatusAfterLoad, afterLoad, storedBy, stored}
+use Rattle.machine.specs.Devices.{KBDR, TSR}
 use Rattle.machine.specs.Access.{checked, loadToBy, loadTo, storeAtBy, storeAt, byPointerBy, byPointer}
 use Rattle.machine.specs.Return.{return}
 use Rattle.machine.specs.Plan.{planOf}
@@ -155,7 +157,10 @@ ready-disabled : (s : ℕ) → Disabled s → Disabled (s % 0x8000 + 0x8000)
 ready-disabled s d = record { is-word = omega (arith, d .enable-clear); enable-clear = omega (arith, d .enable-clear) }
 
 cleared-disabled : (s : ℕ) → Disabled s → Disabled (s % 0x8000)
-cleared-disabled s d = record { is-word = omega (arith, d .enable-clear); enable-clear = omega (arith, d .enable-clear) }
+cleared-disabled s d = record {
+  is-word = omega (arith, d .enable-clear);
+  enable-clear = omega (arith, d .enable-clear);
+}
 
 keys-disabled : (keys : List ℕ) (s : ℕ) → Disabled s → Disabled (readyAfter keys s)
 unfolding readyAfter

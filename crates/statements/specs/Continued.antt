@@ -1,5 +1,5 @@
--- Demand 3 over calls that continue each other: a first call of k steps, and a second of up to j more from what it left.
--- What `Noninterference` says of the call of k + j steps holds of the second call of each of two such sittings.
+-- Demand 3 over calls that continue each other: a first call of k steps, and a second of up to j more from what it
+-- left. What `Noninterference` says of the call of k + j steps holds of the second call of each of two such sittings.
 use Prim.Native.Nat.{ℕ, _+_, _≤_}
 use mathlib.Core.Path.{_≡_}
 use mathlib.Core.Bool.{true}

@@ -8,7 +8,8 @@ use lib.ListN.{getD}
 use Rattle.word.specs.Reading.{readOf}
 use Rattle.machine.specs.declared.Machine.{Machine}
 use Rattle.machine.specs.declared.Plan.{Plan}
-use Rattle.machine.specs.declared.Plan.the-variants.{Move, Put, Jump, Load, LoadBy, Store, StoreBy, Call, Illegal, Return}
+use Rattle.machine.specs.declared.Plan.the-variants.{Move, Put, Jump, Load, LoadBy, Store, StoreBy}
+use Rattle.machine.specs.declared.Plan.the-variants.{Call, Illegal, Return}
 use Rattle.machine.specs.Edition.{Edition}
 use Rattle.machine.specs.Words.{next}
 use Rattle.machine.specs.Outcome.{vectorOf, Cause, instruction, entered, Outcome}

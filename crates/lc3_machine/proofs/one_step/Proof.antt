@@ -1,4 +1,5 @@
--- `lc3_machine::one_step` meets its contract, by that of `runner::one_step`, whose report `report_of` puts into numbers.
+-- `lc3_machine::one_step` meets its contract, by that of `runner::one_step`, whose report `report_of` puts into
+-- numbers.
 use mathlib.Core.Path.{ap}
 use borrow.Author.Needs.{needs}
 use Rattle.lc3_machine.specs.Answer.{answerOf}

@@ -9,17 +9,18 @@ returns : tie.Need-returns
 unfolding entry afterEntry stackPointerOnEntry userStackOnEntry
 returns c =
     λ clock reason h.
+    let with-stack = c .before .before .before .before in
+    let pushed = with-stack .before .before .before .before .before .before in
     rw (
       h,
       c .before .word-at .ensures,
       c .before .before .before .by-mode2 .ensures,
-      c .before .before .before .before .set-register .ensures,
-      c .before .before .before .before .before .before3 .ensures,
-      c .before .before .before .before .before .before .before2 .ensures,
-      c .before .before .before .before .before .before .before .before .before .before .push-two .ensures,
-      c .before .before .before .before .before .before .before .before .before .before .before .before .by-mode .ensures,
-      c .before .before .before .before .before .before .before .before .before .before .before .before .before .register
-          .ensures,
+      with-stack .set-register .ensures,
+      with-stack .before .before3 .ensures,
+      with-stack .before .before .before2 .ensures,
+      pushed .push-two .ensures,
+      pushed .before .before .by-mode .ensures,
+      pushed .before .before .before .register .ensures,
     )
 
 pub enter-spec : {M : Type 1} → statement M
