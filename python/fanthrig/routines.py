@@ -9,7 +9,7 @@ otherwise, as by a JMP to an address that it has kept elsewhere, is told of by w
 from __future__ import annotations
 
 from .constants import LOG_WORDS
-from .events import Event, HighBytes, Logged
+from .events import Event, HighBytes, Logged, first_at
 from .own import CALLS, ENTERS, NOTHING, RETURNS
 from .past import Past
 from .pieces import pieces
@@ -69,60 +69,71 @@ class Leaves(Event):
         return []
 
 
-class Served(Event):
-    """An entry that was made by the step before the run is returned from by its RTI."""
-
-    sure = True
-
-    def __init__(self) -> None:
-        """The entry is open."""
-        self._open = 1
-
-    def __str__(self) -> str:
-        """In words."""
-        return "the routine has returned"
-
-    def places(self, logged: Logged, edition: Edition) -> list[int]:
-        """The step that returns, where there is one."""
-        for place, what in turns(logged, edition):
-            opcode = logged.step(place)[1] >> 12
-            if what == ENTERS or opcode == _RTI:
-                self._open += 1 if what == ENTERS else -1
-                if not self._open:
-                    return [place]
-        return []
-
-
-class Behind(Event):
-    """PC is behind a call that was made by the step before the run, as often as it was made."""
+class Over(Event):
+    """So many steps are made, each call and each entry with all that it does as one. It is for one
+    run, which begins after the first of these steps, and which it stops before the next one."""
 
     after, sure = False, True
 
-    def __init__(self, call: int) -> None:
-        """The address of the call."""
-        self._call, self._open = call, 1
+    def __init__(self, first: LoggedStep, edition: Edition, count: int = 1) -> None:
+        """The first step of so many, which was just made."""
+        self._left = count
+        # What the routine that is open was begun by, at which address, and how often since.
+        self._kind, self._call, self._open = NOTHING, 0, 0
+        word = first.word or 0
+        self._take(first.pc, word, turn(word, first.reason, edition))
 
     def __str__(self) -> str:
         """In words."""
-        return "the routine has returned"
+        return "the steps are made"
+
+    @property
+    def made(self) -> bool:
+        """Whether all of them are made."""
+        return not self._left and self._kind == NOTHING
 
     def places(self, logged: Logged, edition: Edition) -> list[int]:
-        """The step before which it has returned, where there is one."""
+        """The step before which all are made, where there is one."""
+        place = 0
+        for at, what in [*turns(logged, edition), (len(logged), NOTHING)]:
+            if self._kind == CALLS:
+                place = self._behind(logged, place)
+            if self._kind == NOTHING and place <= at:
+                plain = min(at - place, self._left)
+                self._left, place = self._left - plain, place + plain
+                if not self._left:
+                    break
+            if place <= at < len(logged):
+                self._take(*logged.step(at)[:2], what)
+                place = at + 1
+        return [place] if self.made and place < len(logged) else []
+
+    def _take(self, pc: int, word: int, what: int) -> None:
+        """Takes a step that calls, enters or returns. It is one of those to make, unless it is in
+        the middle of one that an entry has begun."""
+        if self._kind == ENTERS:
+            if what == ENTERS or word >> 12 == _RTI:
+                self._open += 1 if what == ENTERS else -1
+            self._kind = ENTERS if self._open else NOTHING
+            return
+        self._left -= 1
+        if what in (CALLS, ENTERS):
+            self._kind, self._call, self._open = what, pc, 1
+
+    def _behind(self, logged: Logged, place: int) -> int:
+        """Where PC is behind the call that is open, as often as it was made, from a place on; the
+        end of the log where it is not."""
         behind = self._call + 1 & 0xFFFF
-        calls = dict.fromkeys(logged.at(self._call), 1)
-        for place, count in sorted({**calls, **dict.fromkeys(logged.at(behind), -1)}.items()):
-            self._open += count
+        while True:
+            ends, again = (first_at(logged.counters, pc, place) for pc in (behind, self._call))
+            if ends < 0 and again < 0:
+                return len(logged)
+            is_call = ends < 0 or 0 <= again < ends
+            self._open += 1 if is_call else -1
             if not self._open:
-                return [place]
-        return []
-
-
-def end_of(step: LoggedStep, edition: Edition) -> Event | None:
-    """The event that ends what a step has begun: a call or an entry; nothing for other steps."""
-    what = turn(step.word or 0, step.reason, edition)
-    if what == ENTERS:
-        return Served()
-    return Behind(step.pc) if what == CALLS else None
+                self._kind = NOTHING
+                return ends
+            place = (again if is_call else ends) + 1
 
 
 def call_of(past: Past) -> int | None:

@@ -37,7 +37,7 @@ from .recording import REPLAY_STEPS, Alteration, End, Program, Recording, Record
 from .recording import RegisterAlteration, Typed, WordsAlteration
 from .records import LONG_LIMIT, WORD_LIMIT, Edition, Mode, Record, Refusal, Refused, Stop
 from .records import as_word, whole
-from .routines import Leaves, before_last, call_of, end_of
+from .routines import Leaves, Over, before_last, call_of
 from .snapshots import MARK_EVERY, thinned
 from .steps import NAMES, TracedStep, value_of
 
@@ -778,8 +778,8 @@ PSR x8001 -> x0001, Saved_USP x0000 -> xFDFF, x2FFE x0000 -> x3002, x2FFF x0000 
         (1, 9, 'TRAP x25')
         """
         report = self.step()
-        end = end_of(self.last_steps(1)[0], self.edition) if report.steps else None
-        if end is None:
+        end = Over(self.last_steps(1)[0], self.edition) if report.steps else None
+        if end is None or end.made:
             return report
         more = self.run(until=[end], here=True)
         steps, keys = report.steps + more.steps, report.keys + more.keys
@@ -946,6 +946,20 @@ PSR x8001 -> x0001, Saved_USP x0000 -> xFDFF, x2FFE x0000 -> x3002, x2FFF x0000 
                 return []
             past = self._past()
         return logged_steps(past.log(max(past.clock - count, past.start)))
+
+    def last_step(self) -> TracedStep | None:
+        """What the last step did; nothing where none has been made.
+
+        >>> sitting = Sitting(bytes.fromhex("3000 1021 0FFE"))
+        >>> _ = sitting.run(5)
+        >>> print(sitting.last_step())
+             4  x3000  x1021  ADD R0, R0, #1    instruction  R0 x0002 -> x0003
+        """
+        past = self._its_past()
+        if past.clock == past.start:
+            return None
+        step = past.machine_at(past.clock - 1).step_traced()
+        return step if isinstance(step, TracedStep) else None
 
     def last_program_steps(self, count: int) -> list[LoggedStep]:
         """The same without the steps of the monitor's routines: see ``fanthrig.own``. Fewer are

@@ -6,6 +6,7 @@ import fcntl
 import io
 import os
 import select
+import signal
 import subprocess
 import sys
 import tempfile
@@ -40,6 +41,12 @@ UNTIL_Q = object_file(
 
 PYTHON = [sys.executable, "-m", "fanthrig"]
 ENVIRONMENT = {**os.environ, "PYTHONPATH": str(ROOT / "python")}
+
+
+def takes_ctrl_c() -> None:
+    """In a new process: Ctrl-C is not ignored, though the tests may run where it is, as in the
+    background of a shell."""
+    signal.signal(signal.SIGINT, signal.SIG_DFL)
 
 
 class Ran(NamedTuple):
@@ -114,9 +121,15 @@ class OnTerminal:
             stderr=self.end,
             env=ENVIRONMENT,
             start_new_session=True,
-            # The terminal is to be the one that sends the signals of its keys and its closing.
-            preexec_fn=lambda: fcntl.ioctl(0, termios.TIOCSCTTY, 0),
+            preexec_fn=self._begin,
         )
+
+    @staticmethod
+    def _begin() -> None:
+        """In the new process: the terminal is to be the one that sends the signals of its keys and
+        of its closing."""
+        fcntl.ioctl(0, termios.TIOCSCTTY, 0)
+        takes_ctrl_c()
 
     def __enter__(self) -> OnTerminal:
         """The command runs."""

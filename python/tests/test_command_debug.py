@@ -18,11 +18,12 @@ from unittest import mock
 import fanthrig
 from fanthrig.command.debugger.commands import Debugger
 from fanthrig.command.debugger.console import Console
-from fanthrig.command.debugger.motion import Wrong
+from fanthrig.command.debugger.motion import HOW_TO_TYPE, Wrong
 from fanthrig.command.terminal import Display
 
 from . import ROOT
-from .command_support import HELLO, UNTIL_Q, Folder, OnTerminal, process, ran
+from .command_support import ENDLESS, ENVIRONMENT, HELLO, PYTHON, UNTIL_Q, Folder, OnTerminal
+from .command_support import process, ran, takes_ctrl_c
 from .support import COUNTING, ECHO, object_file
 from .test_back import BUSY
 
@@ -38,6 +39,22 @@ SYMBOLS = """\
 # Shows three characters, and then counts for ever.
 SHOWS = object_file(
     0x3000, "LD R0, #5", "TRAP x21", "TRAP x21", "TRAP x21", "ADD R1, R1, #1", "BRnzp #-2", ord("!")
+)
+
+# A routine that calls itself R0 times, and keeps R7 on the stack.
+RECURSIVE = object_file(
+    0x3000,
+    "ADD R0, R0, #4",
+    "JSR #1",
+    "TRAP x25",
+    "ADD R6, R6, #-1",
+    "STR R7, R6, #0",
+    "ADD R0, R0, #-1",
+    "BRnz #1",
+    "JSR #-5",
+    "LDR R7, R6, #0",
+    "ADD R6, R6, #1",
+    "RET",
 )
 
 # Each line is answered in a few words.
@@ -117,7 +134,44 @@ class Script(Folder):
         self.assertEqual(answers[2:4], ["breakpoint 1: x3002", answers[3]])
         self.assertTrue(answers[3].startswith("step 2: x3002"), told)
         self.assertTrue(answers[5].startswith("step 6: x3002"), told)
-        self.assertTrue(answers[-1].startswith("step 9: x3001"), told)
+        # A watch stops it after the first step as well.
+        self.assertTrue(answers[-1].startswith("step 7: x3003"), told)
+
+    def test_several_steps_stop_before_any_of_them_at_a_breakpoint(self) -> None:
+        loop = self.file("loop.obj", object_file(0x3000, *["ADD R0, R0, #1"] * 3, "BRnzp #-4"))
+        stops = "breakpoint 1: x3002\nstep 2: x3002"
+        for steps in (2, 3, 4, 100):
+            told = self.told(loop, "break x3002", f"step {steps}")
+            self.assertEqual(stops in told, steps > 2, told)
+        # The first one is made, and the last one told.
+        told = self.told(loop, "break x3000", "break x3003 if R0 == 4", "step 4", "step 4")
+        self.assertRegex(told, r"  3  x3003  x0FFC  BRnzp #-4 .* PC x3003 -> x3000\nstep 4: x3000")
+        self.assertIn("\nstep 5: x3001", self.told(loop, "step 4", "break x3001", "step", "step 9"))
+
+    def test_many_steps_over_are_those_made_one_after_the_other(self) -> None:
+        # A recursion, traps and plain steps.
+        recursive = self.file("recursive.obj", RECURSIVE)
+        for files in ((recursive,), (self.busy,), ("--keys", "abc" * 20, self.file("e.obj", ECHO))):
+            single = ran("debug", *files, keys=b"over\n" * 60)
+            clocks = re.findall(r"^step (\d+)", single.err, re.M)
+            for count in (1, 2, 3, 7, 20, 59):
+                if count < len(clocks):
+                    done = ran("debug", *files, keys=f"over {count}\n".encode())
+                    self.assertIn(f"\nstep {clocks[count]}: ", done.err)
+
+    def test_steps_over_end_where_the_program_waits_or_goes_round(self) -> None:
+        echo = self.file("echo.obj", ECHO)
+        for lines in (("over 99999999",), ("step 3", "over 99999999"), ("run",), ("step 3", "out")):
+            told = self.told(echo, *lines)
+            self.assertIn("the program waits for a key, and no more keys come; ", told)
+            self.assertTrue(told.endswith(f"\n{HOW_TO_TYPE}\n"), told)
+        endless = self.file("endless.obj", ENDLESS)
+        self.assertIn("goes round in a loop", self.told(endless, "over 99999999"))
+
+    def test_a_halted_machine_is_told_as_that(self) -> None:
+        hello = self.file("hello.obj", HELLO)
+        told = self.told(hello, "run", "run", "step", "step 2", "over", "out")
+        self.assertEqual(told.count("the machine is halted; go back, or set MCR\n"), 5)
 
     def test_back_to_what_did_it(self) -> None:
         lines = ("run 100000", "back write x4000", "back change R5", "back write COUNT", "back out")
@@ -290,6 +344,7 @@ class OnPrompt(Folder):
             shown.see(b"step 2: ")
             # While the program runs, keys are its own.
             shown.press(b"run\n")
+            shown.see(b"the program waits for a key: press it, or Ctrl-C for the prompt")
             shown.press(b"!")
             shown.see(b"!")
             shown.press(b"q")
@@ -317,6 +372,47 @@ class OnPrompt(Folder):
             self.assertEqual(shown.process.wait(20), 0)
             self.assertEqual(shown.attributes(), shown.before)
             self.assertNotIn(b"Traceback", shown.seen)
+
+    def test_ctrl_c_held_down_does_not_end_it(self) -> None:
+        with OnTerminal("debug", self.file("shows.obj", SHOWS)) as shown:
+            shown.see(b"(lc3) ")
+            for number in range(200):
+                shown.press(b"\x03")
+                time.sleep(0.0005 * (number % 5))
+            self.assertIsNone(shown.process.poll(), shown.seen)
+            # One that has come at last may throw away what is typed meanwhile.
+            for _ in range(40):
+                shown.press(b"where\n")
+                with contextlib.suppress(AssertionError):
+                    shown.see(b"where\r\nstep 0: ", 0.5)
+                    break
+            shown.see(b"where\r\nstep 0: ")
+            shown.press(b"quit\n")
+            self.assertEqual(shown.process.wait(20), 0)
+            self.assertNotIn(b"Traceback", shown.seen)
+
+    def test_ctrl_c_ends_a_script(self) -> None:
+        shows = self.file("shows.obj", SHOWS)
+        # While a program runs, in the middle of a search, and while no line comes.
+        for lines, sign in ((b"run\nrun\n", b"!!!"), (b"step 9\n", b""), (b"run 9\nrun\n", b"!!!")):
+            with subprocess.Popen(
+                [*PYTHON, "debug", str(shows)],
+                stdin=subprocess.PIPE,
+                stdout=subprocess.PIPE,
+                stderr=subprocess.PIPE,
+                env=ENVIRONMENT,
+                preexec_fn=takes_ctrl_c,
+            ) as running:
+                assert running.stdin and running.stdout and running.stderr
+                running.stdin.write(lines)
+                running.stdin.flush()
+                self.assertEqual(running.stdout.read(len(sign)), sign)
+                # Where it stands is told when all is set up.
+                self.assertIn(b"step 0: ", running.stderr.readline())
+                code = ended_by(running, signal.SIGINT)
+                told = running.stderr.read()
+                self.assertEqual(code, 1, told)
+                self.assertEqual(told.count(b"stopped by Ctrl-C"), 1, told)
 
     def test_a_signal_ends_it_with_the_terminal_set_back(self) -> None:
         # At the prompt, and in the middle of a run.
@@ -388,9 +484,12 @@ class OnScreen(Folder):
         """The command in such a window."""
         with mock.patch.dict("tests.command_support.ENVIRONMENT", TERM=term):
             shown = OnTerminal(*arguments)
-        fcntl.ioctl(shown.window, termios.TIOCSWINSZ, struct.pack("HHHH", 24, 80, 0, 0))
-        shown.process.send_signal(signal.SIGWINCH)
+        self.resize(shown, 24, 80)
         return shown
+
+    def resize(self, shown: OnTerminal, rows: int, columns: int) -> None:
+        """Gives the window another size, of which the system tells the command."""
+        fcntl.ioctl(shown.window, termios.TIOCSWINSZ, struct.pack("HHHH", rows, columns, 0, 0))
 
     def until(self, shown: OnTerminal, text: str, seconds: float = 20) -> str:
         """Waits until the picture has a text, and answers the picture."""
@@ -426,7 +525,7 @@ class OnScreen(Folder):
             shown.press(b" type hi\n")
             self.until(shown, "2 keys are typed")
             shown.press(b"run\n")
-            self.until(shown, "the program runs")
+            self.until(shown, "the program waits for a key")
             shown.press(b"q")
             picture = self.until(shown, "halted by HALT")
             self.assertIn("hiqHalted", picture)
@@ -450,6 +549,30 @@ class OnScreen(Folder):
             shown.press(b"quit\n")
             self.assertEqual(shown.process.wait(20), 0)
             self.assertEqual(shown.attributes(), shown.before)
+
+    def test_a_window_of_another_size(self) -> None:
+        with self.opened("debug", "--screen", self.file("until.obj", UNTIL_Q)) as shown:
+            self.until(shown, "(lc3)")
+            for rows, columns in ((1, 1), (2, 3), (3, 200), (200, 2), (19, 63), (1, 80), (24, 1)):
+                self.resize(shown, rows, columns)
+                # A step, a page of text, what completes and erases: none of it may end it.
+                shown.press(b"\x1bOC" + b"help\n" + b"\x1b" * 40 + b"re\t\x7f\x7f\n")
+            shown.seen = b""
+            self.resize(shown, 24, 80)
+            # Whatever is left of a line and of pages.
+            shown.press(b"\n" * 40)
+            self.until(shown, "last steps")
+            shown.press(b"where\n")
+            self.until(shown, "TRAP x20")
+            shown.press(b"run\n")
+            self.until(shown, "the program waits for a key")
+            self.resize(shown, 10, 30)
+            self.resize(shown, 24, 80)
+            shown.press(b"q")
+            self.until(shown, "halted by HALT")
+            shown.press(b"quit\n")
+            self.assertEqual(shown.process.wait(20), 0)
+            self.assertNotIn(b"Traceback", shown.seen)
 
     def test_a_closed_window_ends_it(self) -> None:
         for arguments in (("debug",), ("debug", "--screen")):

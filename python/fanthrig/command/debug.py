@@ -3,23 +3,21 @@
 from __future__ import annotations
 
 import argparse
-import os
 import signal
 import sys
 import termios
 from types import FrameType
-from typing import Any, Mapping
+from typing import Any
 
-from ..constants import USER_STACK
-from ..labels import SUFFIX, LabelError, Labels
 from ..running import NOTICED
 from ..sitting import Sitting
-from ..telling import of_os_error
 from .debugger.commands import Debugger
 from .debugger.console import Console
 from .debugger.prompt import interact
-from .files import check_edition, object_files, recording_of, sitting_of, whole_file
+from .files import object_files, recording_of, sitting_of
 from .messages import Code, CommandError, say, tell
+from .seat import check_use, given_keys
+from .symbols import labels_of
 from .terminal import die
 
 NO_TERMINAL = "--screen needs a terminal: leave it out where commands come from a pipe"
@@ -28,9 +26,9 @@ NO_TERMINAL = "--screen needs a terminal: leave it out where commands come from 
 def command(options: argparse.Namespace) -> Code:
     """Debugs as the options have it, and answers the exit code."""
     sitting = _sitting(options)
-    labels = _labels(options)
+    labels = labels_of(options.symbols, [*options.with_files, *options.files])
     if options.keys is not None:
-        sitting.type(_keys(options.keys))
+        sitting.type(given_keys(options.keys))
     console = Console()
     debugger = Debugger(sitting, labels, console)
     if options.screen and not _is_terminal():
@@ -75,20 +73,31 @@ class Guard:
 
 
 def _interact(debugger: Debugger, console: Console) -> Code:
-    """Obeys commands, at the prompt and in the screen, until the debugger ends."""
-    code = Code.HALTED
+    """Obeys commands until the debugger ends."""
+    code, terminal = Code.HALTED, _is_terminal()
     while not debugger.ended:
-        if debugger.on_screen and _is_terminal():
-            # Only now: a system without curses has the prompt all the same.
-            from .debugger.screen import on_screen
-
-            on_screen(debugger)
-        else:
-            if debugger.on_screen:
-                say(NO_TERMINAL)
-                debugger.on_screen, code = False, Code.NOT_HALTED
-            code = max(code, interact(debugger, console))
+        try:
+            code = max(code, _prompt_or_screen(debugger, console))
+        except KeyboardInterrupt:
+            # It came between two commands. Whoever holds the keys down shall not lose the sitting.
+            if not terminal:
+                raise
     return code
+
+
+def _prompt_or_screen(debugger: Debugger, console: Console) -> Code:
+    """Obeys commands at the prompt, or in the screen, until one is left for the other."""
+    if not debugger.on_screen:
+        return interact(debugger, console)
+    if not _is_terminal():
+        say(NO_TERMINAL)
+        debugger.on_screen = False
+        return Code.NOT_HALTED
+    # Only now: a system without curses has the prompt all the same.
+    from .debugger.screen import on_screen
+
+    on_screen(debugger)
+    return Code.HALTED
 
 
 def _is_terminal() -> bool:
@@ -98,41 +107,8 @@ def _is_terminal() -> bool:
 
 def _sitting(options: argparse.Namespace) -> Sitting:
     """The sitting: of object files, or of a recording at its start."""
-    if options.replay is None:
-        if not options.files:
-            text = "no file is named; name object files, or a sitting to replay by --replay"
-            raise CommandError(text, Code.WRONG_USE)
-        check_edition(options)
-        examiner, candidate = object_files(options.with_files), object_files(options.files)
-        return sitting_of(options, examiner, candidate)
-    usual = {"files": [], "with_files": [], "anywhere": False, "edition": 3, "supervisor": False}
-    usual.update(pc=None, stack=USER_STACK, monitor=True, keys=None)
-    wrong = [name for name, value in usual.items() if getattr(options, name) != value]
-    if wrong:
-        text = "--replay has its own machine and keys; leave out other files and options"
-        raise CommandError(text, Code.WRONG_USE)
-    return Sitting.of(recording_of(options.replay, 0))
-
-
-def _labels(options: argparse.Namespace) -> Mapping[str, int]:
-    """The labels of the symbol table that is named, or else of those beside the object files."""
-    beside = [os.path.splitext(path)[0] + SUFFIX for path in [*options.with_files, *options.files]]
-    named, found = options.symbols, Labels()
-    try:
-        for path in filter(os.path.isfile, beside) if named is None else [named]:
-            found = found.joined(Labels.load(path))
-    except LabelError as error:
-        raise CommandError(str(error)) from None
-    except OSError as error:
-        raise CommandError(of_os_error(error)) from None
-    return found
-
-
-def _keys(text: str) -> bytes:
-    """The keys that are given, as they stand or from a file."""
-    if not text.startswith("@"):
-        return os.fsencode(text)
-    try:
-        return whole_file(text[1:])
-    except OSError as error:
-        raise CommandError(f"--keys: {of_os_error(error)}") from None
+    check_use(options)
+    if options.replay is not None:
+        return Sitting.of(recording_of(options.replay, 0))
+    examiner, candidate = object_files(options.with_files), object_files(options.files)
+    return sitting_of(options, examiner, candidate)

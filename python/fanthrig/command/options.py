@@ -108,7 +108,7 @@ examples:
 
 exit codes:
   0  the debugger was left, or the commands of a script were obeyed
-  1  some command of a script could not be obeyed
+  1  some command of a script could not be obeyed, or Ctrl-C ended it
   2  wrong use of the command
   3  a file was refused, or could not be read
 """

@@ -1,4 +1,4 @@
-"""A sitting with its keyboard and display, as the options of run and log have it."""
+"""A sitting with its keyboard and display, as the options of run, log and debug have it."""
 
 from __future__ import annotations
 
@@ -48,7 +48,8 @@ def seat_of(options: argparse.Namespace, signals: Signals) -> Seat:
     else:
         examiner, candidate = object_files(options.with_files), object_files(options.files)
         sitting = sitting_of(options, examiner, candidate)
-        keyboard = _keyboard(options.keys, signals)
+        keys = options.keys
+        keyboard = standard_keyboard(signals) if keys is None else Keyboard(given_keys(keys))
         asked = options.steps is not None
         end, forgets = options.steps if asked else MAX_CLOCK, options.save_sitting is None
         seat = Seat(sitting, keyboard, end, asked, forgets=forgets)
@@ -81,7 +82,7 @@ def _check_saving(options: argparse.Namespace) -> None:
 
 
 def check_use(options: argparse.Namespace) -> None:
-    """That the options of run and log go together."""
+    """That the options of run, log and debug go together."""
     if options.replay is None:
         if not options.files:
             text = "no file is named; name object files, or a sitting to replay by --replay"
@@ -105,14 +106,12 @@ def check_use(options: argparse.Namespace) -> None:
         raise CommandError(text, Code.WRONG_USE)
 
 
-def _keyboard(keys: str | None, signals: Signals) -> Keyboard:
-    """The keys that are given, or else those of standard input."""
-    if keys is None:
-        return standard_keyboard(signals)
+def given_keys(keys: str) -> bytes:
+    """The keys that are given by --keys, as they stand or from a file."""
     if not keys.startswith("@"):
-        return Keyboard(os.fsencode(keys))
+        return os.fsencode(keys)
     try:
-        return Keyboard(whole_file(keys[1:]))
+        return whole_file(keys[1:])
     except OSError as error:
         error.filename = keys[1:]
         raise CommandError(f"--keys: {of_os_error(error)}") from None

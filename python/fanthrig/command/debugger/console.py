@@ -3,7 +3,7 @@
 from __future__ import annotations
 
 import sys
-from typing import Sequence
+from typing import Callable, Sequence
 
 from ...constants import MAX_CLOCK
 from ...ending import Ending
@@ -11,7 +11,29 @@ from ...events import Event
 from ...records import Stop
 from ...running import Keyboard, sit
 from ...sitting import Sitting
+from ..messages import tell
 from ..terminal import Display, Signals, Terminal, die
+
+
+WAITS = "the program waits for a key: press it, or Ctrl-C for the prompt"
+
+
+class Keys(Terminal):
+    """The keys of a terminal. That the program waits for one is said once in a run: nothing else
+    would tell it from one that hangs."""
+
+    def __init__(self, fd: int, signals: Signals, say: Callable[[], None]) -> None:
+        """A terminal, and how it is said."""
+        super().__init__(fd, signals)
+        self._say, self._said = say, False
+
+    def wait(self) -> bytes:
+        """Waits for keys, or for a signal."""
+        keys = self.poll()
+        if not (keys or self._said or self._signals.caught):
+            self._said = True
+            self._say()
+        return keys or super().wait()
 
 
 class Console:
@@ -20,13 +42,15 @@ class Console:
     that are typed by a command."""
 
     def __init__(self) -> None:
-        """Nothing runs."""
-        self._line_begun = False
+        """Nothing runs. ``stopped`` tells whether Ctrl-C has stopped something."""
+        self._line_begun = self.stopped = False
 
     def _keyboard(self, signals: Signals) -> Keyboard:
         """The program's keyboard for one run."""
         try:
-            return Terminal(sys.stdin.fileno(), signals) if sys.stdin.isatty() else Keyboard()
+            if sys.stdin.isatty():
+                return Keys(sys.stdin.fileno(), signals, self.waits)
+            return Keyboard()
         except (OSError, ValueError):
             # Standard input is no file at all, or closed.
             return Keyboard()
@@ -49,6 +73,7 @@ class Console:
 
         with signals, self._keyboard(signals) as keyboard:
             ending = sit(sitting, keyboard, signals, end, advance, patient=steps is not None)
+        self.stopped = self.stopped or bool(signals.caught)
         if signals.fatal:
             self.close()
             # Whoever sent the signal shall see that it was obeyed.
@@ -61,6 +86,10 @@ class Console:
         display.show(data)
         if data:
             self._line_begun = bool(display.line_feed())
+
+    def waits(self) -> None:
+        """Says that the program waits for a key."""
+        tell(f"{self.line_feed()}{WAITS}\n")
 
     def line_feed(self) -> str:
         """A line feed where the program has left the cursor of a terminal within a line."""

@@ -6,9 +6,9 @@ from typing import Sequence
 
 from ...conditions import address_of, registers_of
 from ...constants import MAX_CLOCK
-from ...ending import Ending
+from ...ending import EndKind, Ending
 from ...events import Event
-from ...routines import Leaves, end_of
+from ...routines import Leaves, Over
 from ...sitting import Sitting
 from ..log import row
 from ..messages import end_line
@@ -18,6 +18,7 @@ from .names import Names
 from .stops import Stops
 
 HALTED = "the machine is halted; go back, or set MCR"
+HOW_TO_TYPE = "type gives it keys, as in type a or type 12\\n, and run goes on"
 AT_START = "at the start: there is nothing before it"
 
 
@@ -50,34 +51,36 @@ class Motion:
         return text.replace(":  ", ": ")
 
     def step(self, text: str) -> str:
-        """Makes one step or several, and tells what the last one did."""
+        """Makes one step or several, and tells what the last one did. What stops a run stops
+        several: a breakpoint before each of them but the first."""
         steps = count_of(text, 1) if text else 1
         if steps > 1:
-            ending = self._run(steps - 1, self.stops.events)
-            if self._stopped(steps - 1):
+            ending = self._run(steps, self.stops.events)
+            if self._stopped(steps):
                 return self._told(ending)
-        told = self.sitting.trace_at_once(1)
-        self._show()
-        if not told:
+            last = self.sitting.last_step()
+        else:
+            last = next(iter(self.sitting.trace_at_once(1)), None)
+            self._show()
+        if last is None:
             return HALTED if self.sitting.halted else self.sitting.ending.text
-        return f"{row(told[0])}\n{self.here()}"
+        return f"{row(last, self.names.labels)}\n{self.here()}"
 
     def over(self, text: str) -> str:
-        """Makes one step or several, and takes calls and entries as one."""
-        for number in range(count_of(text, 1) if text else 1):
-            if number:
-                # From the second one on breakpoints and watches stop it, as they stop a run.
-                ending = self._run(1, self.stops.events, here=True)
-                if self._stopped(1):
-                    return self._told(ending)
-            elif not self.sitting.trace_at_once(1):
-                return HALTED if self.sitting.halted else self.sitting.ending.text
-            self._show()
-            end = end_of(self.sitting.last_steps(1)[0], self.sitting.edition)
-            if end is not None:
-                ending = self._run(None, [end, *self.stops.events], here=True)
-                if self.sitting.event is not end:
-                    return self._told(ending)
+        """Makes one step or several, and takes calls and entries as one. What stops a run stops it
+        as well, as does a wait for a key that does not come."""
+        count = count_of(text, 1) if text else 1
+        # It takes no keys from the terminal, where the next commands may be typed already.
+        self._look()
+        ending = self.sitting.run(1, until=self.stops.events).ending
+        self._show()
+        if self._stopped(1):
+            return self._told(ending)
+        over = Over(self.sitting.last_steps(1)[0], self.sitting.edition, count)
+        if not over.made:
+            ending = self._run(None, [over, *self.stops.events], here=True)
+            if self.sitting.event is not over:
+                return self._told(ending)
         return self.here()
 
     def out(self, text: str) -> str:
@@ -154,13 +157,17 @@ class Motion:
         sitting.back_to(moment.clock)
         if moment.step is None:
             return f"{name} was altered from outside here\n{self.here()}"
-        return f"{row(moment.step)}\n{self.here()}"
+        return f"{row(moment.step, self.names.labels)}\n{self.here()}"
 
     def _run(self, steps: int | None, until: Sequence[Event], here: bool = False) -> Ending:
         """Runs, and keeps what was watched before."""
+        self._look()
+        return self.console.run(self.sitting, steps, until, here)
+
+    def _look(self) -> None:
+        """Keeps what is watched as it stands before a run, and where that begins."""
         self.stops.look(self.sitting)
         self._begun = self.sitting.clock
-        return self.console.run(self.sitting, steps, until, here)
 
     def _stopped(self, steps: int) -> bool:
         """Whether a run of so many steps was ended by something else."""
@@ -173,7 +180,10 @@ class Motion:
         if name:
             change = self.stops.change(self.sitting, event)
             return f"{name}{change}\n{self.here()}"
-        return end_line(ending, self.sitting.clock)
+        if self.sitting.halted and self.sitting.clock == self._begun:
+            return HALTED
+        told = end_line(ending, self.sitting.clock, self.names.labels)
+        return f"{told}\n{HOW_TO_TYPE}" if ending.kind is EndKind.WAITING else told
 
     def _show(self) -> None:
         """Shows what single steps have shown."""

@@ -5,6 +5,7 @@ from __future__ import annotations
 from typing import Iterable, Mapping
 
 from ...constants import MEMORY_WORDS
+from ...labels import Labels
 from ...sitting import Sitting
 
 
@@ -13,7 +14,7 @@ class Names:
 
     def __init__(self, labels: Mapping[str, int]) -> None:
         """The labels; the first one of an address names it."""
-        self.labels = dict(labels)
+        self.labels = Labels(labels)
         self._names: dict[int, str] = {}
         for label, address in self.labels.items():
             self._names.setdefault(address, label)

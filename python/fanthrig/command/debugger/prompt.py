@@ -17,6 +17,7 @@ except ImportError:
     readline = None  # type: ignore[assignment]
 
 PROMPT = "(lc3) "
+STOPPED = "stopped by Ctrl-C"
 
 # Between words that can be completed.
 DELIMITERS = " \t[]=<>!+-"
@@ -65,7 +66,7 @@ def obey(debugger: Debugger, console: Console, line: str) -> bool:
     except Wrong as wrong:
         answer, right = plain(str(wrong)), False
     except KeyboardInterrupt:
-        answer, right = "stopped by Ctrl-C", False
+        answer, right, console.stopped = STOPPED, False, True
     tell(console.line_feed())
     tell(f"{answer}\n" if answer else "")
     return right
@@ -73,17 +74,24 @@ def obey(debugger: Debugger, console: Console, line: str) -> bool:
 
 def interact(debugger: Debugger, console: Console) -> Code:
     """Obeys lines until the debugger is left for the screen, or ends. The exit code tells of a
-    command that could not be obeyed, where they do not come from a terminal."""
+    command that could not be obeyed, where they do not come from a terminal; there Ctrl-C ends it.
+    """
     lines, code = Lines(debugger), Code.HALTED
+    before = ""
     while not (debugger.ended or debugger.on_screen):
         try:
-            line = lines.next()
-            if line is None:
-                debugger.ended = True
-            elif not line.lstrip().startswith("#"):
-                if not (obey(debugger, console, line) or lines.on_terminal):
-                    code = Code.NOT_HALTED
+            tell(before)
+            before, line = "", lines.next()
         except KeyboardInterrupt:
-            # Ctrl-C at the prompt begins a new line.
-            tell("\n")
+            # At the prompt it begins a new line. All that takes time is done where it is caught.
+            before, line, console.stopped = "\n", "#", True
+        if line is None:
+            debugger.ended = True
+        elif not line.lstrip().startswith("#"):
+            if not (obey(debugger, console, line) or lines.on_terminal):
+                code = Code.NOT_HALTED
+        elif before and not lines.on_terminal:
+            tell(f"{STOPPED}\n")
+        if console.stopped and not lines.on_terminal:
+            debugger.ended, code = True, Code.NOT_HALTED
     return code

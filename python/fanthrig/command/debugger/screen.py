@@ -9,6 +9,7 @@ from __future__ import annotations
 
 import curses
 import os
+import termios
 import time
 from typing import Any
 
@@ -18,9 +19,9 @@ from ...telling import plain
 from ..messages import say
 from ..terminal import Display
 from .commands import Debugger
-from .console import Console
+from .console import WAITS, Console
 from .motion import Wrong
-from .prompt import PROMPT
+from .prompt import PROMPT, STOPPED
 
 # The least window that all of it fits.
 LEAST = (20, 64)
@@ -51,6 +52,10 @@ class ScreenConsole(Console):
             self._screen.draw("the program runs: keys are the program's, Ctrl-C stops it")
             self._drawn = time.monotonic()
 
+    def waits(self) -> None:
+        """Draws the screen with that."""
+        self._screen.draw(WAITS)
+
     def close(self) -> None:
         """Leaves the terminal as it was."""
         try:
@@ -74,14 +79,19 @@ class Screen:
         """Obeys commands until the debugger is left for the prompt, or ends."""
         self._window.keypad(True)
         while not self._debugger.ended and self._debugger.on_screen:
-            self.draw()
             try:
-                self._take(self._window.get_wch())
+                self.draw()
+                self._take(self._key())
             except KeyboardInterrupt:
                 self._line = ""
-            except curses.error:
-                # The terminal is gone, or a signal has come.
-                self._debugger.ended = True
+
+    def _key(self) -> str | int:
+        """The next key; that of a window of another size where a signal has come instead."""
+        try:
+            return self._window.get_wch()  # type: ignore[no-any-return]
+        except curses.error:
+            self._debugger.ended = not _is_there()
+            return curses.KEY_RESIZE
 
     def _take(self, key: str | int) -> None:
         """Takes a key."""
@@ -113,7 +123,7 @@ class Screen:
         except Wrong as wrong:
             self._answer = plain(str(wrong))
         except KeyboardInterrupt:
-            self._answer = "stopped by Ctrl-C"
+            self._answer = STOPPED
         if self._answer.count("\n") > 1:
             self._page(self._answer)
             self._answer = ""
@@ -140,20 +150,30 @@ class Screen:
 
     def _page(self, text: str) -> None:
         """Shows a long answer by itself, a page at a time."""
-        lines = text.split("\n")
-        height = self._window.getmaxyx()[0]
-        for first in range(0, len(lines), height - 1):
-            self._window.erase()
-            for at, line in enumerate(lines[first : first + height - 1]):
+        lines, first = text.split("\n"), 0
+        while first < len(lines) and not self._debugger.ended:
+            rows = max(1, self._fitted()[0] - 1)
+            for at, line in enumerate(lines[first : first + rows]):
                 self._put(at, 0, line)
-            self._put(height - 1, 0, "any key goes on")
+            self._put(rows, 0, "any key goes on")
             self._window.refresh()
             try:
-                self._window.get_wch()
-            except (KeyboardInterrupt, curses.error):
+                first += rows if self._key() != curses.KEY_RESIZE else 0
+            except KeyboardInterrupt:
                 return
 
     # Drawing.
+
+    def _fitted(self) -> tuple[int, int]:
+        """Empties the window, and answers its size. That may have changed: the signal which tells
+        it is readline's, so that curses does not know."""
+        columns, rows = os.get_terminal_size(0) if _is_there() else (0, 0)
+        if rows and columns and curses.is_term_resized(rows, columns):
+            curses.resizeterm(rows, columns)
+            self._window.clear()
+        self._window.erase()
+        height, width = self._window.getmaxyx()
+        return height, width
 
     def _put(self, row: int, column: int, text: str, looks: int = curses.A_NORMAL) -> None:
         """Writes a line, as much of it as fits."""
@@ -167,8 +187,7 @@ class Screen:
 
     def draw(self, message: str = "") -> None:
         """Draws all of it, or says that the window is too small."""
-        height, width = self._window.getmaxyx()
-        self._window.erase()
+        height, width = self._fitted()
         if height < LEAST[0] or width < LEAST[1]:
             self._put(0, 0, f"the window is too small: {LEAST[1]} by {LEAST[0]} is the least")
         else:
@@ -216,6 +235,15 @@ class Screen:
     def _heading(self, row: int, text: str) -> None:
         """Writes a line of a heading, to its end."""
         self._put(row, 0, text.ljust(self._window.getmaxyx()[1]), curses.A_REVERSE)
+
+
+def _is_there() -> bool:
+    """Whether the terminal can still be read."""
+    try:
+        termios.tcgetattr(0)
+        return True
+    except termios.error:
+        return False
 
 
 def on_screen(debugger: Debugger) -> None:
