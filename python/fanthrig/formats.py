@@ -9,6 +9,7 @@ at: they are what the host says.
 
 from __future__ import annotations
 
+import codecs
 import re
 import unicodedata
 
@@ -25,6 +26,8 @@ SWAPPED = (
     "the low byte of each of its words comes first, and that of an object file last: assemble it "
     "anew, or swap them, as by dd conv=swab"
 )
+
+UTF16 = "it is text in UTF-16, which some editors call Unicode: save it as UTF-8"
 
 LC3TOOLS_BEGINS = bytes.fromhex("1C30 15C0 01")
 
@@ -85,9 +88,32 @@ def is_text(data: bytes) -> bool:
         if b".orig" not in data.lower():
             return False
         text = data.decode("latin-1")
-    # Categories that begin with C are control characters and such: words have many of them.
+    return _is_plain(text)
+
+
+def _is_plain(text: str) -> bool:
+    """Whether a text has no control characters but those that end lines and the like."""
+    # Their categories begin with C: words of memory have many of them.
     letters = set(text) - set("\t\n\f\r")
     return not any(unicodedata.category(letter).startswith("C") for letter in letters)
+
+
+def is_utf16(data: bytes) -> bool:
+    """Whether a file is plainly text in UTF-16: lines after a byte order mark, or without it lines
+    of ASCII, or a program (``fanthrig.programs``).
+
+    >>> is_utf16("x3000\\nxF025\\n".encode("utf-16")), is_utf16(bytes.fromhex("3000 F025 000A"))
+    (True, False)
+    """
+    if len(data) < SHORTEST_TEXT:
+        return False
+    marked = data.startswith((codecs.BOM_UTF16_LE, codecs.BOM_UTF16_BE))
+    for codec in ("utf-16",) if marked else ("utf-16-le", "utf-16-be"):
+        text = data[: len(data) & ~1].decode(codec, "replace")
+        plain = ("\n" in text or "\r" in text) and _is_plain(text)
+        if plain and (marked or text.isascii() or _BEGINS.match(text.encode())):
+            return True
+    return False
 
 
 def is_swapped(data: bytes) -> bool:

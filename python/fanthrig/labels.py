@@ -17,11 +17,13 @@ Such a file has a line for each label, with its address in hexadecimal digits::
 
 from __future__ import annotations
 
+import codecs
 import re
 from os import PathLike, fspath
 from typing import Iterator, Mapping
 
 from .calls import read
+from .formats import UTF16, is_utf16
 from .records import Kind
 
 # A longer file is no symbol table: there are 65,536 addresses.
@@ -71,6 +73,10 @@ class Labels(Mapping[str, int]):
             data = stream.read(LONGEST + 1)
         if len(data) > LONGEST:
             raise LabelError(f"{fspath(path)}: refused: it is too long for a symbol table")
+        if is_utf16(data):
+            raise LabelError(f"{fspath(path)}: refused: {UTF16}")
+        mark = codecs.BOM_UTF8
+        data = data[len(mark) :] if data.startswith(mark) else data
         return cls.of_text(data.decode("latin-1"), fspath(path))
 
     def __getitem__(self, label: str) -> int:

@@ -28,7 +28,7 @@ from typing import BinaryIO, Callable, Iterator, NamedTuple
 
 from .calls import page, read, save, start
 from .constants import MEMORY_WORDS, USER_STACK
-from .formats import FormatError, is_text, other_format
+from .formats import UTF16, FormatError, is_text, is_utf16, other_format
 from .records import Kind
 from .words import LineError, word
 
@@ -213,7 +213,10 @@ def words_of(text: str, name: str = "") -> tuple[int, array[int]]:
 
 def object_file(text: str | bytes, name: str = "") -> bytes:
     """The object file of a program as text; bytes are UTF-8, or Latin-1 where they are not. What is
-    wrong in it is a ``ProgramError``, which names the file."""
+    wrong in it is a ``ProgramError``, which names the file; and text in UTF-16 a ``FormatError``.
+    """
+    if isinstance(text, bytes) and is_utf16(text):
+        raise FormatError(f"{name}: refused: {UTF16}" if name else f"refused: {UTF16}")
     origin, words = words_of(text if isinstance(text, str) else _decoded(text), name)
     memory = array("H", bytes(2 * MEMORY_WORDS))
     memory[origin : origin + len(words)] = words
@@ -241,7 +244,7 @@ def read_program(stream: BinaryIO) -> bytes:
 def object_bytes(data: bytes, name: str) -> bytes:
     """The object file that the bytes of a file are, or that they stand for as text. What is plainly
     something else is a ``FormatError``."""
-    if is_text(data) or name.lower().endswith(TEXT_SUFFIX):
+    if is_text(data) or is_utf16(data) or name.lower().endswith(TEXT_SUFFIX):
         if len(data) >= LONGEST_TEXT:
             raise FormatError(f"{name}: refused: it is text of more than {LONGEST_TEXT >> 20} MiB")
         return object_file(data, name)

@@ -44,15 +44,16 @@ _SHORTS, _PC = Struct(f"={SHORT_BYTES // 2}H"), _PLACES["PC"]
 # The opcodes of ST, STR and STI.
 STORES = (3, 7, 11)
 
+# The device registers by their addresses: loads and stores there never touch the words of memory.
 DEVICES = {
-    ADDRESS_KBSR,
-    ADDRESS_KBDR,
-    ADDRESS_DSR,
-    ADDRESS_DDR,
-    ADDRESS_TSR,
-    ADDRESS_TIR,
-    ADDRESS_PSR,
-    ADDRESS_MCR,
+    ADDRESS_KBSR: "KBSR",
+    ADDRESS_KBDR: "KBDR",
+    ADDRESS_DSR: "DSR",
+    ADDRESS_DDR: "DDR",
+    ADDRESS_TSR: "TSR",
+    ADDRESS_TIR: "TIR",
+    ADDRESS_PSR: "PSR",
+    ADDRESS_MCR: "MCR",
 }
 
 

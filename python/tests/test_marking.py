@@ -75,6 +75,16 @@ class States(unittest.TestCase):
         case = Case("a", before=contents(x3002=7), after=contents(R0=7))
         self.assertEqual(verdict(data, case), "right")
 
+    def test_device_registers_are_no_words(self) -> None:
+        devices = (0xFE00, 0xFE02, 0xFE04, 0xFE06, 0xFE08, 0xFE0A, 0xFFFC, 0xFFFE)
+        for address in range(0xFDF0, 0x10000):
+            if address in devices:
+                with self.assertRaisesRegex(ValueError, "is the device register"):
+                    Contents.of({f"x{address:04X}": 1})
+            else:
+                # Others are plain words, though privileged from xFE00 on.
+                self.assertEqual(Contents.of({f"x{address:04X}": 1}).words, ((address, 1),))
+
     def test_many_mismatches(self) -> None:
         case = Case("a", after=Contents.of({"x4000": [1] * 100}))
         result = one(object_file(0x3000, "TRAP x25"), case)
@@ -282,6 +292,12 @@ class Files(Folder):
             ({"after": {"R0": [1]}}, "'R0' has no number"),
             ({"after": {"R0": "12x"}}, "'R0' has no number"),
             ({"after": {"xFFFF": [1, 2]}}, "'xFFFF' has words beyond xFFFF"),
+            ({"after": {"xFE02": 1}}, "case 1: 'xFE02': xFE02 is the device register KBDR, and"),
+            (
+                {"before": {"xFDFF": [1, 2]}, "expected": ""},
+                "cases.json: no cases: 'before' of case 1: 'xFDFF': xFE00 is the device register "
+                "KBSR, and no word of memory: leave it out",
+            ),
             ({"after": [1]}, "'after' of case 1 is no object"),
             ({"end": "well"}, "'end' of case 1 is none of halted, exception"),
             ({"end": "returned"}, "returned needs a call"),

@@ -253,6 +253,23 @@ class Feedback(Forms):
             self.assertTrue(path.is_file() and not path.is_symlink())
             self.assertIn("2 of 2 cases passed", path.read_text())
 
+    def test_feedback_is_no_candidate(self) -> None:
+        # Texts are marked, and feedback lies beside them: a second marking marks the same.
+        top = self.folder / "texts"
+        words = "\n".join(f"x{word:04X}" for word in (0x3000, 0xF020, 0xF021, 0xF021, 0xF025))
+        for name in ("a.txt", "deep/b.TXT", f"{'n' * 240}.txt"):
+            self.file(f"texts/{name}", f"{words}\n")
+        marked = [self.lines("--texts", "--feedback", top, top, code=0) for _ in range(3)]
+        first, *others = ([c["candidate"] for c in of_kind("candidate", m)] for m in marked)
+        self.assertEqual((len(first), others), (3, [first, first]))
+        passed = of_kind("passed over", marked[2])
+        self.assertEqual(len(passed), 3)
+        for file in passed:
+            self.assertIn("it is feedback of a marking", file["problem"])
+        # Who names one has it marked.
+        named = str(top / "a.txt.feedback.txt")
+        self.assertEqual(self.mark("--texts", named).code, 1)
+
 
 class Resume(Forms):
     """Going on from results that are there."""

@@ -9,6 +9,7 @@ import unittest
 from array import array
 
 import fanthrig
+from fanthrig.formats import is_utf16
 from fanthrig.programs import FIELDS, Form, ProgramError, fields, object_file, text_of
 
 from .command_support import ENVIRONMENT, HELLO, PYTHON, Folder, ran
@@ -147,6 +148,35 @@ class Commands(Folder):
         self.assertEqual(ran("run", answers).code, 3)
         self.assertEqual(ran("run", "--with", answers, self.file("show.txt", TEXT)).code, 0)
 
+    def test_text_in_utf_16_is_called_that(self) -> None:
+        cases = self.file("cases.json", '[{"name": "a", "expected": "AHalted\\n"}]')
+        told = "refused: it is text in UTF-16, which some editors call Unicode: save it as UTF-8"
+        source = ".ORIG x3000\n; Gr\u00fc\u00dfe\nHALT\n.END\n"
+        marked = [(text, text.encode("utf-16")) for text in (TEXT, f"; \u00fc\n{TEXT}", source)]
+        marked += [(text, b"\xfe\xff" + text.encode("utf-16-be")) for text, _ in marked]
+        bare = [text.encode(f"utf-16-{end}") for text, _ in marked[:2] for end in ("le", "be")]
+        for data in [*bare, *(data for _, data in marked)]:
+            for name in ("show.txt", "show.bin", "show.obj"):
+                path = self.file(name, data)
+                for command in ("run", "list", "log", "debug", "make"):
+                    more = ("-o", self.folder / "made.obj") if command == "make" else ()
+                    done = ran(command, path, *more)
+                    self.assertEqual((done.code, done.out), (3, b""), (command, name, data))
+                    self.assertIn(f"{path}: {told}\n", done.err)
+                self.assertIn(told, ran("mark", "--cases", cases, path).out.decode())
+        # What could be an object file is none of it.
+        for words in ("3000 1021 000A 4E00", "FEFF 0041 0042", "FFFE 000A", "0A00 4100"):
+            self.assertFalse(is_utf16(bytes.fromhex(words)), words)
+
+    def test_text_in_utf_8_with_a_mark(self) -> None:
+        for text in (TEXT, f"; \u00fc\n{TEXT}"):
+            path = self.file("show.txt", b"\xef\xbb\xbf" + text.encode())
+            self.assertEqual(ran("run", path).out, b"AHalted\n")
+            self.assertEqual(ran("make", path).code, 0)
+            self.assertEqual((self.folder / "show.obj").read_bytes(), FILE)
+        script = b"\xef\xbb\xbfstep\nstep\n"
+        self.assertIn("step 2: ", ran("debug", self.file("show.obj", FILE), keys=script).err)
+
     def test_make(self) -> None:
         text = self.file("show.txt", TEXT)
         self.assertEqual(ran("make", text, "-o", self.folder / "made.obj"), (0, b"", ""))
@@ -236,6 +266,10 @@ class Symbols(Folder):
         self.assertIn("its labels are left out", done.err)
         self.assertEqual(ran("run", "--symbols", beside, self.show).code, 3)
         self.assertEqual(ran("run", "--symbols", self.folder / "none.sym", self.show).code, 3)
+        beside.write_bytes(SYMBOLS.encode("utf-16"))
+        self.assertIn("show.sym: refused: it is text in UTF-16", ran("run", self.show).err)
+        beside.write_bytes(b"\xef\xbb\xbf" + SYMBOLS.encode())
+        self.assertIn("(START+2)", ran("run", self.show).err)
         beside.unlink()
         os.mkfifo(beside)
         self.assertEqual(ran("list", self.show).code, 0)

@@ -4,7 +4,8 @@ A file that is named on the command line is a candidate whatever its name. A fol
 all folders in it, in the order of the bytes of names: a file is a candidate if its name ends in
 ``.obj``, or as that of a program as text in ``.bin`` or ``.hex``, in small letters or capitals, and
 else it is passed over with the reason. Names that end in ``.txt`` are for notes as well: they are
-candidates only where that is asked for. Each file of a folder is one or the other. Symbolic links
+candidates only where that is asked for, and never those in ``.feedback.txt``, which an earlier
+marking has written beside the hand-ins. Each file of a folder is one or the other. Symbolic links
 are followed only where that is asked for; hard links are files like any other.
 """
 
@@ -27,7 +28,11 @@ if TYPE_CHECKING:
 SUFFIXES = (".obj", ".bin", ".hex")
 NAMED = ".obj, .bin or .hex"
 
+# So the files of feedback are named, which may lie beside the hand-ins.
+FEEDBACK_SUFFIX = ".feedback.txt"
+
 OTHER_SUFFIX = f"its name does not end in {NAMED}"
+IS_FEEDBACK = f"its name ends in {FEEDBACK_SUFFIX}: it is feedback of a marking"
 NOT_ASKED_FOR = f"its name ends in {TEXT_SUFFIX}: --texts has it marked"
 EMPTY_FOLDER = "the folder is empty"
 LOST_LINK = "it is a symbolic link that leads to nothing"
@@ -120,6 +125,8 @@ def _walked(top: str, links: bool, texts: bool) -> Iterator[Found]:
 def _file(path: str, mode: int, texts: bool) -> Found:
     """What becomes of a file in a folder."""
     name = path.lower()
+    if name.endswith(FEEDBACK_SUFFIX):
+        return Found(path, IS_FEEDBACK)
     if name.endswith(SUFFIXES) or (texts and name.endswith(TEXT_SUFFIX)):
         return Found(path)
     if stat.S_ISREG(mode) and name.endswith(TEXT_SUFFIX):

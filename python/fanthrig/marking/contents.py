@@ -14,6 +14,7 @@ from ..places import USER_WORDS
 from ..records import Record, as_word
 from ..recording import from_high_first
 from ..sitting import Sitting
+from ..steps import DEVICES
 
 # The register of the user's stack: random contents leave it alone.
 STACK = 6
@@ -41,7 +42,7 @@ class Contents:
     def of(cls, places: Mapping[str, Any]) -> Contents:
         """The contents of a mapping. A register, R0 to R7, has a number; an address, as x4000, a
         number, or a list of them for that word and the next ones. Numbers are from -32768 to
-        65535, or texts as x000A and #-3."""
+        65535, or texts as x000A and #-3. Device registers are no words of memory."""
         registers: dict[int, int] = {}
         words: dict[int, int] = {}
         for place, value in places.items():
@@ -111,8 +112,12 @@ def _run_of_words(first: int, place: str, value: Any) -> Iterator[tuple[int, int
     values = value if isinstance(value, (list, tuple)) else [value]
     if first + len(values) > MEMORY_WORDS:
         raise ValueError(f"{place!r} has words beyond xFFFF")
-    for offset, item in enumerate(values):
-        yield first + offset, _value(place, item)
+    for address, item in enumerate(values, first):
+        if address in DEVICES:
+            # The word of memory behind it is one that no program loads or stores.
+            register = f"x{address:04X} is the device register {DEVICES[address]}"
+            raise ValueError(f"{place!r}: {register}, and no word of memory: leave it out")
+        yield address, _value(place, item)
 
 
 def _value(place: str, value: Any) -> int:

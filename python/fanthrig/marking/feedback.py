@@ -11,10 +11,9 @@ from typing import Iterator, Sequence
 
 from ..choices import CHOICES
 from ..telling import FileError, counted, of_os_error, plain
+from .candidates import FEEDBACK_SUFFIX as SUFFIX
 from .cases import Case
 from .marker import REFUSED, RIGHT, TOLD_BYTES, CaseResult, Result
-
-SUFFIX = ".feedback.txt"
 
 # The bytes of the longest name that a file may have.
 LONGEST_NAME = 255

@@ -50,7 +50,8 @@ class Lines:
         if self.on_terminal:
             tell(PROMPT)
         line = sys.stdin.readline()
-        return line.rstrip("\n") if line else None
+        # An editor may have begun a script with a byte order mark.
+        return line.rstrip("\n").lstrip("\ufeff") if line else None
 
     def _complete(self, begun: str, number: int) -> str | None:
         """One after the other what a word may become."""
