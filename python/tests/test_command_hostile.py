@@ -29,6 +29,7 @@ from fanthrig.command.options import parser
 from fanthrig.formats import SWAPPED, is_swapped, other_format
 
 from .command_support import ENVIRONMENT, HELLO, PYTHON, UNTIL_Q, Folder, Ran, process, ran
+from .command_support import takes_ctrl_c
 from .mark_support import lines_of
 from .support import object_file
 from .test_confined import ANSWERS, CHOSEN, USER_WORDS, is_confined, outside, random_file
@@ -94,11 +95,6 @@ def files() -> Iterator[bytes]:
     while made < COUNT:
         made += 1
         yield random_file(rng)
-
-
-def usual_ctrl_c() -> None:
-    """Has Ctrl-C end a process that is to be started, as it usually does."""
-    signal.signal(signal.SIGINT, signal.SIG_DFL)
 
 
 def refusal(file: bytes) -> str:
@@ -390,8 +386,7 @@ class Streams(Commands):
                 stdout=subprocess.DEVNULL,
                 stderr=subprocess.PIPE,
                 env=ENVIRONMENT,
-                # The tests themselves may have been started with Ctrl-C ignored.
-                preexec_fn=usual_ctrl_c,
+                preexec_fn=takes_ctrl_c,
             ) as running:
                 assert running.stderr is not None
                 self.assertIn(b"halted by HALT", running.stderr.readline())

@@ -23,7 +23,7 @@ from fanthrig.marking.report import COLUMNS, cell
 from fanthrig.running import NOBODY_READS, WAITS
 
 from . import ROOT
-from .command_support import ENVIRONMENT, PYTHON, process, ran
+from .command_support import ENVIRONMENT, PYTHON, process, ran, takes_ctrl_c
 from .mark_support import Lines, Marking, doubling, lines_of, of_kind
 from .support import object_file
 
@@ -316,7 +316,11 @@ class ByMany(Marking):
             # One that is stopped while it waits writes nothing into the line of another.
             fcntl.lockf(others, fcntl.LOCK_EX)
             with subprocess.Popen(
-                command, stdout=others, stderr=subprocess.PIPE, env=ENVIRONMENT
+                command,
+                stdout=others,
+                stderr=subprocess.PIPE,
+                env=ENVIRONMENT,
+                preexec_fn=takes_ctrl_c,
             ) as marking_one:
                 self.assertEqual(select.select([lines], [], [], 1)[0], [])
                 marking_one.send_signal(signal.SIGINT)

@@ -2,16 +2,19 @@
 
 from __future__ import annotations
 
+import fcntl
 import json
 import os
 import signal
 import subprocess
+import sys
+import termios
 import time
 import unittest
 from pathlib import Path
-from typing import IO, Any, Sequence
+from typing import IO, Callable, Sequence
 
-from .command_support import ENVIRONMENT, PYTHON, OnTerminal
+from .command_support import ENVIRONMENT, PYTHON, OnTerminal, takes_ctrl_c
 from .mark_support import Lines, Marking, doubling, lines_of, names, of_kind, verdicts
 from .support import COUNTING
 
@@ -29,7 +32,9 @@ ENDLESS = 10**12
 class Running(Marking):
     """Tests of a marking that runs as a process of its own."""
 
-    def start(self, *arguments: object, **settings: Any) -> subprocess.Popen[bytes]:
+    def start(
+        self, *arguments: object, begin: Callable[[], object] = takes_ctrl_c
+    ) -> subprocess.Popen[bytes]:
         """Starts a marking in a group of its own."""
         command = [*PYTHON, "mark", "--cases", self.cases, "--steps", ENDLESS, *arguments]
         running = subprocess.Popen(
@@ -38,7 +43,7 @@ class Running(Marking):
             stderr=subprocess.PIPE,
             env=ENVIRONMENT,
             start_new_session=True,
-            **settings,
+            preexec_fn=begin,
         )
         self.addCleanup(self.end, running)
         return running
@@ -68,6 +73,11 @@ def pipe(stream: IO[bytes] | None) -> IO[bytes]:
     """A stream of a process that is a pipe."""
     assert stream is not None
     return stream
+
+
+def waiting(stream: IO[bytes]) -> int:
+    """The bytes in a pipe that nobody has read."""
+    return int.from_bytes(fcntl.ioctl(stream, termios.FIONREAD, bytes(4)), sys.byteorder)
 
 
 class AsTheyCome(Running):
@@ -116,19 +126,27 @@ class AsTheyCome(Running):
         begun = f"until grep -q 2/2 {out}; do sleep 0.05; done"
         # The shell sends the signal to the marking alone, and tells how that ended.
         script = f"set -m; {marking} & {begun}; kill -INT $!; wait $!; echo $?"
-        ended = subprocess.run(["bash", "-c", script], env=ENVIRONMENT, capture_output=True)
+        ended = subprocess.run(
+            ["bash", "-c", script], env=ENVIRONMENT, capture_output=True, preexec_fn=takes_ctrl_c
+        )
         self.assertEqual(ended.stdout.split()[-1], b"130")
 
     def test_a_result_that_waits_for_its_turn_is_written(self) -> None:
-        # The first candidate never ends; the second is marked meanwhile, and comes at the signal.
-        running = self.start("--json", "--jobs", 2, self.count, self.right, self.right)
-        children = self.children(running, 2)
-        time.sleep(2)
-        os.killpg(running.pid, signal.SIGINT)
-        out, err = running.communicate(timeout=20)
-        self.assertEqual((running.returncode, verdicts(lines_of(out)[:-1])), (-2, ["right"] * 2))
+        # The first candidate never ends; the others are marked meanwhile, and come at the signal.
+        # Nothing tells when they are: a host with much other work is given more time.
+        for seconds in (2, 10, 30):
+            running = self.start("--json", "--jobs", 2, self.count, self.right, self.right)
+            children = self.children(running, 2)
+            time.sleep(seconds)
+            os.killpg(running.pid, signal.SIGINT)
+            out, err = running.communicate(timeout=20)
+            self.assertEqual(running.returncode, -2)
+            self.gone(children)
+            marked = verdicts(lines_of(out)[:-1])
+            if len(marked) == 2:
+                break
+        self.assertEqual(marked, ["right"] * 2)
         self.assertIn(b"2 of 3 candidates are marked", err)
-        self.gone(children)
 
     def test_a_reader_that_reads_no_more(self) -> None:
         # The pipe is full, and a signal ends the marking all the same.
@@ -136,13 +154,22 @@ class AsTheyCome(Running):
         for jobs in (1, 2):
             running = self.start("--json", "--jobs", jobs, *files)
             first = pipe(running.stdout).readline()
-            time.sleep(2)
+            self.wait_until_full(pipe(running.stdout))
             self.assertIsNone(running.poll())
             os.killpg(running.pid, signal.SIGINT)
             self.assertEqual(running.wait(20), -2)
             rest = pipe(running.stdout).read().rpartition(b"\n")[0]
             self.assertEqual(json.loads(first)["verdict"], "wrong display")
             self.assertGreater(len(lines_of(rest)), 10)
+
+    def wait_until_full(self, stream: IO[bytes]) -> None:
+        """Waits until a pipe takes no more lines: nothing is added to some tens of thousands of
+        bytes for a while."""
+        until, before = time.monotonic() + 60, -1
+        while before < 30_000 or waiting(stream) > before:
+            self.assertLess(time.monotonic(), until)
+            before = waiting(stream)
+            time.sleep(0.5)
 
     def test_a_closed_window(self) -> None:
         for jobs in (1, 2):
@@ -169,12 +196,21 @@ class AsTheyCome(Running):
         self.assertEqual(names(whole[0]), list(map(str, paths)))
 
     def test_ctrl_c_before_anything_is_marked(self) -> None:
-        # A pipe into which nothing is written.
+        # A pipe into which the cases are never written to their end.
         command = [*PYTHON, "mark", "--cases", "/dev/stdin", str(self.right)]
         with subprocess.Popen(
-            command, stdin=subprocess.PIPE, stderr=subprocess.PIPE, env=ENVIRONMENT
+            command,
+            stdin=subprocess.PIPE,
+            stderr=subprocess.PIPE,
+            env=ENVIRONMENT,
+            preexec_fn=takes_ctrl_c,
         ) as running:
-            time.sleep(1)
+            # It waits for the cases once it has taken their first byte.
+            pipe(running.stdin).write(b"[")
+            pipe(running.stdin).flush()
+            until = time.monotonic() + 60
+            while waiting(pipe(running.stdin)) and time.monotonic() < until:
+                time.sleep(0.01)
             running.send_signal(signal.SIGINT)
             self.assertEqual(running.wait(20), -2)
             said = b"lc3: stopped by Ctrl-C; nothing is marked\n"
@@ -229,9 +265,14 @@ class Killed(Running):
 
     def test_what_is_ignored_stays_ignored(self) -> None:
         count = self.file("c.obj", COUNTING)
+
         # As nohup starts it.
-        ignoring = {"preexec_fn": lambda: signal.signal(signal.SIGHUP, signal.SIG_IGN)}
-        running = self.start("--json", "--steps", 10**9, "--jobs", 2, count, count, **ignoring)
+        def ignoring() -> None:
+            """In the new process."""
+            signal.signal(signal.SIGHUP, signal.SIG_IGN)
+
+        files = (count, count)
+        running = self.start("--json", "--steps", 10**9, "--jobs", 2, *files, begin=ignoring)
         children = self.children(running, 2)
         os.killpg(running.pid, signal.SIGHUP)
         time.sleep(0.2)

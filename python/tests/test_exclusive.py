@@ -78,6 +78,7 @@ USES: dict[str, Callable[[Sitting], object]] = {
     "recording": lambda s: s.recording(),
     "save": lambda s: s.save(os.devnull),
     "last_steps": lambda s: s.last_steps(1),
+    "last_step": lambda s: s.last_step(),
     "last_program_steps": lambda s: s.last_program_steps(1),
     "last_program_clocks": lambda s: s.last_program_clocks(1),
     "ending": lambda s: s.ending,
@@ -289,7 +290,16 @@ class Handlers(unittest.TestCase):
 
     def test_a_long_run_is_ended_by_a_handler(self) -> None:
         sitting = Sitting(STORING)
-        signal.setitimer(signal.ITIMER_REAL, 0.05)
+
+        def send() -> None:
+            """Sends the signal once the run has begun, however late that is."""
+            while not sitting.clock:
+                sleep(0.01)
+            os.kill(os.getpid(), signal.SIGALRM)
+
+        thread = threading.Thread(target=send)
+        thread.start()
+        self.addCleanup(thread.join)
         with self.assertRaises(Late):
             sitting.run()
         self.assertIs(sitting.stop, Stop.INTERRUPTED)
@@ -386,8 +396,8 @@ class Handlers(unittest.TestCase):
             path = Path(folder) / "pipe.obj"
             os.mkfifo(path)
             sitting = Sitting(ECHO)
-            signal.setitimer(signal.ITIMER_REAL, 0.05)
             with self.assertRaises(Late):
+                signal.setitimer(signal.ITIMER_REAL, 0.05)
                 sitting.load(path)
         self.assertEqual(sitting.run(10).steps, 10)
 
@@ -400,11 +410,12 @@ class Handlers(unittest.TestCase):
             sitting, over = Sitting(ECHO), threading.Event()
             sitting.run(1)
             others = [Uses(sitting, random.Random(f"{seed} {n}"), over) for n in range(2)]
-            uses, until, raised = Uses(sitting, random.Random(seed), over), monotonic() + 0.3, 0
+            uses, begun, raised = Uses(sitting, random.Random(seed), over), monotonic(), 0
             for thread in others:
                 thread.start()
             signal.setitimer(signal.ITIMER_REAL, 0.0005, 0.0005)
-            while monotonic() < until:
+            # On a host with much other work it takes longer until each thread has had its turn.
+            while monotonic() < begun + (0.3 if raised and any(n.refused for n in others) else 20):
                 try:
                     self.armed = True
                     uses.use()
