@@ -40,7 +40,8 @@ _BY_CAPITALS = {name.upper(): name for name in NAMES}
 _NUMBER = re.compile(r"0?x([0-9a-f]{1,4})|#?([+-]?[0-9]{1,5})", re.IGNORECASE | re.ASCII)
 _PLACE = re.compile(r"([^+\-]+?)\s*(?:([+-])\s*(\S+))?", re.ASCII)
 _BEHIND = re.compile(r"(\S+?)\s*([+-])\s*([^+\-\s]+)", re.ASCII)
-_PART = re.compile(r"==|!=|<=|>=|=|<|>")
+# A sign; not one that stands for itself, as '=' does.
+_PART = re.compile(r"'.'|(==|!=|<=|>=|=|<|>)")
 _JOINED = re.compile(r"\b(and|or)\b", re.IGNORECASE)
 
 Labels = Mapping[str, int]
@@ -154,7 +155,7 @@ class Comparison(NamedTuple):
     @classmethod
     def of(cls, text: str, labels: Labels) -> Comparison:
         """The comparison of a text."""
-        sign = _PART.search(text)
+        sign = next((found for found in _PART.finditer(text) if found[1]), None)
         if sign is None:
             signs = ", ".join(COMPARISONS)
             raise ConditionError(f"{text.strip()!r} compares nothing: one of {signs} expected")

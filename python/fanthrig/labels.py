@@ -55,12 +55,15 @@ class Labels(Mapping[str, int]):
     @classmethod
     def of_text(cls, text: str, name: str = "") -> Labels:
         """The labels of a symbol table. Comments that have none are left out; any other line is a
-        ``LabelError``, which names it."""
+        ``LabelError``, which names it, and so is one that gives a label a second address."""
         found: dict[str, int] = {}
         for number, line in enumerate(text.splitlines(), 1):
             label = _LABEL.fullmatch(line)
             if label:
-                found.setdefault(label[1], int(label[2], 16))
+                address = int(label[2], 16)
+                if found.setdefault(label[1], address) != address:
+                    problem = f"{label[1]} has another address in a line before"
+                    raise LabelError(f"{name}: refused: line {number}, column 1: {problem}")
             elif line.strip() and not line.startswith("//"):
                 problem = "a label and its address in four hexadecimal digits expected"
                 raise LabelError(f"{name}: refused: line {number}, column 1: {problem}")

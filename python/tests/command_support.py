@@ -19,6 +19,7 @@ from typing import Any, NamedTuple
 from unittest import mock
 
 from fanthrig.command import main
+from fanthrig.running import NOTICED
 
 from . import ROOT
 from .support import object_file
@@ -43,10 +44,11 @@ PYTHON = [sys.executable, "-m", "fanthrig"]
 ENVIRONMENT = {**os.environ, "PYTHONPATH": str(ROOT / "python")}
 
 
-def takes_ctrl_c() -> None:
-    """In a new process: Ctrl-C is not ignored, though the tests may run where it is, as in the
-    background of a shell."""
-    signal.signal(signal.SIGINT, signal.SIG_DFL)
+def takes_signals() -> None:
+    """In a new process: no signal that ends a process is ignored, though the tests may run where
+    some are, as in the background of a shell or under nohup."""
+    for number in NOTICED:
+        signal.signal(number, signal.SIG_DFL)
 
 
 class Ran(NamedTuple):
@@ -129,7 +131,7 @@ class OnTerminal:
         """In the new process: the terminal is to be the one that sends the signals of its keys and
         of its closing."""
         fcntl.ioctl(0, termios.TIOCSCTTY, 0)
-        takes_ctrl_c()
+        takes_signals()
 
     def __enter__(self) -> OnTerminal:
         """The command runs."""

@@ -423,6 +423,21 @@ class Events(unittest.TestCase):
         sitting.run(until=[At(0x3001)])
         self.assertEqual(sitting.over().stop, fanthrig.Stop.HALTED)
 
+    def test_every_sign(self) -> None:
+        sitting, values = Sitting(BUSY), (0, 1, -1, 61, 0x7FFF, -0x8000)
+        signs = {"==": "==", "=": "==", "!=": "!=", "<": "<", "<=": "<=", ">": ">", ">=": ">="}
+        for left in values:
+            for right in values:
+                sitting["R0"], sitting["x4000"] = left, right
+                for sign, python in signs.items():
+                    held = eval(f"{left} {python} {right}")
+                    for text in (f"R0 {sign} [x4000]", f"R0{sign}{right}", f"{left}{sign}#{right}"):
+                        self.assertEqual(Condition.of(text).holds(sitting._machine), held, text)
+        # A sign between quotes is a character.
+        sitting["R0"] = ord("=")
+        for text in ("R0 == '='", "'=' == R0", "'<'<R0", "'=' = '=' and ' ' != R0"):
+            self.assertTrue(Condition.of(text).holds(sitting._machine), text)
+
     def test_what_is_no_condition(self) -> None:
         texts = ("", "R0", "R9 == 1", "R0 == ", "[x4000", "R0 == 70000", "R0 = 1 and", "[R0+y] = 1")
         for text in texts:

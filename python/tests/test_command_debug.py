@@ -23,7 +23,7 @@ from fanthrig.command.terminal import Display
 
 from . import ROOT
 from .command_support import ENDLESS, ENVIRONMENT, HELLO, PYTHON, UNTIL_Q, Folder, OnTerminal
-from .command_support import process, ran, takes_ctrl_c
+from .command_support import process, ran, takes_signals
 from .support import COUNTING, ECHO, object_file
 from .test_back import BUSY
 
@@ -401,7 +401,7 @@ class OnPrompt(Folder):
                 stdout=subprocess.PIPE,
                 stderr=subprocess.PIPE,
                 env=ENVIRONMENT,
-                preexec_fn=takes_ctrl_c,
+                preexec_fn=takes_signals,
             ) as running:
                 assert running.stdin and running.stdout and running.stderr
                 running.stdin.write(lines)

@@ -29,7 +29,7 @@ from fanthrig.command.options import parser
 from fanthrig.formats import SWAPPED, is_swapped, other_format
 
 from .command_support import ENVIRONMENT, HELLO, PYTHON, UNTIL_Q, Folder, Ran, process, ran
-from .command_support import takes_ctrl_c
+from .command_support import takes_signals
 from .mark_support import lines_of
 from .support import object_file
 from .test_confined import ANSWERS, CHOSEN, USER_WORDS, is_confined, outside, random_file
@@ -386,7 +386,7 @@ class Streams(Commands):
                 stdout=subprocess.DEVNULL,
                 stderr=subprocess.PIPE,
                 env=ENVIRONMENT,
-                preexec_fn=takes_ctrl_c,
+                preexec_fn=takes_signals,
             ) as running:
                 assert running.stderr is not None
                 self.assertIn(b"halted by HALT", running.stderr.readline())

@@ -23,7 +23,7 @@ from fanthrig.marking.report import COLUMNS, cell
 from fanthrig.running import NOBODY_READS, WAITS
 
 from . import ROOT
-from .command_support import ENVIRONMENT, PYTHON, process, ran, takes_ctrl_c
+from .command_support import ENVIRONMENT, PYTHON, process, ran, takes_signals
 from .mark_support import Lines, Marking, doubling, lines_of, of_kind
 from .support import object_file
 
@@ -320,7 +320,7 @@ class ByMany(Marking):
                 stdout=others,
                 stderr=subprocess.PIPE,
                 env=ENVIRONMENT,
-                preexec_fn=takes_ctrl_c,
+                preexec_fn=takes_signals,
             ) as marking_one:
                 self.assertEqual(select.select([lines], [], [], 1)[0], [])
                 marking_one.send_signal(signal.SIGINT)

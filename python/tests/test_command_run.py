@@ -12,7 +12,7 @@ import fanthrig
 from fanthrig import Sitting
 
 from .command_support import ENDLESS, ENVIRONMENT, HELLO, PYTHON, UNTIL_Q, Folder, process, ran
-from .command_support import takes_ctrl_c
+from .command_support import takes_signals
 from .support import COUNTING, ECHO, Words, object_file
 
 
@@ -399,7 +399,7 @@ class Processes(Folder):
                 stdout=subprocess.PIPE,
                 stderr=subprocess.PIPE,
                 env=ENVIRONMENT,
-                preexec_fn=takes_ctrl_c,
+                preexec_fn=takes_signals,
             ) as running:
                 assert running.stdout and running.stderr
                 self.assertEqual(running.stdout.read(1), b"\0")

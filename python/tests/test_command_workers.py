@@ -14,7 +14,7 @@ import unittest
 from pathlib import Path
 from typing import IO, Callable, Sequence
 
-from .command_support import ENVIRONMENT, PYTHON, OnTerminal, takes_ctrl_c
+from .command_support import ENVIRONMENT, PYTHON, OnTerminal, takes_signals
 from .mark_support import Lines, Marking, doubling, lines_of, names, of_kind, verdicts
 from .support import COUNTING
 
@@ -33,7 +33,7 @@ class Running(Marking):
     """Tests of a marking that runs as a process of its own."""
 
     def start(
-        self, *arguments: object, begin: Callable[[], object] = takes_ctrl_c
+        self, *arguments: object, begin: Callable[[], object] = takes_signals
     ) -> subprocess.Popen[bytes]:
         """Starts a marking in a group of its own."""
         command = [*PYTHON, "mark", "--cases", self.cases, "--steps", ENDLESS, *arguments]
@@ -127,7 +127,7 @@ class AsTheyCome(Running):
         # The shell sends the signal to the marking alone, and tells how that ended.
         script = f"set -m; {marking} & {begun}; kill -INT $!; wait $!; echo $?"
         ended = subprocess.run(
-            ["bash", "-c", script], env=ENVIRONMENT, capture_output=True, preexec_fn=takes_ctrl_c
+            ["bash", "-c", script], env=ENVIRONMENT, capture_output=True, preexec_fn=takes_signals
         )
         self.assertEqual(ended.stdout.split()[-1], b"130")
 
@@ -203,7 +203,7 @@ class AsTheyCome(Running):
             stdin=subprocess.PIPE,
             stderr=subprocess.PIPE,
             env=ENVIRONMENT,
-            preexec_fn=takes_ctrl_c,
+            preexec_fn=takes_signals,
         ) as running:
             # It waits for the cases once it has taken their first byte.
             pipe(running.stdin).write(b"[")

@@ -215,7 +215,8 @@ class Feedback(Forms):
         self.assertEqual(len(written), 4)
         self.assertIn("right.obj-2.feedback.txt", written)
         blocked = self.file("file", "")
-        self.assertEqual(self.mark("--feedback", blocked, top)[:2], (3, b""))
+        said = f"lc3: {blocked}: it is a file, and no folder: name another\n"
+        self.assertEqual(self.mark("--feedback", blocked, top), (3, b"", said))
         self.assertEqual(self.mark("--feedback", blocked / "below", top).code, 3)
 
     def test_names_that_candidates_chose(self) -> None:
@@ -325,7 +326,11 @@ class Resume(Forms):
             done = self.mark("--json", "--resume", before, self.top / "ada")
             self.assertEqual((done.code, done.err), (0, ""), content[:50])
             self.assertEqual(lines_of(done.out)[-1]["resumed"], 0)
-        self.assertEqual(self.mark("--resume", self.folder / "none", self.top).code, 3)
+        os.mkfifo(self.folder / "pipe")
+        for path in (self.folder / "none", self.folder, self.folder / "pipe", "/dev/zero"):
+            done = self.mark("--resume", path, self.top)
+            self.assertEqual((done.code, done.out), (3, b""))
+            self.assertIn(f"lc3: {path}: ", done.err)
 
     def test_not_onto_itself(self) -> None:
         before = self.file("before.jsonl", self.mark("--json", self.top).out)

@@ -266,6 +266,11 @@ class Symbols(Folder):
         self.assertIn("its labels are left out", done.err)
         self.assertEqual(ran("run", "--symbols", beside, self.show).code, 3)
         self.assertEqual(ran("run", "--symbols", self.folder / "none.sym", self.show).code, 3)
+        beside.write_text("// A 3000\n// B 3000\n// A 3000\n")
+        self.assertIn("PC x3002 (A+2): ", ran("run", self.show).err)
+        beside.write_text("// A 3000\n// A 3001\n")
+        said = "line 2, column 1: A has another address in a line before: its labels are left out"
+        self.assertIn(said, ran("run", self.show).err)
         beside.write_bytes(SYMBOLS.encode("utf-16"))
         self.assertIn("show.sym: refused: it is text in UTF-16", ran("run", self.show).err)
         beside.write_bytes(b"\xef\xbb\xbf" + SYMBOLS.encode())

@@ -116,6 +116,8 @@ class FeedbackFolder:
         self._taken: set[str] = set()
         try:
             os.makedirs(folder, exist_ok=True)
+        except FileExistsError:
+            raise FileError(f"{folder}: it is a file, and no folder: name another") from None
         except OSError as error:
             raise FileError(of_os_error(error)) from None
 

@@ -8,13 +8,17 @@ import os
 from dataclasses import fields
 from typing import Any, TypeVar
 
-from ..telling import FileError, of_os_error
+from ..telling import FileError
 from .audit import Audit, sha256
 from .candidates import candidate_file
 from .comparing import Difference
 from .contents import Mismatch
 from .flags import Flag
 from .marker import CaseResult, Result
+from .regular import opened
+
+# The bytes of a line that are looked at together: a longer one is no result.
+LONGEST_LINE = 1 << 26
 
 _Made = TypeVar("_Made", Result, CaseResult, Flag, Difference, Mismatch)
 
@@ -35,14 +39,11 @@ def results_of(path: str, audit: Audit) -> dict[str, Result]:
     line that was cut off; of two results the first counts.
     """
     results: dict[str, Result] = {}
-    try:
-        with open(path, "rb") as stream:
-            for line in stream:
-                result = _result(line, audit)
-                if result is not None:
-                    results.setdefault(result.candidate, result)
-    except OSError as error:
-        raise FileError(of_os_error(error)) from None
+    with opened(path, links=True, pipes=True) as stream:
+        for line in iter(lambda: stream.readline(LONGEST_LINE), b""):
+            result = _result(line, audit)
+            if result is not None:
+                results.setdefault(result.candidate, result)
     return results
 
 
