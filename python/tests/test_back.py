@@ -12,6 +12,7 @@ import fanthrig
 from fanthrig import At, Changed, Condition, ConditionError, Holds, Sitting, Written
 from fanthrig.machine import Snapshot
 from fanthrig.past import Mark
+from fanthrig.routines import Over
 from fanthrig.snapshots import MARK_EVERY, thinned
 from fanthrig.steps import NAMES
 
@@ -42,6 +43,25 @@ BUSY = object_file(
     0,
     0x4000,
 )
+
+
+def calling(seed: int, edition: int) -> Sitting:
+    """A sitting at random code with many calls, traps, returns and branches, whose vectors lead
+    into it."""
+    rng = random.Random(seed)
+    words = ("ADD R0, R0, #1", "AND R0, R0, #0", "ST R0, #5", "RET", "RTI")
+    file = [rng.choice(words) for _ in range(20)]
+    file += [f"JSR #{rng.randrange(-8, 12)}" for _ in range(8)]
+    file += [f"TRAP x0{rng.randrange(4)}" for _ in range(6)]
+    file += [f"BR{rng.choice(['nzp', 'p'])} #{rng.randrange(-6, 6)}" for _ in range(6)]
+    rng.shuffle(file)
+    code = object_file(0x3000, *file)
+    mode = fanthrig.Mode.SUPERVISOR
+    sitting = Sitting(code, anywhere=True, monitor=False, edition=edition, mode=mode)
+    for vector in (*range(4), *range(0x100, 0x104)):
+        sitting.memory[vector] = 0x3000 + rng.randrange(len(file))
+    sitting["R6"] = 0x5000
+    return sitting
 
 
 def random_sitting(rng: random.Random, edition: int = 3) -> Sitting:
@@ -422,6 +442,29 @@ class Events(unittest.TestCase):
         self.assertEqual((sitting["PC"], sitting.back_over()), (0x3007, inner))
         sitting.run(until=[At(0x3001)])
         self.assertEqual(sitting.over().stop, fanthrig.Stop.HALTED)
+
+    def test_many_over_are_those_one_after_the_other(self) -> None:
+        compared = 0
+        for seed in range(40):
+            rng = random.Random(seed)
+            edition, count, piece = rng.choice([2, 3]), rng.randrange(2, 30), rng.choice([7, 9999])
+            sitting, other = calling(seed, edition), calling(seed, edition)
+            made = 0
+            while made < count and sitting.step().steps:
+                over = Over(sitting.last_steps(1)[0], sitting.edition)
+                if not over.made:
+                    sitting.run(9999, until=[over], here=True)
+                    if sitting.event is not over:
+                        break
+                made += 1
+            if made == count:
+                other.step()
+                over = Over(other.last_steps(1)[0], other.edition, count)
+                while other.event is not over and other.clock <= sitting.clock:
+                    other.run(piece, until=[over], here=True)
+                self.assertEqual((other.clock, other["PC"]), (sitting.clock, sitting["PC"]), seed)
+                compared += 1
+        self.assertGreater(compared, 10)
 
     def test_every_sign(self) -> None:
         sitting, values = Sitting(BUSY), (0, 1, -1, 61, 0x7FFF, -0x8000)
