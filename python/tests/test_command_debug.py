@@ -16,9 +16,11 @@ import unittest
 from unittest import mock
 
 import fanthrig
+from fanthrig.command.debug import _interact
 from fanthrig.command.debugger.commands import Debugger
 from fanthrig.command.debugger.console import Console
 from fanthrig.command.debugger.motion import HOW_TO_TYPE, Wrong
+from fanthrig.command.messages import Code
 from fanthrig.command.terminal import Display
 
 from . import ROOT
@@ -390,6 +392,27 @@ class OnPrompt(Folder):
             shown.press(b"quit\n")
             self.assertEqual(shown.process.wait(20), 0)
             self.assertNotIn(b"Traceback", shown.seen)
+
+    def test_ctrl_c_between_two_commands(self) -> None:
+        debugger, console = Debugger(fanthrig.Sitting(BUSY), {}, Console()), Console()
+        left = [KeyboardInterrupt, KeyboardInterrupt]
+
+        def interact(*_: object) -> Code:
+            """Is interrupted twice, and then ends."""
+            if left:
+                raise left.pop()
+            debugger.ended = True
+            return Code.HALTED
+
+        with mock.patch("fanthrig.command.debug.interact", interact):
+            with mock.patch("fanthrig.command.debug._is_terminal", return_value=True):
+                self.assertEqual(_interact(debugger, console), Code.HALTED)
+            self.assertEqual(left, [])
+            # Nobody is there to give the next command.
+            left.append(KeyboardInterrupt)
+            debugger.ended = False
+            with mock.patch("fanthrig.command.debug._is_terminal", return_value=False):
+                self.assertRaises(KeyboardInterrupt, _interact, debugger, console)
 
     def test_ctrl_c_ends_a_script(self) -> None:
         shows = self.file("shows.obj", SHOWS)
