@@ -14,8 +14,10 @@ import select
 import shutil
 import signal
 import subprocess
+import time
 import unittest
 from datetime import datetime, timezone
+from pathlib import Path
 from typing import Any
 
 import fanthrig
@@ -279,6 +281,12 @@ class Streams(Marking):
         self.assertIn(b"\\u4e2d\xe9.obj", ended.stdout)
 
 
+def catches(pid: int, number: int) -> bool:
+    """Whether a process has a handler of its own for a signal."""
+    status = Path(f"/proc/{pid}/status").read_text()
+    return bool(int(status.partition("SigCgt:")[2].split()[0], 16) >> number - 1 & 1)
+
+
 class ByMany(Marking):
     """One line each, by processes that share their output."""
 
@@ -322,6 +330,10 @@ class ByMany(Marking):
                 env=ENVIRONMENT,
                 preexec_fn=takes_signals,
             ) as marking_one:
+                # It has begun to notice signals before it comes to the line.
+                until = time.monotonic() + 60
+                while not catches(marking_one.pid, signal.SIGTERM) and time.monotonic() < until:
+                    time.sleep(0.01)
                 self.assertEqual(select.select([lines], [], [], 1)[0], [])
                 marking_one.send_signal(signal.SIGINT)
                 self.assertEqual(marking_one.wait(20), -signal.SIGINT)
