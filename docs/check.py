@@ -2,8 +2,8 @@
 """Checks what the documents say of the files beside them, and exits 1 with a line for each
 difference.
 
-- Each wrong program, crates/CRATE/must-fail/NAME.edit, stands once in the tables of docs/PROOFS.md
-  whose first heading is Edit, as `CRATE/NAME`; and these tables name no other.
+- Each wrong program, crates/CRATE/must-fail/NAME.edit, has a comment, and stands once in the tables
+  of docs/PROOFS.md that docs/wrong_programs.py makes of these comments.
 - Each rule that a document, a crate, the header, the Rust wrapper or the Python module cites (M4.1)
   is in docs/MACHINE.md, once.
 - Each crate is in docs/ARCHITECTURE.md, and crates.txt and the folders of crates/ have the same.
@@ -16,9 +16,9 @@ import re
 import sys
 from collections import Counter
 from pathlib import Path
-from typing import Iterator
 
-EDIT = re.compile(r"`([^`]*)`")
+from wrong_programs import differences
+
 RULE = re.compile(r"\bM\d+\.\d+\b")
 DEFINED_RULE = re.compile(r"\*\*(M\d+\.\d+)\*\*")
 CRATE = re.compile(r"\w+:")
@@ -31,35 +31,6 @@ CITING = (
     "host/**/src/*.rs",
     "python/*/*.py",
 )
-
-
-def rows(markdown: str) -> Iterator[list[str]]:
-    """The cells of each row, its table's first heading put before them."""
-    heading = None
-    for line in markdown.splitlines():
-        if not line.startswith("|"):
-            heading = None
-            continue
-        cells = [cell.strip() for cell in line.strip("|").split("|")]
-        if heading is None:
-            heading = cells[0]
-        elif set(cells[0]) - set("-:"):
-            yield [heading, *cells]
-
-
-def edits(root: Path) -> list[str]:
-    """Differences between the must-fail edits and those that PROOFS.md lists."""
-    text = (root / "docs/PROOFS.md").read_text(encoding="utf-8")
-    first_cells = [first for heading, first, *_ in rows(text) if heading == "Edit"]
-    listed = Counter(name for cell in first_cells for name in EDIT.findall(cell))
-    files = {f"{path.parts[-3]}/{path.stem}" for path in root.glob("crates/*/must-fail/*.edit")}
-    missing, unknown = sorted(files - listed.keys()), sorted(listed.keys() - files)
-    repeated = [(name, count) for name, count in sorted(listed.items()) if count > 1]
-    return (
-        [f"docs/PROOFS.md: no table of edits has {name}" for name in missing]
-        + [f"docs/PROOFS.md: no must-fail edit is named {name}" for name in unknown]
-        + [f"docs/PROOFS.md: {name} stands {count} times" for name, count in repeated]
-    )
 
 
 def rules(root: Path, documents: list[Path]) -> list[str]:
@@ -113,7 +84,7 @@ def main() -> int:
     """Checks the documents of a repository."""
     root = Path(sys.argv[1] if len(sys.argv) > 1 else Path(__file__).parent.parent).resolve()
     documents = [*sorted(root.glob("*.md")), *sorted(root.glob("docs/**/*.md"))]
-    found = edits(root) + crates(root) + rules(root, documents) + links(root, documents)
+    found = differences(root) + crates(root) + rules(root, documents) + links(root, documents)
     for line in found:
         print(line, file=sys.stderr)
     if not found:

@@ -138,7 +138,7 @@ fn commented(path: &str, comment: &str) -> Vec<Line> {
 
 #[test]
 fn the_sources_have_the_lines_of_the_listing() {
-    assert_eq!(commented("crates/monitor/src/listing.rt", "//"), listing());
+    assert_eq!(commented("crates/installer/src/listing.rt", "//"), listing());
     let defined = commented("crates/monitor/specs/Routines.antt", "--");
     assert_eq!(defined.len(), MONITOR_WORDS - VECTOR_WORDS);
     for (defined, listed) in defined.iter().zip(listing()) {

@@ -44,7 +44,7 @@ fn introduce() {
 
 // Starts the answers and then the candidate's program, whose record is the one to run.
 fn start_all(memory: &mut [u16]) -> Machine {
-    monitor::install(memory);
+    installer::install(memory);
     print(b"Object files, of which the last is run:\n");
     tell(&ANSWERS, start_file(&ANSWERS, memory, false));
     let started = start_file(&CANDIDATE, memory, true);
@@ -54,7 +54,7 @@ fn start_all(memory: &mut [u16]) -> Machine {
 
 // The same with these answers, and nothing said.
 fn start_sitting(memory: &mut [u16], answers: &[u8]) -> Machine {
-    monitor::install(memory);
+    installer::install(memory);
     start_file(answers, memory, false);
     let started = start_file(&CANDIDATE, memory, true);
     started.machine
@@ -97,7 +97,7 @@ fn in_steps() -> Machine {
 // What the attack shows where it is loaded all the same, beside these answers.
 fn stolen(answers: &[u8]) -> u8 {
     let mut memory = [0u16; 65536];
-    monitor::install(&mut memory);
+    installer::install(&mut memory);
     start_file(answers, &mut memory, false);
     let started = start_file(&ATTACK, &mut memory, false);
     let mut shown = [0u8; 1];

@@ -61,7 +61,7 @@ pub extern "C" fn lc3_run_logged(
         ≡ loggedAnswerOf (loggedCallOf (startOf m (now (memory .entry)) (now (times .entry)) (now (bytes .entry))
         (now (output .entry))) (now (log .entry)) n) ⌝ }
 {
-    let a = logging::run_logged(m, memory, times, bytes, output, log, n);
+    let a = logger::run_logged(m, memory, times, bytes, output, log, n);
     let machine = a.machine;
     let logged = a.ending;
     let ending = run_ending(logged);

@@ -10,7 +10,7 @@ ghost use Rattle.monitor.specs.Install.{filling, vectorsOf, installOf};
 pub extern "C" fn lc3_monitor(memory: &mut [u16]) -> u32
     ensures { λ r. ⌜ filling r (now (memory .exit)) ≡ installOf (now (memory .entry)) ⌝ }
 {
-    monitor::install(memory) as u32
+    installer::install(memory) as u32
 }
 
 // Where the monitor's routines are.
@@ -18,7 +18,7 @@ pub extern "C" fn lc3_monitor(memory: &mut [u16]) -> u32
 pub extern "C" fn lc3_monitor_routines() -> Routines
     ensures { λ r. ⌜ r ≡ ours ⌝ }
 {
-    monitor::ours()
+    installer::ours()
 }
 
 // Writes the words x0000 to x01FF for these routines to the start of a lent buffer, and answers likewise.
@@ -26,5 +26,5 @@ pub extern "C" fn lc3_monitor_routines() -> Routines
 pub extern "C" fn lc3_vectors(routines: Routines, words: &mut [u16]) -> u32
     ensures { λ r. ⌜ filling r (now (words .exit)) ≡ vectorsOf routines (now (words .entry)) ⌝ }
 {
-    monitor::vectors(routines, words) as u32
+    installer::vectors(routines, words) as u32
 }

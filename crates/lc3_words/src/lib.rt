@@ -9,7 +9,7 @@ use unflat::to_signed;
 use unflat::to_unsigned;
 use unflat::unflatten;
 use word::masks::read_with_mask;
-use word::writing::write;
+use writing::write;
 ghost use mathlib.Core.Path.{_≡_};
 ghost use Rattle.word.specs.Mask.{readWithMaskOf};
 ghost use Rattle.lc3_words.specs.Flat.{flatReadOf};

@@ -23,7 +23,7 @@ use Rattle.word.proofs.Ranges.{read-in-range, written-in-range}
 use Rattle.word.proofs.WriteAfterRead.{write-after-read}
 use Rattle.text.specs.Characters.{space, dot, A, B, D, E, I, J, L, M, N, O, P, R, S, T, lowerN, lowerZ, lowerP}
 use Rattle.text.specs.Operands.{register, digits, decimal, hexByte}
-use Rattle.text.specs.Statement.{statement, fillLine, trapLine, branchLine}
+use Rattle.mnemonics.specs.Statement.{statement, fillLine, trapLine, branchLine}
 use Rattle.line.specs.Line.{instructionLine, lineOf}
 use Rattle.line.specs.Theorems.{DistinctWordsGiveDistinctLines, ExampleLine}
 use Rattle.line.proofs.ReadingBack.{digitOf, digit-back, signedFrom, signed-back, hexOf, hex-back}

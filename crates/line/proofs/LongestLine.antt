@@ -19,7 +19,7 @@ use Rattle.word.proofs.SignedFields.{within-bound}
 use Rattle.word.proofs.Ranges.{read-in-range}
 use Rattle.text.specs.Characters.{lineFeed, space, E, J, M, P, R, T, lowerN, lowerZ, lowerP}
 use Rattle.text.specs.Operands.{digit, decimal, register, signedDigits, signedNumber}
-use Rattle.text.specs.Statement.{statement, code, codes, fillLine, branchLine}
+use Rattle.mnemonics.specs.Statement.{statement, code, codes, fillLine, branchLine}
 use Rattle.line.specs.Line.{instructionLine, lineOf}
 use Rattle.line.specs.Theorems.{LongestLine}
 use Rattle.text.proofs.Decimal.{last-digit, digits-before}

@@ -13,7 +13,7 @@ use Rattle.word.specs.Mask.{maskOf}
 use Rattle.word.specs.declared.Instruction.{Instruction}
 use Rattle.word.proofs.Opcodes.{form, Below, _&_, each}
 use Rattle.word.proofs.MaskLaws.{mask-is-zero-exactly}
-use Rattle.text.specs.Statement.{fillLine}
+use Rattle.mnemonics.specs.Statement.{fillLine}
 use Rattle.line.specs.Line.{instructionLine, lineOf}
 use Rattle.line.specs.Shapes.{properLines, properLine}
 

@@ -11,7 +11,7 @@ use Rattle.word.specs.declared.Instruction.the-variants.{AndImmediate, Ldr, Str
 use Rattle.word.specs.declared.Instruction.the-variants.{Trap}
 use Rattle.text.specs.Characters.{A, D, E, I, J, L, M, N, O, P, R, S, T}
 use Rattle.text.specs.Operands.{register, signedNumber}
-use Rattle.text.specs.Statement.{statement, fillLine, trapLine, branchLine}
+use Rattle.mnemonics.specs.Statement.{statement, fillLine, trapLine, branchLine}
 
 -- the line of the instruction that the word w reads as. RET is JMP R7. A BR that tests nothing and a reserved word are
 -- data

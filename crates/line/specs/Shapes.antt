@@ -9,7 +9,7 @@ use Rattle.word.specs.Field.{field}
 use Rattle.word.specs.Reading.{bits11to9, bits8to6, bits2to0, opcode, bit5, bit11}
 use Rattle.text.specs.Characters.{A, D, E, I, J, L, M, N, O, P, R, S, T}
 use Rattle.text.specs.Operands.{register, signedNumber}
-use Rattle.text.specs.Statement.{statement, fillLine, trapLine, branchLine}
+use Rattle.mnemonics.specs.Statement.{statement, fillLine, trapLine, branchLine}
 
 -- LD, LDI, LEA, ST and STI
 abbrev pub relativeLine : List ℕ → ℕ → List ℕ

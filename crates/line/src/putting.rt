@@ -1,14 +1,14 @@
 // The line of a word put at a place of the output: each character goes straight to its place.
+use mnemonics::put_branch;
+use mnemonics::put_fill;
+use mnemonics::put_offset;
+use mnemonics::put_one;
+use mnemonics::put_one_offset;
+use mnemonics::put_three;
+use mnemonics::put_trap;
+use mnemonics::put_two;
+use mnemonics::put_two_offset;
 use text::characters::put_text;
-use text::statement::put_branch;
-use text::statement::put_fill;
-use text::statement::put_offset;
-use text::statement::put_one;
-use text::statement::put_one_offset;
-use text::statement::put_three;
-use text::statement::put_trap;
-use text::statement::put_two;
-use text::statement::put_two_offset;
 use word::fields::bits2to0;
 use word::fields::bits8to6;
 use word::fields::bits11to9;

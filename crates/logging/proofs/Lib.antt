@@ -1,6 +1,5 @@
--- The laws of logged runs and of the loop over their steps, and the proofs of the theorems.
+-- The laws of logged runs, and the proofs of the theorems.
 pub mod LoggedLaws
-pub mod LoopLaws
 pub mod BesideTheRun
 pub mod LogSplits
 pub mod TwoLogs

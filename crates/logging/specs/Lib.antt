@@ -2,7 +2,6 @@
 pub mod Log
 pub mod LoggedRun
 pub mod LoggedCall
-pub mod Stepping
 pub mod BesideTheRun
 pub mod LogSplits
 pub mod TwoLogs

@@ -20,7 +20,6 @@ addresses = record {
   sums-wrap = refl;
   privileged-addresses = refl;
   access-exceptions = refl;
-  no-exception-otherwise = refl;
 }
 
 instructions : Instructions

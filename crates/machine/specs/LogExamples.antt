@@ -23,26 +23,16 @@ abbrev pub supervisor : ℕ → List Fact → List ℕ
 supervisor w facts = told w (applied facts supervisorMode)
 
 pub record LogExamplesHold : Type 0 where
-  -- "0 instruction": ADD; BR; a store over the instruction itself, which is logged as it was fetched; RTI
-  pub instruction-0 : user 0x1021 [] ≡ 0x1021 ∷ 0 ∷ []
+  -- "0 instruction": BR and RTI. ADD, and a store over the instruction itself, with 2 and 4 in UserMode (crate
+  -- machine_examples)
   pub zero-fetched : user 0x0000 [] ≡ 0x0000 ∷ 0 ∷ []
-  pub word-before-the-step : user 0x31FF [] ≡ 0x31FF ∷ 0 ∷ []
   pub return-0 : supervisor 0x8000 [] ≡ 0x8000 ∷ 0 ∷ []
-  -- "1 trap, 2 privilege, 3 illegal", in either mode where they can be
-  pub trap-1 : user 0xF025 [] ≡ 0xF025 ∷ 1 ∷ []
-  pub trap-1-again : supervisor 0xF025 [] ≡ 0xF025 ∷ 1 ∷ []
-  pub privilege-2 : user 0x8000 [] ≡ 0x8000 ∷ 2 ∷ []
-  pub illegal-3 : user 0xD123 [] ≡ 0xD123 ∷ 3 ∷ []
-  pub illegal-3-again : supervisor 0xD123 [] ≡ 0xD123 ∷ 3 ∷ []
-  -- "4 access": by the data access of LDR and STR, by the pointer of LDI and by what it points to
-  pub load-4 : user 0x6040 (R 1 0xFE02 ∷ []) ≡ 0x6040 ∷ 4 ∷ []
-  pub store-4 : user 0x7040 (R 1 0x2FFF ∷ []) ≡ 0x7040 ∷ 4 ∷ []
-  pub pointer-4 : user 0xA1FE [] ≡ 0xA1FE ∷ 4 ∷ []
-  pub pointed-4 : user 0xA001 (word 0x3002 0x0000 ∷ []) ≡ 0xA001 ∷ 4 ∷ []
-  -- "0 if none, as .. where the fetch itself raises the access exception": at both ends; not in Supervisor mode
+  -- "1 trap, .. 3 illegal"
+  pub trap-1 : supervisor 0xF025 [] ≡ 0xF025 ∷ 1 ∷ []
+  pub illegal-3 : supervisor 0xD123 [] ≡ 0xD123 ∷ 3 ∷ []
+  -- "0 if none, as .. where the fetch itself raises the access exception": at both ends
   pub fetch-4 : user 0x1021 (PC 0x2FFF ∷ []) ≡ 0 ∷ 4 ∷ []
   pub fetch-4-above : user 0x1021 (PC 0xFE00 ∷ []) ≡ 0 ∷ 4 ∷ []
-  pub fetched-below : supervisor 0x1021 (PC 0x2FFF ∷ []) ≡ 0x1021 ∷ 0 ∷ []
   -- "5 keyboard", and "0 if none, as at an interrupt": by a key that arrives in the step, and before the fetch is
   -- checked
   pub keyboard-5 : user 0x1021 (PSR 0x8305 ∷ []) ≡ 0 ∷ 5 ∷ []

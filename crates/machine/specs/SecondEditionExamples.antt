@@ -6,7 +6,7 @@ use Prim.Native.Nat.{ℕ}
 use Rattle.machine.specs.Edition.{second}
 use Rattle.machine.specs.Outcome.{privilege, illegal}
 use Rattle.machine.specs.Devices.{isDeviceBy}
-use Rattle.machine.specs.Rows.{R, PC, PSR, Saved-USP, KBSR, TSR, word, reads, shows, enters, interruptsBy}
+use Rattle.machine.specs.Rows.{R, PC, PSR, Saved-USP, TSR, word, reads, enters, interruptsBy}
 use Rattle.machine.specs.Rows.{interrupts, Fact, Row, userBy, supervisorBy, Hold}
 
 abbrev pub user : ℕ → List Fact → List Fact → Row
@@ -29,22 +29,11 @@ pub record SecondEditionRulesHold : Type 0 where
       (user 0xF0AF (word 0x00AF 0x0A00 ∷ []) (reads 0x00AF ∷ R 7 0x3001 ∷ PC 0x0A00 ∷ [])  -- TRAP xAF
       ∷ supervisor 0xF0AF (word 0x00AF 0x0A00 ∷ []) (reads 0x00AF ∷ R 7 0x0401 ∷ PC 0x0A00 ∷ [])  -- TRAP xAF
       ∷ [])
-  -- "No access exception exists": for a fetch, a load, a store, a pointer and what it points to. In User mode too a
-  -- device register is reached.
+  -- "No access exception exists": for a fetch. For a load, a store, a pointer and what it points to in UserMode (crate
+  -- machine_examples).
   pub user-mode-reaches-every-address :
       Hold
       (user 0x1A6F (PC 0x2FFF ∷ []) (R 5 0x5A4B ∷ PSR 0x8501 ∷ [])  -- ADD R5, R1, #15
-      ∷ user 0x6040 (R 1 0x0000 ∷ word 0x0000 0x9ABC ∷ [])  -- LDR R0, R1, #0
-      (reads 0x0000 ∷ R 0 0x9ABC ∷ PSR 0x8504 ∷ [])
-      ∷ user 0x6040 (R 1 0xFE02 ∷ []) (R 0 0x0055 ∷ PSR 0x8501 ∷ KBSR 0x4000 ∷ [])  -- LDR R0, R1, #0: KBDR
-      ∷ user 0x7040 (R 1 0x2FFF ∷ []) (word 0x2FFF 0x0F1E ∷ [])  -- STR R0, R1, #0
-      ∷ user 0x7040 (R 1 0xFE06 ∷ []) (shows 0x1E ∷ [])  -- STR R0, R1, #0: DDR
-      ∷ user 0xA7FE (word 0x2FFF 0x3100 ∷ word 0x3100 0x9ABC ∷ [])  -- LDI R3, #-2
-      (reads 0x2FFF ∷ reads 0x3100 ∷ R 3 0x9ABC ∷ PSR 0x8504 ∷ [])
-      ∷ user 0xA610 (word 0x3011 0x0100 ∷ word 0x0100 0x9ABC ∷ [])  -- LDI R3, #16
-      (reads 0x3011 ∷ reads 0x0100 ∷ R 3 0x9ABC ∷ PSR 0x8504 ∷ [])
-      ∷ user 0xB7FE (word 0x2FFF 0x3100 ∷ []) (reads 0x2FFF ∷ word 0x3100 0xC0DE ∷ [])  -- STI R3, #-2
-      ∷ user 0xB610 (word 0x3011 0x0100 ∷ []) (reads 0x3011 ∷ word 0x0100 0xC0DE ∷ [])  -- STI R3, #16
       ∷ [])
   -- "xFFFC is a plain word", as steps in HighAddresses (crate machine_examples). The other device registers are where
   -- they were.

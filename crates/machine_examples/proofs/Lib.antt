@@ -1,2 +1,3 @@
 -- The worked steps hold: each of them is computed.
 pub mod HighAddresses
+pub mod UserMode

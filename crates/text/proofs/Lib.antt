@@ -2,4 +2,3 @@
 pub mod Placing
 pub mod Decimal
 pub mod Signs
-pub mod Codes

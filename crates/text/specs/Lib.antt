@@ -1,5 +1,4 @@
--- The text of a statement (request 1): Characters, Operands and Statement. Placing serves the contracts of functions.
+-- The text of operands (request 1): Characters and Operands. Placing serves the contracts of functions.
 pub mod Characters
 pub mod Operands
-pub mod Statement
 pub mod Placing

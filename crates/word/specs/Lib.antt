@@ -1,5 +1,5 @@
 -- Document 01 on instruction words, as definitions: Field, Reading, Writing, Range, FixedBits and Mask. What is proved
--- of them is stated in Theorems. Encoding serves only the contracts of private functions.
+-- of them is stated in Theorems.
 pub mod Field
 pub mod Reading
 pub mod Writing
@@ -7,4 +7,3 @@ pub mod Range
 pub mod FixedBits
 pub mod Mask
 pub mod Theorems
-pub mod Encoding

@@ -47,7 +47,7 @@ pub fn size(n: i16) -> u16
 }
 
 // The field that holds n: truncation.
-pub(crate) fn truncate(n: i16, half: u16) -> u16
+pub fn truncate(n: i16, half: u16) -> u16
     requires { ⌜ (half ≤ 16384) × (mag n < half) ⌝ }
     ensures { λ r. ⌜ r ≡ bits half n ⌝ }
 {

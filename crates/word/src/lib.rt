@@ -1,9 +1,8 @@
-// LC-3 instruction words, after 'Instruction words' and 'Write an instruction' of document 01.
+// LC-3 instruction words, after 'Instruction words' of document 01; they are written in crate `writing`.
 // The forms are those of Figure A.2 (source document 000); names of fields are the figure's.
 pub mod fields;
 pub mod masks;
 pub mod reading;
-pub mod writing;
 
 // An instruction, one variant for each form of Figure A.2, in the order of the opcodes.
 // Registers and the BR mask are u8; signed fields are signed numbers.
@@ -54,7 +53,7 @@ pub struct Read {
     pub mask: u16,
 }
 
-// What `write` answers: the word and 0, or word 0 and the reason of the refusal:
+// What `writing::write` answers: the word and 0, or word 0 and the reason of the refusal:
 // 1 a register above 7, 2 a field out of range, 3 a BR mask above 7.
 pub struct Written {
     pub word: u16,

@@ -8,7 +8,7 @@ use Rattle.word.specs.Reading.{bits11to9, bits8to6}
 use Rattle.word.proofs.Casts.{kept}
 use Rattle.text.specs.Characters.{space}
 use Rattle.text.specs.Operands.{register, signedNumber}
-use Rattle.text.specs.Statement.{others}
+use Rattle.mnemonics.specs.Statement.{others}
 use Rattle.text.proofs.Signs.{number-line}
 use Rattle.line.proofs.lengths.based_length.Statement.{statement}
 use Rattle.line.proofs.lengths.based_length.Tie as tie

@@ -11,8 +11,8 @@ use Rattle.word.specs.Reading.{bits11to9}
 use Rattle.word.proofs.Casts.{kept}
 use Rattle.text.specs.Characters.{lineFeed, space}
 use Rattle.text.specs.Operands.{signedNumber}
-use Rattle.text.specs.Statement.{codes}
-use Rattle.text.proofs.Codes.{letters}
+use Rattle.mnemonics.specs.Statement.{codes}
+use Rattle.mnemonics.proofs.Codes.{letters}
 use Rattle.text.proofs.Signs.{number-line}
 use Rattle.line.proofs.lengths.br_length.Statement.{statement}
 use Rattle.line.proofs.lengths.br_length.Tie as tie

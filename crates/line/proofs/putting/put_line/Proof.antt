@@ -1,7 +1,7 @@
 -- `line::putting::put_line` meets its contract: by the mask.
 use mathlib.Core.Path.{_≡_, sym, _∙_}
 use borrow.Author.Needs.{needs}
-use Rattle.text.specs.Statement.{fillLine}
+use Rattle.mnemonics.specs.Statement.{fillLine}
 use Rattle.line.specs.Line.{lineOf}
 use Rattle.line.specs.Shapes.{properLine}
 use Rattle.line.proofs.ShapeLaws.{proper-shown, data-shown}

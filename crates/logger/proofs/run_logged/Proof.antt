@@ -1,0 +1,45 @@
+-- `logger::run_logged` meets its contract: the tests answer as the definition does, and the rest is a callee's; an
+-- accepted call has what the run requires.
+use mathlib.Core.Path.{refl, sym, _∙_}
+use Rattle.run.specs.Run.{begin}
+use Rattle.run.specs.Call.{startOf}
+use Rattle.run.proofs.Acceptance.{accepted-is-acceptable}
+use Rattle.logging.specs.LoggedCall.{loggedAdmitted, loggedCallOf}
+use borrow.Author.Needs.{needs}
+use Rattle.logger.proofs.run_logged.Statement.{statement}
+use Rattle.logger.proofs.run_logged.Tie as tie
+
+run-accepted-requires : tie.Need-run-accepted-requires
+run-accepted-requires c κs =
+    let enum-told = c .before .before .before .enum-told in
+    let admission = c .before .before .before .before .before .admission in
+    let a = c .before .before .before .before .before .before .before .before .before .before .before .before .args in
+    let k = accepted-is-acceptable (startOf (a .m) (a .memory .now) (a .times .now) (a .bytes .now) (a .output .now))
+    (a .n) (sym (admission .ensures (a .output .now)) ∙ enum-told .given .1) in
+    (k .size, (k .equal, k .clock))
+
+returns : tie.Need-returns
+unfolding loggedCallOf loggedAdmitted
+returns c =
+    let run-accepted = c .before .before .before .before .before .before .run-accepted in
+    let enum-told = c .before .before .before .before .before .before .before .before .before .before .enum-told in
+    let admission = c .before .before .before .before .before .before .before .before .before .before .before .before
+    .admission in
+    let a = c .before .before .before .before .before .before .before .before .before .before .before .before .before
+    .before .before .before .before .before .before .args in
+    rw (← admission .ensures (a .output .now), enum-told .given .1) (run-accepted .ensures)
+
+returns-2 : tie.Need-returns-2
+unfolding loggedCallOf loggedAdmitted begin
+returns-2 c =
+    let admission2 = c .before .before .admission2 in
+    let admission = c .before .before .before .before .admission in
+    let a = c .before .before .before .before .before .before .before .before .before .before .before .args in
+    rw (← admission .ensures (a .output .now), admission2 .given .1, c .refused .ensures) refl
+
+pub run-logged-spec : {M : Type 1} → statement M
+run-logged-spec =
+    tie.close
+    (tie.spec (λ c κs. search needs) (λ c. search needs) run-accepted-requires (λ c. search needs)
+    (λ c κs. search needs) (λ c. search needs) (λ c. search needs) (λ c. search needs) returns (λ c. search needs)
+    returns-2)

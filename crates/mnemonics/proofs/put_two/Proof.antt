@@ -1,0 +1,65 @@
+-- `mnemonics::put_two` meets its contract: the parts of the line, one after the other.
+use Prim.Native.Nat.{_+_, _≤_}
+use native.Mathlib.Omega.{arith}
+use mathlib.Core.List.{[], _∷_, _++_}
+use lib.ListN.{length, length-append}
+use borrow.Author.Needs.{needs}
+use Rattle.text.specs.Characters.{space}
+use Rattle.text.specs.Operands.{register}
+use Rattle.mnemonics.specs.Statement.{others}
+use Rattle.text.proofs.Placing.{then}
+use Rattle.mnemonics.proofs.put_two.Statement.{statement}
+use Rattle.mnemonics.proofs.put_two.Tie as tie
+
+-- the room that the requires leaves for the parts
+fits : (s : tie.Start) → s .args .at +
+    (length (s .args .mnemonic .now) + length (space ∷ register (s .args .a) ++ others (register (s .args .b) ∷ []))) ≤
+    length (s .args .output .now)
+fits s = omega (
+  arith,
+  s .pre .2,
+  length-append (s .args .mnemonic .now)
+      (space ∷ register (s .args .a) ++ others (register (s .args .b) ∷ [])),
+)
+
+put-text-requires : tie.Need-put-text-requires
+put-text-requires c κs =
+    let s = c .before .before .before in
+    let room = fits s in
+    omega arith
+
+put-operand-requires : tie.Need-put-operand-requires
+put-operand-requires c κs =
+    let s = c .before .before .before .before .before .before .before .before in
+    let room = fits s in
+    (s .pre .0, omega arith)
+
+put-operand-requires-2 : tie.Need-put-operand-requires-2
+put-operand-requires-2 c κs =
+    let s = c .before .before .before .before .before .before .before .before .before .before .before .before .before in
+    let room = fits s in
+    (s .pre .1, omega arith)
+
+put-requires : tie.Need-put-requires
+put-requires c κs =
+    let s = c .before .before .before .before .before .before .before .before .before .before .before .before .before
+    .before .before .before .before in
+    let room = fits s in
+    omega arith
+
+returns : tie.Need-returns
+returns c =
+    let c4 = c .before .before in
+    let c3 = c4 .before .before .before .before in
+    let c2 = c3 .before .before .before .before .before in
+    let c1 = c2 .before .before .before .before .before in
+    let s = c1 .before .before .before .before in
+    let room = fits s in
+    then (c1 .put-text .ensures) (then (c2 .put-operand .ensures)
+    (then (c3 .put-operand2 .ensures) (c4 .put .ensures) (omega arith)) (omega arith)) (omega arith)
+
+pub put-two-spec : {M : Type 1} → statement M
+put-two-spec =
+    tie.close
+    (tie.spec put-text-requires (λ c. search needs) put-operand-requires (λ c. search needs) put-operand-requires-2
+    put-requires (λ c. search needs) returns)

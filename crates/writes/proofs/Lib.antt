@@ -1,0 +1,2 @@
+-- The laws of the words that a step writes.
+pub mod WriteLaws

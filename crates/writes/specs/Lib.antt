@@ -1,0 +1,2 @@
+-- What the words written by a step are told by.
+pub mod Writes
