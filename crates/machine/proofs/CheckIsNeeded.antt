@@ -18,41 +18,10 @@ use Rattle.machine.specs.Plan.{planOf}
 use Rattle.machine.specs.Step.{perform}
 use Rattle.machine.specs.Visible.{wordsBelow, SameVisible, Hidden, hiddenOf}
 use Rattle.machine.specs.Causes.{meetsTrapOrException}
+use Rattle.machine.specs.TwoSteps.{SameOutcome, both-obey, both-enter, Claim, uncheckedFetch, uncheckedLoadTo}
+use Rattle.machine.specs.TwoSteps.{uncheckedStoreAt, byUncheckedPointer, EachCheckIsNeeded}
 use Rattle.machine.proofs.MemoryParts.{word-below-is-not-visible}
-use Rattle.machine.proofs.TwoAccesses.{SameOutcome, both-obey, both-enter}
 use Rattle.machine.proofs.Opened.{opened}
-
--- What `two-steps-agree` says of a step, said of any access.
-abbrev pub Claim : (Machine → List ℕ → Outcome) → Type 0
-Claim act = (m₁ m₂ : Machine) (mem₁ mem₂ : List ℕ) → SameVisible m₁ m₂ mem₁ mem₂ → inUserMode (m₁ .psr) ≡ true
-    → SameOutcome (hiddenOf m₁ mem₁) (hiddenOf m₂ mem₂) (act m₁ mem₁) (act m₂ mem₂)
-
--- ---- the accesses without their check
-
--- `obeyed` without `checked`: the fetch.
-abbrev pub uncheckedFetch : Machine → List ℕ → Outcome
-uncheckedFetch m mem = withReads (m .pc ∷ [])
-    (perform (planOf (m .regs) (m .pc) (m .psr) (readOf (getD mem (m .pc) 0))) m mem)
-
--- `loadTo` without `checked`: LD, LDR and the second address of LDI.
-abbrev pub uncheckedLoadTo : ℕ → ℕ → Machine → List ℕ → Outcome
-uncheckedLoadTo r a m mem = record {
-  machine = afterInstruction (withRegister (m .regs) r (loadedValue a m mem)) (next (m .pc))
-      (setFrom (loadedValue a m mem)) (afterLoad a m);
-  memory = mem;
-  shown = [];
-  cause = instruction;
-  reads = lentWord a;
-  writes = [];
-}
-
--- `storeAt` without `checked`: ST, STR and the second address of STI.
-abbrev pub uncheckedStoreAt : ℕ → ℕ → Machine → List ℕ → Outcome
-uncheckedStoreAt v a m mem = stored v a (afterInstruction (m .regs) (next (m .pc)) kept m) mem
-
--- `byPointer` without `checked`: the first address of LDI and STI.
-abbrev pub byUncheckedPointer : ℕ → (ℕ → Machine → List ℕ → Outcome) → Machine → List ℕ → Outcome
-byUncheckedPointer a data-access m mem = withReads (lentWord a) (data-access (loadedValue a m mem) (afterLoad a m) mem)
 
 -- ---- the two memories
 
@@ -110,16 +79,6 @@ module _ {h₁ h₂ : Hidden} {o₁ o₂ : Outcome} where
       (sym (ap meetsTrapOrException q) ∙ (ap meetsTrapOrException e₁ ∙ t))
 
 -- ---- each check
-
--- "An access exception is raised by a fetch, by either address of LDI and STI, or by the address of LD, LDR, ST, STR."
-pub record EachCheckIsNeeded : Type 0 where
-  pub fetch : Claim uncheckedFetch → ⊥
-  pub load : Claim (uncheckedLoadTo 0 0) → ⊥
-  pub store : Claim (uncheckedStoreAt 1 0) → ⊥
-  pub pointer-of-load : Claim (byUncheckedPointer 0 (loadTo 0)) → ⊥
-  pub pointer-of-store : Claim (byUncheckedPointer 0 (storeAt 1)) → ⊥
-  pub load-by-pointer : Claim (byPointer 0x3000 (uncheckedLoadTo 0)) → ⊥
-  pub store-by-pointer : Claim (byPointer 0x3000 (uncheckedStoreAt 1)) → ⊥
 
 pub each-check-is-needed : EachCheckIsNeeded
 unfolding opened userAt zeros wordsBelow

@@ -25,11 +25,11 @@ use Rattle.machine.specs.Step.{perform, obeyedBy, obeyed, interruptedOrO
 use Rattle.machine.specs.Step.{ended, afterStart, stepBy, stepOf}
 use Rattle.machine.specs.Visible.{SameVisible, Hidden}
 use Rattle.machine.specs.Causes.{takesInterrupt}
+use Rattle.machine.specs.TwoSteps.{SameOutcome, both-obey, both-enter}
 use Rattle.machine.specs.Rules.{interruptRule, ruleOf, ruleNumber, isInterrupt, fetchedWordBy}
 use Rattle.machine.specs.Rules.{fetchedWord, ReasonTells, WordIsFetched, LogTells}
 use Rattle.machine.proofs.Tests.{same-test-same-branch}
-use Rattle.machine.proofs.TwoAccesses.{SameOutcome, both-obey, both-enter, allowed-in-user-mode}
-use Rattle.machine.proofs.TwoAccesses.{user-words-agree}
+use Rattle.machine.proofs.TwoAccesses.{allowed-in-user-mode, user-words-agree}
 use Rattle.machine.proofs.TwoSteps.{no-interrupt-is-obeyed}
 use Rattle.machine.proofs.InterruptRule.{instruction-is-no-interrupt}
 

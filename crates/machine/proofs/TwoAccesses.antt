@@ -19,6 +19,7 @@ use Rattle.machine.specs.Devices.{isDeviceBy, loadedValueBy, loadedValue
 use Rattle.machine.specs.Access.{checked, loadToBy, loadTo, storeAtBy, storeAt, byPointerBy, byPointer}
 use Rattle.machine.specs.Visible.{userWords, SameVisible, Hidden, hiddenOf}
 use Rattle.machine.specs.Causes.{isTrapOrException}
+use Rattle.machine.specs.TwoSteps.{SameOutcome, both-obey, both-enter}
 use Rattle.machine.proofs.Tests.{or-is-false, same-test-same-branch}
 use Rattle.machine.proofs.MemoryParts.{UserAddress, user-word-is-in-user-words, store-changes-user-words}
 use Rattle.machine.proofs.MemoryParts.{store-leaves-words-below, store-leaves-words-above}
@@ -39,22 +40,6 @@ codes-leave-user-mode (setFrom v) psr u =
     le-leb 0x8000 (psr / 8 * 8 + codesOf v) (omega arith)
 
 -- ---- two outcomes
-
--- An instruction obeyed to its end in User mode: it stays in User mode, shows nothing and alters nothing that is
--- hidden.
-pub record Confined (h : Hidden) (o : Outcome) : Type 0 where
-  pub user : inUserMode (o .machine .psr) ≡ true
-  pub hidden-kept : hiddenOf (o .machine) (o .memory) ≡ h
-  pub shows-nothing : o .shown ≡ []
-  pub obeys : o .cause ≡ instruction
-
--- Both obey an instruction to its end and look the same afterwards, or both make the same entry for a trap or
--- exception.
-pub data SameOutcome (h₁ h₂ : Hidden) (o₁ o₂ : Outcome) : Type 0 where
-  both-obey : SameVisible (o₁ .machine) (o₂ .machine) (o₁ .memory) (o₂ .memory) → Confined h₁ o₁ → Confined h₂ o₂
-      → SameOutcome h₁ h₂ o₁ o₂
-  both-enter : (reason : Reason) (psr pc : ℕ) → isTrapOrException reason ≡ true → o₁ .cause ≡ entered reason psr pc
-      → o₂ .cause ≡ entered reason psr pc → o₁ .shown ≡ [] → o₂ .shown ≡ [] → SameOutcome h₁ h₂ o₁ o₂
 
 -- Words read before change nothing of this.
 pub reads-do-not-matter : (reads₁ reads₂ : List ℕ) (h₁ h₂ : Hidden) (o₁ o₂ : Outcome) → SameOutcome h₁ h₂ o₁ o₂

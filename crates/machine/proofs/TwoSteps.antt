@@ -26,7 +26,8 @@ use Rattle.machine.specs.Step.{performBy, perform, obeyedBy, obeyed, int
 use Rattle.machine.specs.Step.{afterTick, ended, afterStart, stepBy, stepOf}
 use Rattle.machine.specs.Visible.{SameVisible, Hidden, hiddenOf}
 use Rattle.machine.specs.Causes.{takesInterrupt}
-use Rattle.machine.proofs.TwoAccesses.{SameOutcome, both-obey, both-enter, reads-do-not-matter}
+use Rattle.machine.specs.TwoSteps.{SameOutcome, both-obey, both-enter, TwoStepsAgree}
+use Rattle.machine.proofs.TwoAccesses.{reads-do-not-matter}
 use Rattle.machine.proofs.TwoAccesses.{second-in-user-mode, entries-agree, checks-agree, user-words-agree}
 use Rattle.machine.proofs.TwoAccesses.{instructions-end-alike, next-agrees, loads-to-register-agree}
 use Rattle.machine.proofs.TwoAccesses.{stores-of-value-agree, accesses-by-pointer-agree}
@@ -92,10 +93,7 @@ ticks-do-not-matter h₁ h₂ o₁ o₂ (both-obey g c₁ c₂) =
 ticks-do-not-matter h₁ h₂ o₁ o₂ (both-enter r x y t e₁ e₂ z₁ z₂) = both-enter r x y t e₁ e₂ z₁ z₂
 
 -- One step of each run: keys, devices, clocks and the words outside x3000 to xFDFF may differ.
-pub two-steps-agree : (m₁ m₂ : Machine) (mem₁ mem₂ keys₁ keys₂ : List ℕ) → SameVisible m₁ m₂ mem₁ mem₂
-    → inUserMode (m₁ .psr) ≡ true
-    → takesInterrupt (stepOf keys₁ m₁ mem₁ .cause) ≡ false → takesInterrupt (stepOf keys₂ m₂ mem₂ .cause) ≡ false
-    → SameOutcome (hiddenOf m₁ mem₁) (hiddenOf m₂ mem₂) (stepOf keys₁ m₁ mem₁) (stepOf keys₂ m₂ mem₂)
+pub two-steps-agree : TwoStepsAgree
 unfolding stepBy ended afterKeys afterTimer
 two-steps-agree m₁ m₂ mem₁ mem₂ keys₁ keys₂ g u i₁ i₂ =
     let n₁ : Machine = afterStart keys₁ m₁ in

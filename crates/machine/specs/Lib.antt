@@ -18,6 +18,8 @@ pub mod Step
 pub mod Causes
 pub mod Rules
 pub mod Visible
+pub mod TwoSteps
+pub mod Keeping
 pub mod TimerTheorems
 pub mod Exclusions
 pub mod Rows
