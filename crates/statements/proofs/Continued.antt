@@ -1,54 +1,113 @@
--- Demand 3 over continued calls: two calls are one (`run-splits`), of which `noninterference` speaks.
-use Prim.Native.Nat.{ℕ, _+_, _≤_}
-use mathlib.Core.Path.{_≡_, refl, sym, ap, subst, _∙_}
-use mathlib.Core.Bool.{true}
+-- Demand 3 over the calls of a sitting. A call that meets no trap or exception leaves both sittings looking the same,
+-- in User mode, with what is hidden as it was: so `noninterference` speaks of the next call too.
+use Prim.Native.Nat.{ℕ, _+_}
+use mathlib.Core.Path.{_≡_, refl, sym, ap, _∙_}
+use mathlib.Core.Bool.{true, true≢false}
+use mathlib.Core.Logic.{_⊎_, inl, inr}
+use mathlib.Core.List.{List, [], _∷_}
 use native.Mathlib.Omega.{arith}
-use lib.Pow.{areBytes}
-use Rattle.machine.specs.Edition.{third}
+use Rattle.machine.specs.Psr.{inUserMode}
 use Rattle.machine.specs.Step.{stepOf}
 use Rattle.machine.specs.Visible.{SameVisible, hiddenOf}
-use Rattle.run.specs.declared.Admission.the-variants.{Accepted}
-use Rattle.run.specs.declared.Ending.the-variants.{Done}
-use Rattle.run.specs.Run.{Start, End, runOf}
-use Rattle.run.specs.Refusals.{admissionOf}
+use Rattle.machine.specs.Causes.{meetsTrapOrException}
+use Rattle.run.specs.Run.{Start, runOf}
 use Rattle.run.specs.Call.{callOf}
-use Rattle.run.specs.Continuing.{joined}
-use Rattle.run.specs.Noninterference.{Premises, UpToFirst, Undisturbed}
-use Rattle.run.proofs.RunLaws.{steps-made-are-done}
-use Rattle.run.proofs.Acceptance.{accepted-with-fewer, call-is-run, call-steps-are-run-steps}
-use Rattle.run.proofs.Continuing.{run-splits}
-use Rattle.run.proofs.Noninterference.{noninterference}
-use Rattle.statements.specs.Continued.{secondCall, StillUndisturbed, ContinuedNoninterference}
+use Rattle.run.specs.Noninterference.{First, MeetsNone, Premises}
+use Rattle.run.proofs.Acceptance.{call-steps-are-run-steps}
+use Rattle.run.proofs.Noninterference.{MeetsSomeFirst, meets-none-or-a-first, Both, both, noninterference}
+use Rattle.statements.specs.Continued.{Later, goingOn, EachPremises, CallAgreement, EachAgreement}
+use Rattle.statements.specs.Continued.{ContinuedNoninterference}
+use Rattle.statements.proofs.LastStep.{call-left}
 
--- The call of k + i steps is the two calls joined, where so many steps are made.
-two-calls : (s : Start) (k j i : ℕ) → areBytes (s .bytes) ≡ true → admissionOf s (k + j) ≡ Accepted → i ≤ j
-    → UpToFirst s (k + j) (k + i) → callOf s (k + i) ≡ joined (callOf s k) (secondCall s k i)
-two-calls s k j i bytes a h u =
-    let z : callOf s (k + j) .steps ≡ runOf s (k + j) .steps = call-steps-are-run-steps stepOf s (k + j) a in
-    let m : k + i ≤ callOf s (k + j) .steps = u .made in
-    let d : runOf s k .ending ≡ Done = steps-made-are-done stepOf s (k + j) k (omega arith) in
-    let c : callOf s k ≡ runOf s k = call-is-run stepOf s (k + j) k a (omega arith) in
-    run-splits third s k i bytes (accepted-with-fewer s (k + j) (k + i) (omega arith) a) .continued
-    (ap (λ (e : End). e .ending) c ∙ d)
+-- ---- one call to the next
 
-still-undisturbed : (s : Start) (k i : ℕ) → callOf s (k + i) ≡ joined (callOf s k) (secondCall s k i)
-    → Undisturbed s (callOf s (k + i)) → StillUndisturbed s k i
-still-undisturbed s k i e u =
-    let v : Undisturbed s (joined (callOf s k) (secondCall s k i)) = subst (Undisturbed s) e u in
-    let z : callOf s k .shown + secondCall s k i .shown ≡ 0 = v .none-shown in
-    record { hidden-kept = v .hidden-kept; none-shown = omega arith }
+met-is-not-none : (s : Start) (n : ℕ) → MeetsSomeFirst s n → MeetsNone s n → ⊥
+met-is-not-none s n x b =
+    let f = x .4 in
+    true≢false
+    (sym (f .is-trap-or-exception) ∙ (sym (ap meetsTrapOrException (f .enters)) ∙ b .none (x .0) (f .made)))
+
+-- Where each first of one run is a first of another that meets none, the one meets none.
+none-met : (s₁ s₂ : Start) (n : ℕ) → ((k vector psr pc : ℕ) → First s₂ n k vector psr pc → First s₁ n k vector psr pc)
+    → MeetsNone s₁ n → MeetsNone s₂ n
+none-met s₁ s₂ n f b = go (meets-none-or-a-first s₂ n)
+  where
+    go : MeetsNone s₂ n ⊎ MeetsSomeFirst s₂ n → MeetsNone s₂ n
+    go (inl c) = c
+    go (inr x) = absurd
+        (met-is-not-none s₁ n (x .0, x .1, x .2, x .3, f (x .0) (x .1) (x .2) (x .3) (x .4)) b)
+
+-- How two calls that meet no trap or exception leave the sittings.
+record Onward (s₁ s₂ : Start) (n : ℕ) : Type 0 where
+  user : inUserMode (callOf s₁ n .machine .psr) ≡ true
+  same : SameVisible (callOf s₁ n .machine) (callOf s₂ n .machine) (callOf s₁ n .memory) (callOf s₂ n .memory)
+  hidden₁ : hiddenOf (callOf s₁ n .machine) (callOf s₁ n .memory) ≡ hiddenOf (s₁ .machine) (s₁ .memory)
+  hidden₂ : hiddenOf (callOf s₂ n .machine) (callOf s₂ n .memory) ≡ hiddenOf (s₂ .machine) (s₂ .memory)
+
+module _ (s₁ s₂ : Start) (n : ℕ) (p : Premises s₁ s₂ n) where
+  onward : MeetsNone s₁ n → MeetsNone s₂ n → Onward s₁ s₂ n
+  onward b₁ b₂ =
+      let k : ℕ = runOf s₁ n .steps in
+      let z₁ : callOf s₁ n .steps ≡ k = call-steps-are-run-steps stepOf s₁ n (p .accepted₁) in
+      let z₂ : callOf s₂ n .steps ≡ runOf s₂ n .steps = call-steps-are-run-steps stepOf s₂ n (p .accepted₂) in
+      let e₁ = call-left s₁ n k (p .accepted₁) refl in
+      let e₂ = call-left s₂ n k (p .accepted₂) (sym z₂ ∙ (sym (noninterference s₁ s₂ n p .same-steps b₁ b₂) ∙ z₁)) in
+      let w : Both s₁ s₂ k = both s₁ s₂ n p k (omega arith) (rw z₁ at b₁) in
+      record {
+        user = rw (e₁ .machine) (w .user);
+        same = rw (e₁ .machine, e₁ .memory, e₂ .machine, e₂ .memory) (w .same);
+        hidden₁ = rw (e₁ .machine, e₁ .memory) (w .undisturbed₁ .hidden-kept);
+        hidden₂ = rw (e₂ .machine, e₂ .memory) (w .undisturbed₂ .hidden-kept);
+      }
+
+-- ---- every call
+
+-- Where two sittings stand before a call.
+record Standing (first₁ first₂ : Start) (made₁ made₂ : ℕ) (s₁ s₂ : Start) : Type 0 where
+  same-steps : made₁ ≡ made₂
+  hidden₁ : hiddenOf (s₁ .machine) (s₁ .memory) ≡ hiddenOf (first₁ .machine) (first₁ .memory)
+  hidden₂ : hiddenOf (s₂ .machine) (s₂ .memory) ≡ hiddenOf (first₂ .machine) (first₂ .memory)
+
+call-agrees : (first₁ first₂ : Start) (made₁ made₂ : ℕ) (s₁ s₂ : Start) (n : ℕ)
+    → Standing first₁ first₂ made₁ made₂ s₁ s₂ → Premises s₁ s₂ n
+    → CallAgreement first₁ first₂ made₁ made₂ s₁ s₂ n
+call-agrees first₁ first₂ made₁ made₂ s₁ s₂ n w p = record {
+  agreement = noninterference s₁ s₂ n p;
+  same-steps-before = w .same-steps;
+  hidden-kept₁ = w .hidden₁;
+  hidden-kept₂ = w .hidden₂;
+  none-by-second = none-met s₁ s₂ n (noninterference s₁ s₂ n p .met-by-first);
+  none-by-first = none-met s₂ s₁ n (noninterference s₁ s₂ n p .met-by-second);
+}
+
+each-agrees : (first₁ first₂ : Start) (made₁ made₂ : ℕ) (s₁ s₂ : Start) (n : ℕ) (calls : List Later)
+    → Standing first₁ first₂ made₁ made₂ s₁ s₂ → Premises s₁ s₂ n → EachPremises s₁ s₂ n calls
+    → EachAgreement first₁ first₂ made₁ made₂ s₁ s₂ n calls
+unfolding EachPremises EachAgreement
+each-agrees first₁ first₂ made₁ made₂ s₁ s₂ n [] w p q = call-agrees first₁ first₂ made₁ made₂ s₁ s₂ n w p
+each-agrees first₁ first₂ made₁ made₂ s₁ s₂ n (c ∷ calls) w p q = (
+  call-agrees first₁ first₂ made₁ made₂ s₁ s₂ n w p,
+  λ b₁ b₂.
+      let o = onward s₁ s₂ n p b₁ b₂ in
+      let l = q b₁ b₂ .0 in
+      each-agrees first₁ first₂ (made₁ + callOf s₁ n .steps) (made₂ + callOf s₂ n .steps)
+      (goingOn (callOf s₁ n) (c .lent₁)) (goingOn (callOf s₂ n) (c .lent₂)) (c .steps) calls
+      (record {
+        same-steps = cc (w .same-steps, noninterference s₁ s₂ n p .same-steps b₁ b₂);
+        hidden₁ = o .hidden₁ ∙ w .hidden₁;
+        hidden₂ = o .hidden₂ ∙ w .hidden₂;
+      })
+      (record {
+        accepted₁ = l .accepted₁;
+        accepted₂ = l .accepted₂;
+        user-mode = o .user;
+        same-visible = o .same;
+        no-interrupt₁ = l .no-interrupt₁;
+        no-interrupt₂ = l .no-interrupt₂;
+      })
+      (q b₁ b₂ .1),
+)
 
 pub continued-noninterference : ContinuedNoninterference
-continued-noninterference s₁ s₂ k j b₁ b₂ p =
-    let a = noninterference s₁ s₂ (k + j) p in
-    record {
-      same-visible =
-          λ i h u.
-          let e₁ = two-calls s₁ k j i b₁ (p .accepted₁) h u in
-          let e₂ = two-calls s₂ k j i b₂ (p .accepted₂) h (a .reached-by-second (k + i) u) in
-          rw (e₁, e₂) at (a .same-visible (k + i) u);
-      undisturbed₁ = λ i h u.
-          still-undisturbed s₁ k i (two-calls s₁ k j i b₁ (p .accepted₁) h u) (a .undisturbed₁ (k + i) u);
-      undisturbed₂ = λ i h u.
-          still-undisturbed s₂ k i (two-calls s₂ k j i b₂ (p .accepted₂) h u) (a .undisturbed₂ (k + i) u);
-    }
+continued-noninterference s₁ s₂ n calls p q =
+    each-agrees s₁ s₂ 0 0 s₁ s₂ n calls (record { same-steps = refl; hidden₁ = refl; hidden₂ = refl }) p q

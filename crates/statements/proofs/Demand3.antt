@@ -13,14 +13,15 @@ use Rattle.run.specs.declared.Admission.the-variants.{Accepted}
 use Rattle.run.specs.Run.{Start, begin, arriving, nextStepBy, stepMadeBy, runOf}
 use Rattle.run.specs.Refusals.{admissionOf}
 use Rattle.run.specs.Call.{callOf}
-use Rattle.run.specs.Noninterference.{causeAt, NoneBefore, NoInterrupt}
+use Rattle.run.specs.Noninterference.{causeAt, NoneBefore, MeetsNone, NoInterrupt}
 use Rattle.run.proofs.RunLaws.{Turn, makes-step, makes-none, each-turn, run-of-none, steps-made-at-most}
 use Rattle.run.proofs.RunLaws.{steps-made-are-done}
 use Rattle.run.proofs.Acceptance.{call-steps-are-run-steps, call-with-fewer-makes-all}
 use Rattle.run.proofs.Noninterference.{cause-in-run, none-before-fewer, meets-none-or-a-first}
-use Rattle.statements.specs.Demand3.{NoneEnabled, NoInterruptFor, Demand3Rests}
+use Rattle.statements.specs.Demand3.{NoneEnabled, NoInterruptFor, StaysSo, Demand3Rests}
 use Rattle.statements.proofs.Calm.{Calm, calm-step, HighPriority, high-priority-is-calm, CalmDevices}
 use Rattle.statements.proofs.Calm.{calm-devices-are-calm}
+use Rattle.statements.proofs.LastStep.{call-left}
 
 module _ (C : Machine → Type 0) (K : Calm C) (s : Start) (n : ℕ) (accepted : admissionOf s n ≡ Accepted)
     (first : C (s .machine)) where
@@ -54,12 +55,29 @@ module _ (C : Machine → Type 0) (K : Calm C) (s : Start) (n : ℕ) (accepted :
         ∙ K .none-due (arriving s (runOf s j)) (runOf s j .machine) (calm-run j (omega arith) b);
   }
 
+  -- So it holds of what a call leaves that meets none.
+  calm-call : MeetsNone s n → C (callOf s n .machine)
+  calm-call b =
+      let k : ℕ = runOf s n .steps in
+      let z : callOf s n .steps ≡ k = call-steps-are-run-steps stepOf s n accepted in
+      rw (call-left s n k accepted refl .machine) (calm-run k (omega arith) (rw z at b))
+
 no-interrupt-for : (s : Start) → NoInterruptFor s
 no-interrupt-for s = record {
   none-enabled =
       λ u e n a. calm-is-uninterrupted CalmDevices calm-devices-are-calm s n a (record { user = u; none = e });
   high-priority =
       λ u p n a. calm-is-uninterrupted HighPriority high-priority-is-calm s n a (record { user = u; priority = p });
+}
+
+stays-so : (s : Start) → StaysSo s
+stays-so s = record {
+  none-enabled = λ u e n a b.
+      let c = calm-call CalmDevices calm-devices-are-calm s n a (record { user = u; none = e }) b in
+      (c .user, c .none);
+  high-priority = λ u p n a b.
+      let c = calm-call HighPriority high-priority-is-calm s n a (record { user = u; priority = p }) b in
+      (c .user, c .priority);
 }
 
 pub demand-3-rests : Demand3Rests
@@ -69,4 +87,5 @@ demand-3-rests = record {
   three-parts-are-all = three-parts-make-memory;
   none-or-first = meets-none-or-a-first;
   no-interrupt = no-interrupt-for;
+  stays-so = stays-so;
 }

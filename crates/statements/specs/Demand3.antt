@@ -56,9 +56,20 @@ pub record NoInterruptFor (s : Start) : Type 0 where
   pub high-priority : inUserMode (s .machine .psr) ≡ true → 6 ≤ priorityOf (s .machine .psr) → (n : ℕ)
       → admissionOf s n ≡ Accepted → NoInterrupt s n
 
+-- And so it stays: where such a call meets no trap or exception, what it leaves is as its start was in this. So the next
+-- call takes no interrupt either (see Continued.antt).
+pub record StaysSo (s : Start) : Type 0 where
+  pub none-enabled : inUserMode (s .machine .psr) ≡ true → NoneEnabled (s .machine) → (n : ℕ)
+      → admissionOf s n ≡ Accepted → MeetsNone s n
+      → (inUserMode (callOf s n .machine .psr) ≡ true) × NoneEnabled (callOf s n .machine)
+  pub high-priority : inUserMode (s .machine .psr) ≡ true → 6 ≤ priorityOf (s .machine .psr) → (n : ℕ)
+      → admissionOf s n ≡ Accepted → MeetsNone s n
+      → (inUserMode (callOf s n .machine .psr) ≡ true) × (6 ≤ priorityOf (callOf s n .machine .psr))
+
 pub record Demand3Rests : Type 0 where
   pub interrupt-is-rule-2 : InterruptIsRule2
   pub fewer-steps-are-made : FewerStepsAreMade
   pub three-parts-are-all : ThreePartsAreAll
   pub none-or-first : NoneOrFirst
   pub no-interrupt : (s : Start) → NoInterruptFor s
+  pub stays-so : (s : Start) → StaysSo s
