@@ -6,4 +6,4 @@ use Rattle.rows.specs.Logged.{LoggedHold}
 
 pub logged-hold : LoggedHold
 unfolding opened fetchedWordBy
-logged-hold = record { word-at-pc = refl; none-where-denied = refl }
+logged-hold = record { word-at-pc = refl; none-where-denied = refl; in-another-record = refl }

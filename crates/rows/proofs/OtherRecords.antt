@@ -2,7 +2,8 @@
 use mathlib.Core.Path.{refl}
 use Rattle.machine.proofs.Opened.{opened}
 use Rattle.rows.specs.OtherRecords.{Instructions, Accesses, Further, KeysAndVectors, Loads, MoreLoads}
-use Rattle.rows.specs.OtherRecords.{Stores, MoreStores, Supervisor, Second, OtherRecordsHold}
+use Rattle.rows.specs.OtherRecords.{Stores, MoreStores, Supervisor, Second, SecondInUserMode}
+use Rattle.rows.specs.OtherRecords.{Single, OtherRecordsHold}
 
 instructions : Instructions
 unfolding opened
@@ -44,6 +45,14 @@ second-edition : Second
 unfolding opened
 second-edition = record { by-five-rules = refl }
 
+second-in-user-mode : SecondInUserMode
+unfolding opened
+second-in-user-mode = record { device-registers = refl }
+
+single-values : Single
+unfolding opened
+single-values = record { values = refl }
+
 pub other-records-hold : OtherRecordsHold
 other-records-hold = record {
   instructions = instructions;
@@ -56,4 +65,6 @@ other-records-hold = record {
   more-stores = more-stores;
   supervisor-mode = supervisor-mode;
   second-edition = second-edition;
+  second-in-user-mode = second-in-user-mode;
+  single-values = single-values;
 }

@@ -2,15 +2,16 @@
 -- equal times, a machine that halts on the way, a full output with a key due, numbers beyond 15 bits, bytes above x7F.
 use Prim.Native.Nat.{ℕ, _+_, _-_, _^_}
 use mathlib.Core.Path.{_≡_}
-use mathlib.Core.List.{List, [], _∷_, map}
+use mathlib.Core.List.{List, [], _∷_, _++_, map}
 use lib.ListN.{length, replicate}
 use Rattle.machine.specs.declared.Machine.{Machine}
+use Rattle.machine.specs.Rows.{PC, PSR, applied, recordOf, userMode}
 use Rattle.run.specs.declared.Refusal.the-variants.{MemorySize, TooManySteps}
 use Rattle.run.specs.declared.Ending.the-variants.{Done, Halted, OutputFull, Refused}
 use Rattle.run.specs.Run.{runOf}
 use Rattle.run.specs.Call.{startOf, callOf, secondCallOf}
 use Rattle.run.specs.CallExamples.{Answered, answers, answersOf, stores, withRegistersOf, Asked, asked, atClock}
-use Rattle.run.specs.CallExamples.{recordWith, withTimes, withTimerOf, withBits, answered}
+use Rattle.run.specs.CallExamples.{recordWith, withTimes, withBusy, withTimerOf, withBits, answered}
 
 -- Supervisor mode at x0400, at this clock, with R0 x7FC1 and this in R1 and KBSR.
 abbrev pub lateAt : ℕ → ℕ → ℕ → Machine
@@ -43,6 +44,11 @@ abbrev pub withLateTimes : List ℕ → ℕ → ℕ → Asked
 withLateTimes times refusal index =
     asked (recordWith 0x8002 (withRegistersOf 0 0 0x8000) (2 ^ 40)) 5 times (length times) refusal index
 
+-- The same at an odd clock.
+abbrev pub withOddTimes : List ℕ → ℕ → ℕ → Asked
+withOddTimes times refusal index =
+    asked (recordWith 0x8002 (withRegistersOf 0 0 0x8000) (2 ^ 40 + 1)) 5 times (length times) refusal index
+
 abbrev pub furtherCalls : List Asked
 furtherCalls =
     -- "the index, from 0, of the first offending entry", also an odd one; and what is beyond 15 bits
@@ -64,6 +70,17 @@ furtherCalls =
     ∷ withTimerOf 0xC000 0x8000 0x8000 0
     ∷ withTimerOf 0xC000 0x8000 0 12
     ∷ withBits 0x870A 0x0000 0x0000 0x8000 1000 5 [] 0 12
+    ∷ withLateTimes ((2 ^ 40) ∷ (2 ^ 40 - 1) ∷ []) 15 1
+    ∷ withOddTimes ((2 ^ 40) ∷ []) 15 0
+    ∷ withOddTimes ((2 ^ 40 + 1) ∷ (2 ^ 40) ∷ []) 15 1
+    -- an index beyond 15 bits
+    ∷ withTimes (replicate 0x8081 1000 ++ 999 ∷ []) 15 0x8081
+    ∷ withTimes (replicate 0x8081 1001 ++ 1000 ∷ []) 19 0x8081
+    -- a count of 128 or of 32,768, and a count of 0 with an interval of 1; undefined bits where PC is high
+    ∷ withBusy 0x0080 12
+    ∷ withBusy 0x8000 12
+    ∷ withTimerOf 0x0000 1 0 12
+    ∷ asked (recordOf (applied (PC 0x9001 ∷ PSR 0x8802 ∷ []) userMode .numbers)) 5 [] 0 12 0
     ∷ []
 
 pub record CallsHold : Type 0 where

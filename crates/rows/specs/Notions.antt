@@ -7,14 +7,19 @@ use mathlib.Core.List.{List, [], _∷_, map}
 use lib.ListN.{length, getD, replicate}
 use Rattle.word.specs.Mask.{placesOf}
 use Rattle.machine.specs.Record.{Timer}
+use Rattle.machine.specs.Outcome.{trap, privilege, illegal, access, interrupt, Cause, instruction, entered}
 use Rattle.machine.specs.Timer.{expires, tickedBy}
+use Rattle.machine.specs.TimerTheorems.{newInterval}
+use Rattle.machine.specs.Causes.{meetsTrapOrException, takesInterrupt}
 use Rattle.machine.specs.Visible.{wordsBelow, userWords, wordsAbove, Hidden, hiddenOf}
-use Rattle.machine.specs.Exclusions.{Exclusion, lea, trap, jsrr-r7, privileged-address, psr-address, exclusionsOf}
+use Rattle.machine.specs.Exclusions.{Exclusion, lea, jsrr-r7, privileged-address, psr-address, exclusionsOf}
+use Rattle.machine.specs.Exclusions.{trap as trapMet}
 use Rattle.machine.specs.Rows.{Fact, R, PC, PSR, KBSR, TSR, key, word, Moment, applied, recordOf, memoryWith}
 use Rattle.machine.specs.Rows.{userMode, supervisorMode}
 use Rattle.machine.specs.Rows.{withWord as wordPut}
 use Rattle.run.specs.Call.{startOf}
 use Rattle.run.specs.OneAlteredWord.{withWord, only}
+use Rattle.rows.specs.OtherRecords.{elsewhere}
 
 -- ---- the parts of memory
 
@@ -43,13 +48,23 @@ user w facts = met w (applied facts userMode)
 abbrev pub supervisor : ℕ → List Fact → List Exclusion
 supervisor w facts = met w (applied facts supervisorMode)
 
+-- In the records of OtherRecords.antt, with no key.
+abbrev pub userElsewhere : ℕ → List Fact → List Exclusion
+userElsewhere w facts = met w (applied facts elsewhere)
+
 abbrev pub privileged : List Exclusion
 privileged = privileged-address ∷ []
 
 abbrev pub the-psr : List Exclusion
 the-psr = psr-address ∷ []
 
--- ---- the timer, and request 14's one word
+-- ---- what demand 3 tells apart, the timer, and request 14's one word
+
+-- A cause of each kind.
+abbrev pub causes : List Cause
+causes =
+    instruction ∷ entered (trap 0x0025) 1 2 ∷ entered privilege 1 2 ∷ entered illegal 1 2 ∷ entered access 1 2
+    ∷ entered (interrupt 0x0180) 1 2 ∷ entered (interrupt 0x0181) 1 2 ∷ []
 
 abbrev pub timer : ℕ → ℕ → ℕ → Timer
 timer status interval count = record { status = status; interval = interval; count = count }
@@ -63,6 +78,9 @@ pub record NotionsHold : Type 0 where
   pub hidden :
       hiddenOf (recordOf (userMode .numbers)) []
       ≡ record { mcr = 0x8000; «saved_ssp» = 0x0280; «saved_usp» = 0x5E00; below = []; above = [] }
+  pub hidden-elsewhere :
+      hiddenOf (recordOf (elsewhere .numbers)) []
+      ≡ record { mcr = 0; «saved_ssp» = 0x9283; «saved_usp» = 0xDE87; below = []; above = [] }
   pub hidden-below : borders (hiddenOf (recordOf (userMode .numbers)) bordered .below) (0 ∷ 0x2FFF ∷ [])
       ≡ 0x3000 ∷ 1 ∷ 2 ∷ []
   pub hidden-above : borders (hiddenOf (recordOf (userMode .numbers)) bordered .above) (0 ∷ 0x1FF ∷ [])
@@ -70,7 +88,7 @@ pub record NotionsHold : Type 0 where
   -- "No LEA, TRAP or JSRR R7": those three instructions, and no other.
   pub three-instructions :
       user 0xE000 [] ∷ user 0xF025 [] ∷ user 0x41C0 [] ∷ []
-      ≡ (lea ∷ []) ∷ (trap ∷ []) ∷ (jsrr-r7 ∷ []) ∷ []
+      ≡ (lea ∷ []) ∷ (trapMet ∷ []) ∷ (jsrr-r7 ∷ []) ∷ []
   -- (R7 is the register that these name, where they name one)
   pub no-other :
       map (λ w. user w (R 7 0x4000 ∷ []))
@@ -93,6 +111,19 @@ pub record NotionsHold : Type 0 where
       ∷ supervisor 0x6040 (R 1 0xFFFB ∷ []) ∷ supervisor 0x6040 (R 1 0xFFFD ∷ [])
       ∷ supervisor 0x1021 (PC 0xFFFC ∷ []) ∷ []
       ≡ the-psr ∷ the-psr ∷ the-psr ∷ the-psr ∷ the-psr ∷ the-psr ∷ [] ∷ [] ∷ [] ∷ []
+  -- Pointers and data at the odd neighbour of xFFFC, and a datum beside the border of x3000.
+  pub odd-neighbours :
+      supervisor 0x7040 (R 1 0xFFFD ∷ []) ∷ supervisor 0xA001 (PC 0xFFFB ∷ []) ∷ supervisor 0xB001 (PC 0xFFFB ∷ [])
+      ∷ user 0x21FE (PC 0x3001 ∷ []) ∷ []
+      ≡ replicate 4 []
+  -- The same in another record: a datum by LDR and STR, and by pointers at high addresses; a fetch at x8100; and an
+  -- instruction that stands at PC alone.
+  pub in-another-record :
+      userElsewhere 0x6040 (R 1 0xFE02 ∷ []) ∷ userElsewhere 0x7040 (R 1 0xFE02 ∷ [])
+      ∷ userElsewhere 0xAB11 (word 0xB367 0x2FFF ∷ word 0x3367 0x4000 ∷ [])
+      ∷ userElsewhere 0xBB11 (word 0xB367 0x2FFF ∷ word 0x3367 0x4000 ∷ [])
+      ∷ userElsewhere 0x1021 (PC 0x8100 ∷ []) ∷ userElsewhere 0x0000 (word 0xB455 0xE000 ∷ []) ∷ []
+      ≡ privileged ∷ privileged ∷ privileged ∷ privileged ∷ [] ∷ (lea ∷ []) ∷ []
   -- An interrupt meets none, whatever stands at PC; nor does one by a key that arrives in the step.
   pub none-at-interrupt :
       user 0xE000 (TSR 0xC000 ∷ []) ∷ user 0xF025 (PC 0x2FFF ∷ TSR 0xC000 ∷ [])
@@ -104,6 +135,14 @@ pub record NotionsHold : Type 0 where
       (0x0000 ∷ 0x1000 ∷ 0x1020 ∷ 0x2000 ∷ 0x3000 ∷ 0x4000 ∷ 0x4800 ∷ 0x5000 ∷ 0x5020 ∷ 0x6000 ∷ 0x7000 ∷ 0x8000
       ∷ 0x9000 ∷ 0xA000 ∷ 0xB000 ∷ 0xC000 ∷ 0xD000 ∷ 0xE000 ∷ 0xF000 ∷ [])
       ≡ 0 ∷ 0x18 ∷ 0 ∷ 0 ∷ 0 ∷ 0x63F ∷ 0 ∷ 0x18 ∷ 0 ∷ 0 ∷ 0 ∷ 0xFFF ∷ 0x3F ∷ 0 ∷ 0 ∷ 0xE3F ∷ 0 ∷ 0 ∷ 0xF00 ∷ []
+  -- "A trap or exception", and an interrupt, which is none.
+  pub traps-and-exceptions : map meetsTrapOrException causes ≡ false ∷ true ∷ true ∷ true ∷ true ∷ false ∷ false ∷ []
+  pub interrupts : map takesInterrupt causes ≡ false ∷ false ∷ false ∷ false ∷ false ∷ true ∷ true ∷ []
+  -- The timer when an interval has been stored, three steps later, and when its count comes to zero.
+  pub new-interval : newInterval 0xC000 0x8901 ≡ timer 0xC000 0x8901 0x8901
+  pub three-steps : tickedBy 3 (timer 0x4000 7 7) ≡ timer 0x4000 7 4
+  pub comes-to-zero : map (λ k. expires (timer 0 0x8901 k)) (0 ∷ 1 ∷ 2 ∷ 3 ∷ 0x81 ∷ 0x8001 ∷ 0x8901 ∷ [])
+      ≡ true ∷ true ∷ false ∷ false ∷ false ∷ false ∷ false ∷ []
   -- A timer that is off comes to zero in no step, and stays off.
   pub off-never-expires : expires (timer 0 0 0) ≡ false
   pub off-stays : tickedBy 2 (timer 0x4000 0 0) ≡ timer 0x4000 0 0
@@ -111,4 +150,7 @@ pub record NotionsHold : Type 0 where
   pub one-word :
       withWord 1 9 (startOf (recordOf (userMode .numbers)) (1 ∷ 2 ∷ 3 ∷ []) (4 ∷ []) (5 ∷ []) (6 ∷ []))
       ≡ startOf (recordOf (userMode .numbers)) (1 ∷ 9 ∷ 3 ∷ []) (4 ∷ []) (5 ∷ []) (6 ∷ [])
-  pub only-one : map (only 5) (4 ∷ 5 ∷ 6 ∷ []) ≡ false ∷ true ∷ false ∷ []
+  pub high-word :
+      getD (withWord 0x8081 0x9ABD (startOf (recordOf (userMode .numbers)) bordered [] [] []) .memory) 0x8081 0 ≡ 0x9ABD
+  pub only-one : map (only 5) (4 ∷ 5 ∷ 6 ∷ 0x85 ∷ 0x8005 ∷ []) ≡ false ∷ true ∷ false ∷ false ∷ false ∷ []
+  pub only-high : map (only 0x8081) (1 ∷ 0x81 ∷ 0x8081 ∷ []) ≡ false ∷ false ∷ true ∷ []

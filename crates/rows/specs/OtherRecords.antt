@@ -241,6 +241,29 @@ pub record Second : Type 0 where
       ∷ userSecond 0x7640 (R 1 0xFE0A ∷ []) (TIR 0xC0DE ∷ timerCount 0xC0DE ∷ [])  -- STR, TIR
       ∷ [])
 
+-- By the second edition User mode reaches each device register. Here no key has arrived, the timer is off and ready.
+pub record SecondInUserMode : Type 0 where
+  pub device-registers :
+      Hold
+      (userSecondQuiet 0x6A40 (R 1 0xFE04 ∷ busy 0 ∷ []) (R 5 0x8000 ∷ PSR 0x8204 ∷ [])  -- LDR, DSR, ready
+      ∷ userSecondQuiet 0x7640 (R 1 0xFE00 ∷ []) (KBSR 0x4000 ∷ [])  -- STR, KBSR
+      ∷ userSecondQuiet 0x7640 (R 1 0xFE08 ∷ []) (TSR 0xC000 ∷ [])  -- STR, TSR
+      ∷ userSecondQuiet 0x7640 (R 1 0xFFFE ∷ []) (MCR 0x8000 ∷ [])  -- STR, MCR
+      ∷ [])
+
+-- A load of 1; a word that stands at PC alone; a store to the PSR while the timer is off; counts and an interval of
+-- which bit 15 is the only one, or the only one but bit 0.
+pub record Single : Type 0 where
+  pub values :
+      Hold
+      (user 0x2B11 (word 0xB367 0x0001 ∷ []) (reads 0xB367 ∷ R 5 0x0001 ∷ PSR 0x8201 ∷ [])  -- LD R5, #-239
+      ∷ user 0x0000 (word 0xB455 0x1A6F ∷ []) (R 5 0x5A4B ∷ PSR 0x8201 ∷ [])  -- ADD R5, R1, #15
+      ∷ supervisorQuiet 0x7640 (R 1 0xFFFC ∷ R 3 0xC7D7 ∷ TIR 0 ∷ timerCount 0 ∷ []) (PSR 0x0707 ∷ [])  -- STR, PSR
+      ∷ supervisorQuiet 0x0000 (timerCount 0x8001 ∷ []) []  -- the count falls
+      ∷ supervisorQuiet 0x0000 (timerCount 0x8000 ∷ []) []  -- the count falls
+      ∷ supervisorQuiet 0x0000 (TIR 0x8000 ∷ timerCount 0x0002 ∷ []) []  -- the count falls
+      ∷ [])
+
 pub record OtherRecordsHold : Type 0 where
   pub instructions : Instructions
   pub accesses : Accesses
@@ -252,3 +275,5 @@ pub record OtherRecordsHold : Type 0 where
   pub more-stores : MoreStores
   pub supervisor-mode : Supervisor
   pub second-edition : Second
+  pub second-in-user-mode : SecondInUserMode
+  pub single-values : Single
