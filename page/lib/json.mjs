@@ -32,7 +32,7 @@ class Reader {
         if (first === '"') return this.string();
         const [word] = /^[-+.\w]*/.exec(this.text.slice(this.at, this.at + 64));
         this.at += word.length;
-        if (word in CONSTANTS) return CONSTANTS[word];
+        if (Object.hasOwn(CONSTANTS, word)) return CONSTANTS[word];
         return this.number(word);
     }
 

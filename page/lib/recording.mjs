@@ -1,6 +1,6 @@
 // Recordings: sittings as files, in the format that the command writes and reads. Python's `fanthrig.recording`
 // describes it.
-import { MAX_CLOCK, MEMORY_WORDS, PLACES, REGISTERS, Refused, STOP_TEXTS } from "./constants.mjs";
+import { MAX_CLOCK, MEMORY_WORDS, PLACES, REGISTERS, Refused, STOP_TEXTS, Stop } from "./constants.mjs";
 import { canonical, indented, parse } from "./json.mjs";
 import { Machine } from "./machine.mjs";
 import { sha256 } from "./sha256.mjs";
@@ -9,6 +9,7 @@ import { Sitting } from "./sitting.mjs";
 const FORMAT = "lc3 sitting", FORMAT_VERSION = 2;
 const LONGEST = 1 << 26;
 const REPLAY_STEPS = 10_000_000_000;
+const AT_ONCE = 1 << 24; // steps of a replay between which its caller may do other things
 const LONG_LIMIT = 2n ** 64n - 1n, WORD_LIMIT = 0xffff;
 // The fields of a record that are no registers R0 to R7, by the names that the file has for them.
 const FIELDS = {
@@ -263,11 +264,17 @@ export async function sittingOf(module, text, options = {}) {
 }
 
 // Replays a recording to its end, and answers the sitting there; or a RecordingError that says in what it came to
-// another.
-export async function replayed(module, text, options = {}) {
+// another. The steps made and those to make are told to `between` now and then, which may take its time.
+export async function replayed(module, text, { between = null, ...options } = {}) {
     const { sitting, recording } = await sittingOf(module, text, options), { steps } = recording;
     if (steps > REPLAY_STEPS) throw new RecordingError(`the sitting has ${steps} steps, more than ${REPLAY_STEPS}`);
-    const begun = sitting.clock, stop = sitting.run(steps), made = sitting.clock - begun;
+    const begun = sitting.clock, left = () => begun + steps - sitting.clock;
+    let stop = sitting.run(Math.min(steps, AT_ONCE));
+    while (left() && stop === Stop.DONE) {
+        await between?.(steps - left(), steps);
+        stop = sitting.run(Math.min(left(), AT_ONCE));
+    }
+    const made = steps - left();
     if (made < steps)
         throw new RecordingError(`the replay stops after ${made} of ${steps} steps: ${STOP_TEXTS[stop]}`, true);
     const came = endData(sitting.machine);

@@ -22,12 +22,14 @@ const LONGEST_WAIT = 64; // the steps of the longest loop that is taken for wait
 export class Sitting {
     // `module` is fanthrig.wasm, compiled. Without more it is a machine of the third edition in User mode with the
     // ready-made monitor and no program; `watched` is the number of first steps in which words that are read before
-    // they are written are looked for.
+    // they are written are looked for, and `displayLimit` the most bytes that are shown.
     constructor(module, options = {}) {
         const { monitor = true, edition = 3, user = true, anywhere = false, stack = USER_STACK, watched = 0 } = options;
+        const { displayLimit = Infinity } = options;
         this.library = new Library(module);
         this.machine = new Machine(this.library, edition);
         this.follower = new Machine(this.library, edition);
+        this.machine.limit = displayLimit;
         this.fileAt = this.library.lend(LONGEST_FILE);
         this.pageAt = this.library.lend(MAX_LINE * MEMORY_WORDS);
         Object.assign(this, { user, anywhere, stack, watched, hasMonitor: monitor });
@@ -139,7 +141,7 @@ export class Sitting {
     lines(first, count) {
         const { library } = this, room = MAX_LINE * count;
         const page = accepted(library.page(this.machine.memoryAt, MEMORY_WORDS, first, count, this.pageAt, room));
-        return String.fromCharCode(...library.bytes(this.pageAt, page.count)).split("\n").slice(0, count);
+        return new TextDecoder().decode(library.bytes(this.pageAt, page.count)).split("\n").slice(0, count);
     }
 
     line(word) {
@@ -163,7 +165,7 @@ export class Sitting {
             if (!(this.get("KBSR") & KBSR_READY)) this.look = this.clock;
             while (this.look < this.clock) this.putOff();
         }
-        this.typed.push(...keys);
+        for (const key of keys) this.typed.push(key); // there may be more than a call takes
     }
 
     // Presses keys at a time on the clock, whether the ones before were read or not.
@@ -340,7 +342,7 @@ export class Sitting {
         this.made = mark.made;
         this.alterations = this.alterations.filter((alteration) => alteration.clock <= goal);
         this.followTo(goal);
-        this.typed.unshift(...machine.keys.splice(machine.arrived));
+        this.typed = [...machine.keys.splice(machine.arrived), ...this.typed];
         machine.times.length = machine.arrived;
         Object.assign(this, { since: this.clock, look: this.clock, left: null, passed: "", stop: Stop.DONE });
     }

@@ -1,19 +1,24 @@
 """How strong the tests of fanthrig.wasm are: single instructions of it are altered at random.
 
-    python3 mutants.py COUNT SEED FOLDER
+    python3 mutants.py COUNT SEED FOLDER [FUNCTION]
 
 FOLDER has what the tests need: answers.jsonl, runs.txt and longs.txt, as page/tests/run.sh makes
-them. Of each alteration it is told by which test it is found. It needs wasm2wat and wat2wasm of
+them. Of each alteration it is told by which test it is found; FUNCTION, such as lc3_run_long, has
+the instructions of this export alone altered. The same count and seed give the same alterations of
+the same library: docs/landings/23-page.md used 110 and 40. It needs wasm2wat and wat2wasm of
 Debian's package wabt, takes long, and is no part of the gate.
 """
 
 from __future__ import annotations
 
+import hashlib
 import random
 import re
 import subprocess
 import sys
+import time
 from collections import Counter
+from itertools import islice
 from pathlib import Path
 
 ROOT = Path(__file__).resolve().parent.parent.parent
@@ -53,13 +58,17 @@ OTHERS = {
 CONSTANT = re.compile(r"(i(?:32|64)\.const) (-?\d+)")
 FUNCTION = re.compile(r"  \(func \(;(\d+);\)")
 EXPORT = re.compile(r'  \(export "(\w+)" \(func (\d+)\)\)')
+PATIENCE = 15  # times that a test may take of what it takes with the library as it is
+AT_LEAST = 60.0  # seconds that it may take in any case
+# The comparisons that each alteration is tried with; those that survive are tried with all.
+PART = {"runs.txt": 2000, "longs.txt": 1000, "sittings": 50}
 
 
 class Text:
     """The library as text, with the function of each line."""
 
-    def __init__(self) -> None:
-        """The lines, and the places that can be altered."""
+    def __init__(self, only: str = "") -> None:
+        """The lines, and the places that can be altered: of one export alone where it is named."""
         said = subprocess.run(["wasm2wat", LIBRARY], capture_output=True, text=True, check=True)
         self.lines = said.stdout.split("\n")
         names = {number: name for name, number in EXPORT.findall(said.stdout)}
@@ -68,7 +77,11 @@ class Text:
             found = FUNCTION.match(line)
             current = found[1] if found else current
             self.functions.append(names.get(current, f"function {current}"))
-        self.places = [at for at, line in enumerate(self.lines) if self._may_be_altered(line)]
+        self.places = [
+            at
+            for at, line in enumerate(self.lines)
+            if self._may_be_altered(line) and only in ("", self.functions[at])
+        ]
 
     @staticmethod
     def _may_be_altered(line: str) -> bool:
@@ -95,43 +108,103 @@ class Text:
         return made.returncode == 0
 
 
-def fails(command: list[str]) -> bool:
-    """Whether a test does not pass, in good time."""
-    try:
-        return subprocess.run(command, cwd=ROOT, capture_output=True, timeout=600).returncode != 0
-    except subprocess.TimeoutExpired:
+class Tests:
+    """The tests, the shortest first, each with the time that it may take."""
+
+    def __init__(self, folder: Path, part: bool) -> None:
+        """All that there is to compare, or a part of it that takes a tenth of the time."""
+        self._folder = folder / ("part" if part else "all")
+        self._folder.mkdir(exist_ok=True)
+        self._copy(folder, PART if part else {})
+        self._most: dict[str, float] = {}
+
+    def _copy(self, folder: Path, counts: dict[str, int]) -> None:
+        """The comparisons: so many of each. Those of sittings, which take long, have a file of their own."""
+        lines = (folder / "answers.jsonl").read_text(encoding="utf-8").splitlines(True)
+        sittings = [line for line in lines if line.startswith('{"call":"sitting"')]
+        calls = [line for line in lines if not line.startswith('{"call":"sitting"')]
+        memory = [line for line in calls if line.startswith('{"call":"memory"')]
+        sittings = memory + sittings[: counts.get("sittings")]
+        for name, some in {"calls.jsonl": calls, "sittings.jsonl": sittings}.items():
+            (self._folder / name).write_text("".join(some), encoding="utf-8")
+        for name in ("runs.txt", "longs.txt"):
+            with (folder / name).open(encoding="utf-8") as file:
+                text = "".join(islice(file, counts.get(name)))
+            (self._folder / name).write_text(text, encoding="utf-8")
+
+    def _commands(self, library: Path) -> dict[str, list[str]]:
+        """The command of each test."""
+        node, to = ["node"], ["--library", str(library)]
+        runs, native = [*node, "page/tests/runs.mjs"], [*node, "page/tests/native.mjs"]
+        return {
+            "300 stored runs": [*runs, "host/tests/reference/runs.txt", *to],
+            "what programs replace": [*node, "page/tests/windows.mjs", *to],
+            "the long runs": [*runs, str(self._folder / "longs.txt"), *to],
+            "the runs of the reference": [*runs, str(self._folder / "runs.txt"), *to],
+            "the native library's answers": [*native, str(self._folder / "calls.jsonl"), *to],
+            "Python's sittings": [*native, str(self._folder / "sittings.jsonl"), *to],
+        }
+
+    def pass_as_it_is(self) -> None:
+        """Has each test pass with the library as it is, and sets its time."""
+        for name, command in self._commands(LIBRARY).items():
+            begun = time.monotonic()
+            subprocess.run(command, cwd=ROOT, check=True, capture_output=True)
+            self._most[name] = max(AT_LEAST, PATIENCE * (time.monotonic() - begun))
+
+    def finding(self, library: Path) -> str:
+        """The first test that does not pass in good time, or nothing."""
+        for name, command in self._commands(library).items():
+            most = self._most[name]
+            try:
+                said = subprocess.run(command, cwd=ROOT, capture_output=True, timeout=most)
+            except subprocess.TimeoutExpired:
+                return f"{name}, which do not end"
+            if said.returncode:
+                return name
+        return "nothing"
+
+
+class Alterations:
+    """Alterations of the library, each with the test that finds it."""
+
+    def __init__(self, text: Text, out: Path) -> None:
+        """None yet; `out` is the file of the altered library."""
+        self._text, self._out = text, out
+        self.found: Counter[str] = Counter()
+        self.survivors: list[tuple[int, str, str]] = []
+
+    def try_by(self, tests: Tests, at: int, old: str, new: str) -> bool:
+        """Tries one and tells what finds it; whether it is a library still."""
+        if not self._text.write(at, new, self._out):
+            return False
+        by = tests.finding(self._out)
+        self.found[by] += 1
+        if by == "nothing":
+            self.survivors.append((at, old, new))
+        where = f"line {at + 1}, {self._text.functions[at]}"
+        print(f"{where}: {old.strip()} -> {new.strip()}: found by {by}", flush=True)
         return True
 
 
-def tests(folder: Path, library: Path) -> dict[str, list[str]]:
-    """The tests, the shortest first."""
-    node, to = ["node"], ["--library", str(library)]
-    runs, native = [*node, "page/tests/runs.mjs"], [*node, "page/tests/native.mjs"]
-    return {
-        "300 stored runs": [*runs, "host/tests/reference/runs.txt", *to],
-        "what programs replace": [*node, "page/tests/windows.mjs", *to],
-        "the native library's answers": [*native, str(folder / "answers.jsonl"), *to],
-        "the runs of the reference": [*runs, str(folder / "runs.txt"), *to],
-        "the long runs": [*runs, str(folder / "longs.txt"), *to],
-    }
-
-
-def main(count: int, seed: int, folder: Path) -> None:
+def main(count: int, seed: int, folder: Path, only: str = "") -> None:
     """Makes so many alterations, and tells by what each is found."""
-    rng, text, out = random.Random(seed), Text(), folder / "altered.wasm"
-    found: Counter[str] = Counter()
-    print(f"{len(text.places)} places, seed {seed}", flush=True)
-    while sum(found.values()) < count:
-        at, old, new = text.altered(rng)
-        if not text.write(at, new, out):
-            continue
-        by = next((name for name, test in tests(folder, out).items() if fails(test)), "nothing")
-        found[by] += 1
-        where = f"line {at + 1}, {text.functions[at]}"
-        print(f"{where}: {old.strip()} -> {new.strip()}: found by {by}", flush=True)
-    for name, number in found.most_common():
+    rng, text, out = random.Random(seed), Text(only), folder / f"altered{only}.wasm"
+    digest = hashlib.sha256(LIBRARY.read_bytes()).hexdigest()
+    print(f"{len(text.places)} places, seed {seed}, library {digest}", flush=True)
+    tests, some = Tests(folder, True), Alterations(text, out)
+    tests.pass_as_it_is()
+    while some.found.total() < count:
+        some.try_by(tests, *text.altered(rng))
+    for name, number in some.found.most_common():
         print(f"{number} found by {name}")
+    if some.survivors:
+        print(f"all comparisons for those {len(some.survivors)} that no part of them finds:", flush=True)
+        tests, others = Tests(folder, False), Alterations(text, out)
+        tests.pass_as_it_is()
+        for survivor in some.survivors:
+            others.try_by(tests, *survivor)
 
 
 if __name__ == "__main__":
-    main(int(sys.argv[1]), int(sys.argv[2]), Path(sys.argv[3]))
+    main(int(sys.argv[1]), int(sys.argv[2]), Path(sys.argv[3]), *sys.argv[4:5])

@@ -6,10 +6,19 @@ import { drawAll, onDraw, seat } from "./seat.mjs";
 const LONGEST = 20000; // bytes of the display that are drawn
 let drawn = null, clearedAt = 0;
 
-// A byte as the display shows it: controls other than tab and line feed as their pictures.
-function letter(byte) {
-    if (byte === 10 || byte === 9 || (byte > 31 && byte !== 127)) return String.fromCharCode(byte);
-    return byte === 13 ? "" : String.fromCodePoint(byte === 127 ? 0x2421 : 0x2400 + byte);
+// What stands for a character of control, so that no program steers what is shown of it: a picture, or the sign for
+// what is none.
+function picture(letter) {
+    const code = letter.codePointAt(0);
+    if (code === 13) return "";
+    return code < 32 ? String.fromCodePoint(0x2400 + code) : code === 127 ? "\u2421" : "\ufffd";
+}
+
+// Bytes as a terminal shows them, in UTF-8. The first of them may be the rest of a character.
+function shownOf(bytes) {
+    const rest = bytes.length < LONGEST ? 0 : bytes.findIndex((byte) => (byte & 0xc0) !== 0x80);
+    return new TextDecoder("utf-8", { ignoreBOM: true }).decode(bytes.subarray(Math.max(rest, 0)))
+        .replace(/[^\P{C}\t\n]/gu, picture);
 }
 
 onDraw(() => {
@@ -21,7 +30,7 @@ onDraw(() => {
     const bytes = machine.displayed(Math.max(clearedAt, machine.shown - LONGEST)), box = $("display");
     const cursor = document.createElement("span");
     cursor.className = "cursor";
-    box.replaceChildren(document.createTextNode(Array.from(bytes, letter).join("")), cursor);
+    box.replaceChildren(shownOf(bytes), cursor);
     box.scrollTop = box.scrollHeight;
     pending();
 });

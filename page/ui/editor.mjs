@@ -3,30 +3,19 @@ import { hex } from "../lib/constants.mjs";
 import { binary, objectFile, portable, sourceOf, textOf } from "../lib/source.mjs";
 import { $, download, make, setText, tell } from "./dom.mjs";
 import { load } from "./files.mjs";
+import { keep, kept } from "./kept.mjs";
 import { isBeside, seat } from "./seat.mjs";
 
-const KEPT = "fanthrig.lc3.program";
 const NAME = "program.obj";
+const ROW = 20, AROUND = 20; // the height of a row, and the rows above and below those in view
+let read = null; // the text, its lines and the program of it, as it was read last
 
-// The browser may keep nothing for a page, by its settings.
-function kept() {
-    try {
-        return localStorage.getItem(KEPT) ?? "";
-    } catch {
-        return "";
-    }
+// The text as it stands, read once.
+function parsed() {
+    const text = $("source").value;
+    if (read?.text !== text) read = { text, lines: text.split("\n"), ...sourceOf(seat.sitting.library, text) };
+    return read;
 }
-
-function keep(text) {
-    try {
-        if (text) localStorage.setItem(KEPT, text);
-        else localStorage.removeItem(KEPT);
-    } catch {
-        // Then the text is there until the page is closed.
-    }
-}
-
-const parsed = () => sourceOf(seat.sitting.library, $("source").value);
 
 function formRow({ address, word, isOrigin, error }) {
     const { problem } = error ?? {}, whole = (text) => make("td", { colSpan: 4, title: problem ?? "" }, text);
@@ -43,17 +32,41 @@ function marked(line, { error }) {
     return [line.slice(0, from), make("mark", {}, line.slice(from, to) || " "), `${line.slice(to)}\n`];
 }
 
+// A row of the table as high as some that are out of view.
+function gap(rows) {
+    const row = make("tr", { "aria-hidden": "true" }, make("td", { colSpan: 4 }));
+    row.firstChild.style.height = `${rows * ROW}px`;
+    return row;
+}
+
+// Draws the rows that are in view: a program may have thousands.
+function drawRows() {
+    const { lines, rows } = parsed(), box = $("source-view");
+    const first = Math.min(Math.max(0, Math.floor(box.scrollTop / ROW) - AROUND), rows.length);
+    const end = Math.min(rows.length, first + Math.ceil(box.clientHeight / ROW) + 2 * AROUND);
+    const drawn = rows.slice(first, end), above = first ? [gap(first)] : [];
+    const below = end < rows.length ? [gap(rows.length - end)] : [];
+    $("forms").replaceChildren(...above, ...drawn.map(formRow), ...below);
+    $("source-marks").style.paddingTop = `${first * ROW}px`;
+    $("source-marks").replaceChildren(...drawn.flatMap((row, at) => marked(lines[first + at], row)));
+}
+
 function drawEditor() {
-    const text = $("source").value, lines = text.split("\n"), { rows, errors } = parsed();
-    $("forms").replaceChildren(...rows.map(formRow));
-    $("source-marks").replaceChildren(...lines.flatMap((line, at) => marked(line, rows[at])));
+    const { lines, rows, errors } = parsed(), first = rows.findIndex((row) => row.error);
     $("source").rows = Math.max(lines.length, 12);
-    $("source").cols = Math.max(20, ...lines.map((line) => line.length + 1));
+    $("source").cols = lines.reduce((most, line) => Math.max(most, line.length + 1), 20);
     $("source").setAttribute("aria-invalid", errors ? "true" : "false");
-    const first = rows.findIndex((row) => row.error);
     const more = errors > 1 ? ` ${errors - 1} more ${errors === 2 ? "row is" : "rows are"} wrong.` : "";
     setText($("source-errors"), errors ? `Row ${first + 1}: ${rows[first].error.problem}.${more}` : "");
     $("source-errors").classList.toggle("wrong", errors > 0);
+    drawRows();
+}
+
+function keepText() {
+    const isKept = keep($("source").value);
+    setText($("source-kept"), isKept ? "The text is kept in this browser until it is cleared."
+        : "This browser does not keep the text: save it before the page is closed.");
+    $("source-kept").classList.toggle("wrong", !isKept);
 }
 
 // The program of the text, or null where it is wrong, which is said.
@@ -82,9 +95,9 @@ function takeProgram() {
 // Puts a text into the field, and keeps it.
 export function setSource(text) {
     $("source").value = text;
-    keep(text);
-    drawEditor();
+    keepText();
     show("program");
+    drawEditor();
 }
 
 function save(asText) {
@@ -117,9 +130,11 @@ function listenTabs() {
 
 export function listenEditor() {
     $("source").addEventListener("input", () => {
-        keep($("source").value);
+        keepText();
         drawEditor();
     });
+    $("source-view").addEventListener("scroll", drawRows);
+    new ResizeObserver(drawRows).observe($("source-view"));
     $("load-program").addEventListener("click", loadProgram);
     $("take-program").addEventListener("click", takeProgram);
     $("save-object").addEventListener("click", () => save(false));

@@ -4,7 +4,11 @@ import { endLine } from "../lib/ending.mjs";
 import { SWAPPED, isSwapped, isText, otherFormat } from "../lib/formats.mjs";
 import { recordingOf } from "../lib/recording.mjs";
 import { $, download, tell } from "./dom.mjs";
+import { stop } from "./running.mjs";
 import { drawAll, keepSeen, recordedSitting, seat, seated } from "./seat.mjs";
+
+// The longest files that are read: what the command takes.
+const LONGEST_PROGRAM = 1 << 22, LONGEST_RECORDING = 1 << 26;
 
 export const EXAMPLES = {
     hello: { title: "hello", files: ["hello"] },
@@ -28,6 +32,11 @@ export function settings() {
     return { user, edition, monitor: $("monitor").checked, anywhere: $("anywhere").checked };
 }
 
+const isRecording = (name) => /\.json$/i.test(name);
+
+// The ready-made monitor does not serve the second edition.
+function drawSettings() { $("monitor").disabled = $("edition").value === "2"; }
+
 // What is wrong with a file, in words.
 function problemOf(error, files) {
     const swapped = error instanceof Refused && files.find(({ bytes }) => isSwapped(bytes));
@@ -37,8 +46,16 @@ function problemOf(error, files) {
     return error.message;
 }
 
+let opened = 0;
+// Begins to open something, which may take its time, and answers whether nothing else was opened since.
+function opening() {
+    const number = ++opened;
+    return () => number === opened;
+}
+
 // Loads files in the place of those that are there, or says why not.
 export function load(files) {
+    opening();
     try {
         for (const { name, bytes } of files) {
             const problem = isText(bytes) ? "it is text: open it alone, and load it" : otherFormat(bytes);
@@ -63,20 +80,24 @@ function keepBreakpoints(sitting) {
 // Goes to the start: of the recording that was opened, with its keys to come at their times, or of the files.
 export async function restart() {
     if (!seat.recording) return reset();
-    seat.sitting = keepBreakpoints(await recordedSitting(seat.recording, false));
+    const isLast = opening(), sitting = await recordedSitting(seat.recording);
+    if (!isLast()) return;
+    seat.sitting = keepBreakpoints(sitting);
     begun();
     tell(`${seat.recording.name} stands at its start: its keys come at their times.`);
 }
 
 // Starts again: the files anew, by the settings as they are.
 export function reset() {
-    $("monitor").disabled = $("edition").value === "2";
+    drawSettings();
     if (!load(seat.files)) $("settings").open = true;
 }
 
 function begun() {
     const { sitting } = seat, last = sitting.programs.at(-1);
     Object.assign(seat, { running: null, waiting: false, chosen: sitting.pc });
+    if ($("rows").contains(document.activeElement)) document.activeElement.blur(); // a word that was edited is no more
+    drawSettings();
     keepSeen();
     document.title = last ? `${last.name} – LC-3` : "LC-3";
     const beside = sitting.programs.slice(0, -1).map((program) => program.name).join(", ");
@@ -86,37 +107,62 @@ function begun() {
     drawAll();
 }
 
-async function openRecording({ name, bytes }) {
+async function openRecording({ name, bytes }, isLast) {
     const recording = { name, text: new TextDecoder().decode(bytes) };
-    try {
-        tell(`${name} is being replayed.`);
-        seat.sitting = keepBreakpoints(await recordedSitting(recording, true));
-    } catch (error) {
-        return tell(error.message, "wrong");
-    }
+    stop();
+    tell(`${name} is being replayed.`);
+    // A long one is replayed while the page can be used; whoever opens something else does not wait for it.
+    const sitting = await recordedSitting(recording, async (made, steps) => {
+        tell(`${name} is being replayed: ${Math.floor((100 * made) / steps)} %.`);
+        await new Promise((resolve) => { setTimeout(resolve); });
+        if (!isLast()) throw new Error("something else was opened");
+    });
+    if (!isLast()) return;
+    seat.sitting = keepBreakpoints(sitting);
     Object.assign(seat, { files: [], recording });
+    $("edition").value = String(sitting.edition);
     begun();
-    $("edition").value = String(seat.sitting.edition);
-    tell(`${name} is replayed, and comes to its end: ${endLine(seat.sitting.ending(), seat.sitting.clock)}`);
+    tell(`${name} is replayed, and comes to its end: ${endLine(sitting.ending(), sitting.clock)}`);
 }
 
-// Opens what was chosen or dropped: a recording, a program as text, or object files.
-export async function openFiles(list, openText) {
+// The bytes of a file that is not too long to be what it is for, and can be read.
+async function read(file) {
+    const { name, size } = file, most = isRecording(name) ? LONGEST_RECORDING : LONGEST_PROGRAM;
+    if (size > most) throw new Error(`${name}: refused: it is longer than ${most >> 20} MiB`);
+    try {
+        return { name, bytes: new Uint8Array(await file.arrayBuffer()) };
+    } catch {
+        throw new Error(`${name}: it cannot be read: a folder is not opened, but the files in it`);
+    }
+}
+
+async function taken(list, openText, isLast) {
     const files = [];
-    for (const file of list) files.push({ name: file.name, bytes: new Uint8Array(await file.arrayBuffer()) });
-    $("examples").value = "";
-    if (!files.length) return;
-    const [first] = files, ends = (end) => first.name.toLowerCase().endsWith(end);
-    if (files.length === 1 && ends(".json")) return openRecording(first);
-    if (files.length === 1 && (ends(".txt") || isText(first.bytes)))
+    for (const file of list) files.push(await read(file));
+    if (!isLast() || !files.length) return;
+    const [first] = files;
+    if (files.length === 1 && isRecording(first.name)) return openRecording(first, isLast);
+    if (files.length === 1 && (/\.txt$/i.test(first.name) || isText(first.bytes)))
         return openText(new TextDecoder().decode(first.bytes));
     load(files);
 }
 
+// Opens what was chosen or dropped: a recording, a program as text, or object files.
+export async function openFiles(list, openText) {
+    const isLast = opening();
+    $("examples").value = "";
+    try {
+        await taken(list, openText, isLast);
+    } catch (error) {
+        if (isLast()) tell(error.message, "wrong");
+    }
+}
+
 export async function openExample(name) {
-    const { files, supervisor = false } = EXAMPLES[name], parts = [];
+    const { files, supervisor = false } = EXAMPLES[name], parts = [], isLast = opening();
     for (const file of files)
         parts.push({ name: `${file}.obj`, bytes: await bytesOf(`example-${file}`, `../examples/${file}.obj`) });
+    if (!isLast()) return;
     $("mode").value = supervisor ? "supervisor" : "user";
     $("edition").value = "3";
     $("monitor").checked = true;

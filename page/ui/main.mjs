@@ -20,6 +20,13 @@ function drawRate() {
     $("speed").setAttribute("aria-valuetext", full ? "full speed" : `${speed} steps a second`);
 }
 
+// Closes the menu; who was in it stands at its button again.
+function closeMenu() {
+    const menu = $("settings"), inside = menu.open && menu.contains(document.activeElement);
+    menu.open = false;
+    if (inside) menu.firstElementChild.focus();
+}
+
 function listenButtons() {
     const saves = { "save-recording": saveRecording, "save-program": saveProgram };
     const clicks = { run: runOrStop, step, over, out, back, reset: restart, ...saves };
@@ -30,7 +37,7 @@ function listenButtons() {
     $("examples").addEventListener("change", (event) => event.target.value && openExample(event.target.value));
     $("speed").addEventListener("input", drawRate);
     // A menu is closed by Escape and by a click beside it.
-    addEventListener("keydown", (event) => { if (event.key === "Escape") $("settings").open = false; });
+    addEventListener("keydown", (event) => { if (event.key === "Escape") closeMenu(); });
     addEventListener("click", (event) => { if (!$("settings").contains(event.target)) $("settings").open = false; });
 }
 
@@ -54,7 +61,7 @@ function listenDrop() {
 // An example may be named in the page's address, as lc3.html#echo.
 async function openNamed() {
     const name = location.hash.slice(1);
-    if (!(name in EXAMPLES)) return false;
+    if (!Object.hasOwn(EXAMPLES, name)) return false;
     await openExample(name);
     return true;
 }
@@ -68,6 +75,7 @@ async function begin() {
     $("size").textContent = `The library has ${size} KiB and reaches nothing but its own memory.`;
     for (const [name, { title }] of Object.entries(EXAMPLES)) $("examples").append(new Option(title, name));
     listenButtons();
+    drawRate(); // a browser keeps the slider's place when the page is loaded anew
     listenDrop();
     listenConsole();
     listenListing();

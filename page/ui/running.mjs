@@ -1,7 +1,7 @@
 // Running: frames of steps between which the page is drawn, single steps, and going back.
 import { Stop, hex } from "../lib/constants.mjs";
 import { LOOPS, endLine } from "../lib/ending.mjs";
-import { $, tell } from "./dom.mjs";
+import { $, steps, tell } from "./dom.mjs";
 import { drawAll, keepSeen, onDraw, seat } from "./seat.mjs";
 
 const FULL = 24; // the slider's place for full speed; below it ten places are a factor of 100
@@ -45,7 +45,13 @@ function go(calls = null) {
     seat.waiting = false;
     tell("Running.");
     drawButtons();
-    requestAnimationFrame(frame);
+    nextFrame();
+}
+
+// Has the next steps of this run made, unless another has begun by then.
+function nextFrame() {
+    const { running } = seat;
+    requestAnimationFrame((now) => { if (seat.running === running && !seat.waiting) frame(now); });
 }
 
 export const over = () => go(untilDepth(0));
@@ -74,11 +80,10 @@ function slowly(now, speed) {
 }
 
 function frame(now) {
-    const { running } = seat;
-    if (!running || seat.waiting) return;
-    const speed = rate(), [stop, idle] = speed === Infinity ? fullSpeed(now) : slowly(now, speed);
+    const { running } = seat, speed = rate();
+    const [stop, idle] = speed === Infinity ? fullSpeed(now) : slowly(now, speed);
     running.since = now;
-    if (stop === Stop.HALTED || stop === Stop.BREAKPOINT || running.calls?.met) return ended(stop);
+    if (stop !== Stop.DONE || running.calls?.met) return ended(stop);
     if (idle === "waiting") return wait();
     if (idle) return ended(stop, LOOPS);
     if (speed !== Infinity || now - running.drawn > DRAWN_EVERY) {
@@ -86,7 +91,7 @@ function frame(now) {
         tell("Running.");
         drawAll(speed <= 60);
     }
-    requestAnimationFrame(frame);
+    nextFrame();
 }
 
 // A machine that waits for a key is let be until one comes.
@@ -102,7 +107,7 @@ export function wake() {
     if (!seat.running || !seat.waiting) return;
     seat.waiting = false;
     seat.running.since = performance.now();
-    requestAnimationFrame(frame);
+    nextFrame();
 }
 
 // Tells how a run ended, in the words of the command.
@@ -138,7 +143,7 @@ export function step() {
 function stepped(stop) {
     const { sitting } = seat;
     if (sitting.halted || stop !== Stop.DONE) return ended(stop);
-    tell(`${sitting.clock.toLocaleString("en")} steps made; PC ${hex(sitting.pc)}: ${sitting.lines(sitting.pc, 1)[0]}`);
+    tell(`${steps(sitting.clock)} made; PC ${hex(sitting.pc)}: ${sitting.lines(sitting.pc, 1)[0]}`);
     drawAll();
 }
 

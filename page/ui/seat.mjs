@@ -4,6 +4,9 @@ import { RecordingError, replayed, sittingOf } from "../lib/recording.mjs";
 
 // The first steps of a sitting in which words that are read before they are written are looked for: a second's worth.
 export const WATCHED = 1 << 21;
+// The most bytes that the display shows: a program that writes without end is stopped before memory is full.
+const DISPLAY_LIMIT = 1 << 26;
+const LIMITS = { watched: WATCHED, displayLimit: DISPLAY_LIMIT };
 
 export const seat = {
     module: null, // fanthrig.wasm, compiled
@@ -35,7 +38,7 @@ export const isBeside = ({ bytes }) => bytes.length > 1 && (bytes[0] < 0x30 || b
 
 // A sitting with the files in memory: those in privileged memory are there for the others, the last of which runs.
 export function seated(files, { user, edition, monitor, anywhere }) {
-    const has = monitor && edition === 3, options = { user, edition, monitor: has, anywhere, watched: WATCHED };
+    const has = monitor && edition === 3, options = { user, edition, monitor: has, anywhere, ...LIMITS };
     const sitting = new Sitting(seat.module, options);
     const order = [...files].sort((one, other) => Number(isBeside(other)) - Number(isBeside(one)));
     const beside = order.slice(0, -1);
@@ -48,12 +51,12 @@ export function seated(files, { user, edition, monitor, anywhere }) {
     return sitting;
 }
 
-// The sitting of a recording, at its start or at its end; or an error that says what is wrong with the file.
-export async function recordedSitting({ name, text }, atEnd) {
-    const options = { watched: WATCHED };
+// The sitting of a recording: at its start, or at its end where `between` is told of the way there; or an error that
+// says what is wrong with the file.
+export async function recordedSitting({ name, text }, between = null) {
     try {
-        if (atEnd) return await replayed(seat.module, text, options);
-        return (await sittingOf(seat.module, text, options)).sitting;
+        if (between) return await replayed(seat.module, text, { between, ...LIMITS });
+        return (await sittingOf(seat.module, text, LIMITS)).sitting;
     } catch (error) {
         if (error instanceof RecordingError) throw new Error(`${name}: ${error.message}`);
         throw error;
