@@ -5,6 +5,7 @@
 # make lib        build/libfanthrig.a and build/libfanthrig.so; the header is include/fanthrig/lc3.h
 # make page       build/page/lc3.html, the LC-3 as one file for a browser; build/fanthrig.wasm, build/fanthrig.mjs
 # make page-test  these against the reference, the native library and real browsers
+# make page-rate  the page's figures: sizes, steps a second beside native, time to be ready and of a step, of page-test
 # make install    library, header, fanthrig.pc, module, command, manual pages, page, examples, under DESTDIR and PREFIX
 # make uninstall  takes away what `make install` put there
 # make dist       a release in build/dist: source, binary archive, wheel, Debian packages, sums, provenance
@@ -54,7 +55,7 @@ FOLDERS = "$(LIBDIR)/pkgconfig" "$(MODULES)" $(foreach part,$(dir include/$(HEAD
 LOADER = @[ -n "$(DESTDIR)" ] || /sbin/ldconfig 2>/dev/null || \
     echo "Run ldconfig as root, so that programs find $(SONAME)."
 
-.PHONY: run told demo test lib page page-test install uninstall dist release-test bench rate soak mutants
+.PHONY: run told demo test lib page page-test page-rate install uninstall dist release-test bench rate soak mutants
 .PHONY: format lint clean host host-c host-counts host-rust host-python
 
 run: told lib
@@ -163,6 +164,9 @@ build/page/lc3.html: build/fanthrig.wasm tools/page.py VERSION $(wildcard page/l
 
 page-test: lib page
 	page/tests/run.sh
+
+page-rate: lib page
+	page/tests/figures.sh
 
 # `make -o lib -o page install` takes the library and the page as they stand.
 install: lib page

@@ -12,24 +12,39 @@ export class Browser {
     static async start({ width = 1440, height = 1000, downloads = "/nowhere" } = {}) {
         const browser = new Browser();
         browser.process = spawn("chromedriver", ["--port=0"], { stdio: ["ignore", "pipe", "ignore"] });
-        const port = await new Promise((resolve, reject) => {
-            browser.process.on("error", reject);
-            browser.process.stdout.on("data", (text) => {
+        try {
+            browser.base = `http://127.0.0.1:${await browser.port()}`;
+            await browser.begin(`--window-size=${width},${height}`, downloads);
+        } catch (error) {
+            browser.process.kill();
+            throw error;
+        }
+        return browser;
+    }
+
+    // The port that chromedriver has chosen.
+    port() {
+        return new Promise((resolve, reject) => {
+            this.process.on("error", reject);
+            this.process.on("exit", () => reject(new Error("chromedriver does not start")));
+            this.process.stdout.on("data", (text) => {
                 const found = /successfully on port (\d+)/.exec(text);
                 if (found) resolve(found[1]);
             });
         });
-        browser.base = `http://127.0.0.1:${port}`;
-        const args = ["--headless=new", "--no-sandbox", "--disable-gpu", "--disable-dev-shm-usage",
-            `--window-size=${width},${height}`];
+    }
+
+    async begin(size, downloads) {
+        const args = ["--headless=new", "--no-sandbox", "--disable-gpu", "--disable-dev-shm-usage", size];
         const prefs = { "download.default_directory": downloads, "download.prompt_for_download": false };
         const options = { args, binary: "/usr/bin/chromium", prefs };
-        const logs = { browser: "ALL", performance: "ALL" };
-        const wanted = { browserName: "chrome", "goog:chromeOptions": options, "goog:loggingPrefs": logs };
-        const session = await browser.ask("POST", "/session", { capabilities: { alwaysMatch: wanted } });
-        browser.base += `/session/${session.sessionId}`;
-        browser.version = session.capabilities.browserVersion;
-        return browser;
+        const logs = { browser: "ALL", performance: "ALL" }, timeouts = { script: 5 * PATIENCE, pageLoad: PATIENCE };
+        const wanted = { browserName: "chrome", timeouts, "goog:chromeOptions": options, "goog:loggingPrefs": logs };
+        const asked = { capabilities: { alwaysMatch: wanted } };
+        // On a busy host a browser may take longer to start than chromedriver waits for it.
+        const session = await this.ask("POST", "/session", asked).catch(() => this.ask("POST", "/session", asked));
+        this.base += `/session/${session.sessionId}`;
+        this.version = session.capabilities.browserVersion;
     }
 
     async ask(method, path, body) {
@@ -66,12 +81,26 @@ export class Browser {
         await this.ask("POST", "/actions", { actions: [{ type: "key", id: "keyboard", actions }] });
     }
 
+    // Opens a tab and goes there, or goes to one that is open; answers the one that it came from.
+    async tab(to = null) {
+        const from = await this.ask("GET", "/window");
+        const handle = to ?? (await this.ask("POST", "/window/new", { type: "tab" })).handle;
+        await this.ask("POST", "/window", { handle });
+        return from;
+    }
+
+    closeTab() { return this.ask("DELETE", "/window"); }
+
+    // What the system would ask of all pages, such as { "forced-colors": "active" }.
+    media(wanted) {
+        const features = Object.entries(wanted).map(([name, value]) => ({ name, value }));
+        return this.cdp("Emulation.setEmulatedMedia", { features });
+    }
+
     async shot(file) { await writeFile(file, Buffer.from(await this.ask("GET", "/screenshot"), "base64")); }
 
     // Light or dark, as the system's setting would have it.
-    scheme(value) {
-        return this.cdp("Emulation.setEmulatedMedia", { features: [{ name: "prefers-color-scheme", value }] });
-    }
+    scheme(value) { return this.media({ "prefers-color-scheme": value }); }
 
     size(width, height, mobile = false) {
         return this.cdp("Emulation.setDeviceMetricsOverride", { width, height, deviceScaleFactor: 1, mobile });

@@ -1,5 +1,4 @@
-// The library in Chromium's own engine: some runs of the reference, and its speed.     node engine.mjs PAGE.html
-// RUNS.txt
+// The library in Chromium's own engine: some runs of the reference.     node engine.mjs PAGE.html RUNS.txt
 import { strict as assert } from "node:assert";
 import { readFile } from "node:fs/promises";
 import { Browser } from "./driver.mjs";
@@ -19,9 +18,6 @@ try {
         calls += await browser.run(`${script}; return compare(arguments[0])`, lines.slice(at, at + AT_ONCE));
     assert(calls > RUNS);
     console.log(`${RUNS} runs of the reference in Chromium ${browser.version} itself, ${calls} calls: all equal`);
-    const rates = await browser.run(`${script}; return rates()`);
-    const told = rates.map(([name, rate]) => `${name} ${rate.toFixed(0)}`).join(", ");
-    console.log(`million steps a second there: ${told}`);
 } finally {
     await browser.end();
 }

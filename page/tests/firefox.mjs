@@ -28,7 +28,7 @@ class Firefox {
 
     // Firefox writes the port that it has chosen to its profile.
     async connected() {
-        for (let tries = 0; tries < 300; tries++) {
+        for (const until = Date.now() + PATIENCE; Date.now() < until;) {
             await pause(200);
             const port = Number(await readFile(join(this.profile, "MarionetteActivePort"), "utf8").catch(() => 0));
             if (!port) continue;
@@ -71,22 +71,21 @@ class Firefox {
     async type(css, text) { return this.ask("WebDriver:ElementSendKeys", { id: await this.element(css), text }); }
     text(css) { return this.run("return document.querySelector(arguments[0]).textContent", css); }
 
-    async until(text) {
-        const end = Date.now() + PATIENCE;
-        while (!(await this.text("#status")).includes(text)) {
-            if (Date.now() > end) throw new Error(`waited in vain for ${text}: ${await this.text("#status")}`);
+    async wait(script) {
+        for (const until = Date.now() + PATIENCE; !(await this.run(`return ${script}`));) {
+            if (Date.now() > until) throw new Error(`waited in vain for ${script}: ${await this.text("#status")}`);
             await pause(50);
         }
+    }
+
+    until(text) {
+        return this.wait(`document.getElementById('status').textContent.includes(${JSON.stringify(text)})`);
     }
 
     async open(url) {
         await this.ask("WebDriver:Navigate", { url: "about:blank" });
         await this.ask("WebDriver:Navigate", { url });
-        for (let tries = 0; tries < 200; tries++) {
-            if (await this.run("return document.documentElement.dataset.ready")) return;
-            await pause(50);
-        }
-        throw new Error("the page does not get ready");
+        await this.wait("document.documentElement.dataset.ready");
     }
 
     async end() {
@@ -113,9 +112,9 @@ const TESTS = {
         await firefox.open(`${url}#echo`);
         await firefox.click("#line-12290 .gutter");
         await firefox.type("#keys", "Hi.");
-        for (let turn = 0; turn < 20 && !(await firefox.run("return lc3.sitting.halted")); turn++) {
-            await firefox.run("if (!lc3.running) document.getElementById('run').click()");
-            await pause(150);
+        while (!(await firefox.run("return lc3.sitting.halted"))) {
+            await firefox.click("#run");
+            await firefox.wait("!lc3.running");
         }
         await firefox.until("halted by HALT");
         assert.equal(await firefox.text("#display"), "Hi.\nHalted\n");

@@ -16,10 +16,14 @@ import random
 import re
 import subprocess
 import sys
+import threading
 import time
 from collections import Counter
+from collections.abc import Iterable
+from concurrent.futures import ThreadPoolExecutor
 from itertools import islice
 from pathlib import Path
+from typing import Tuple
 
 ROOT = Path(__file__).resolve().parent.parent.parent
 LIBRARY = ROOT / "build/fanthrig.wasm"
@@ -59,6 +63,7 @@ CONSTANT = re.compile(r"(i(?:32|64)\.const) (-?\d+)")
 FUNCTION = re.compile(r"  \(func \(;(\d+);\)")
 EXPORT = re.compile(r'  \(export "(\w+)" \(func (\d+)\)\)')
 PATIENCE = 15  # times that a test may take of what it takes with the library as it is
+AT_ONCE = 4  # alterations that are tried at a time
 AT_LEAST = 60.0  # seconds that it may take in any case
 # The comparisons that each alteration is tried with; those that survive are tried with all.
 PART = {"runs.txt": 2000, "longs.txt": 1000, "sittings": 50}
@@ -119,7 +124,7 @@ class Tests:
         self._most: dict[str, float] = {}
 
     def _copy(self, folder: Path, counts: dict[str, int]) -> None:
-        """The comparisons: so many of each. Those of sittings, which take long, have a file of their own."""
+        """The comparisons, so many of each; those of sittings, which take long, by themselves."""
         lines = (folder / "answers.jsonl").read_text(encoding="utf-8").splitlines(True)
         sittings = [line for line in lines if line.startswith('{"call":"sitting"')]
         calls = [line for line in lines if not line.startswith('{"call":"sitting"')]
@@ -165,45 +170,59 @@ class Tests:
         return "nothing"
 
 
-class Alterations:
-    """Alterations of the library, each with the test that finds it."""
+Alteration = Tuple[int, str, str]  # the place, its line, and another line for it
 
-    def __init__(self, text: Text, out: Path) -> None:
-        """None yet; `out` is the file of the altered library."""
-        self._text, self._out = text, out
+
+class Trial:
+    """Alterations of the library, tried by tests, several at a time."""
+
+    def __init__(self, text: Text, tests: Tests, folder: Path) -> None:
+        """None yet; the altered libraries are written to the folder."""
+        self._text, self._tests, self._folder = text, tests, folder
         self.found: Counter[str] = Counter()
-        self.survivors: list[tuple[int, str, str]] = []
+        self.survivors: list[Alteration] = []
 
-    def try_by(self, tests: Tests, at: int, old: str, new: str) -> bool:
-        """Tries one and tells what finds it; whether it is a library still."""
-        if not self._text.write(at, new, self._out):
-            return False
-        by = tests.finding(self._out)
-        self.found[by] += 1
+    def _finding(self, alteration: Alteration) -> str:
+        """By what an alteration is found; empty where it leaves no library."""
+        at, _, new = alteration
+        out = self._folder / f"altered-{threading.get_ident()}.wasm"
+        return self._tests.finding(out) if self._text.write(at, new, out) else ""
+
+    def run(self, alterations: Iterable[Alteration], count: int) -> None:
+        """Tries alterations until so many were libraries, and tells by what each is found."""
+        source = iter(alterations)
+        with ThreadPoolExecutor(AT_ONCE) as pool:
+            while sum(self.found.values()) < count:
+                some = list(islice(source, count - sum(self.found.values())))
+                for alteration, by in zip(some, pool.map(self._finding, some)):
+                    self._tell(alteration, by)
+
+    def _tell(self, alteration: Alteration, by: str) -> None:
+        """Counts an alteration."""
+        at, old, new = alteration
+        if by:
+            self.found[by] += 1
         if by == "nothing":
-            self.survivors.append((at, old, new))
+            self.survivors.append(alteration)
         where = f"line {at + 1}, {self._text.functions[at]}"
-        print(f"{where}: {old.strip()} -> {new.strip()}: found by {by}", flush=True)
-        return True
+        print(f"{where}: {old.strip()} -> {new.strip()}: {by and 'found by ' + by}", flush=True)
 
 
 def main(count: int, seed: int, folder: Path, only: str = "") -> None:
     """Makes so many alterations, and tells by what each is found."""
-    rng, text, out = random.Random(seed), Text(only), folder / f"altered{only}.wasm"
+    rng, text, tests = random.Random(seed), Text(only), Tests(folder, True)
     digest = hashlib.sha256(LIBRARY.read_bytes()).hexdigest()
     print(f"{len(text.places)} places, seed {seed}, library {digest}", flush=True)
-    tests, some = Tests(folder, True), Alterations(text, out)
     tests.pass_as_it_is()
-    while some.found.total() < count:
-        some.try_by(tests, *text.altered(rng))
-    for name, number in some.found.most_common():
+    trial = Trial(text, tests, folder)
+    trial.run(iter(lambda: text.altered(rng), None), count)
+    for name, number in trial.found.most_common():
         print(f"{number} found by {name}")
-    if some.survivors:
-        print(f"all comparisons for those {len(some.survivors)} that no part of them finds:", flush=True)
-        tests, others = Tests(folder, False), Alterations(text, out)
-        tests.pass_as_it_is()
-        for survivor in some.survivors:
-            others.try_by(tests, *survivor)
+    if trial.survivors:
+        print(f"all comparisons for the {len(trial.survivors)} that a part does not find:")
+        everything = Tests(folder, False)
+        everything.pass_as_it_is()
+        Trial(text, everything, folder).run(trial.survivors, len(trial.survivors))
 
 
 if __name__ == "__main__":

@@ -3,73 +3,20 @@
 // The page is opened from the disk, or from a server of this process. DOWNLOADS is a folder of its own that the browser
 // saves files in. NAME, a part of a test's name, has that test run alone.
 import { strict as assert } from "node:assert";
-import { execFileSync } from "node:child_process";
-import { readFile, readdir, writeFile } from "node:fs/promises";
-import { join } from "node:path";
+import { readFile, writeFile } from "node:fs/promises";
+import { join, resolve } from "node:path";
 import { fileURLToPath } from "node:url";
-import { Browser, pause } from "./driver.mjs";
-import { ROOT, seconds, served } from "./support.mjs";
+import { Desk } from "./desk.mjs";
+import { ROOT, lc3 } from "./support.mjs";
 
-const [way, page, downloads, only = ""] = process.argv.slice(2);
-const [url, server] = await served(way, page);
+const [way, page, folder, only = ""] = process.argv.slice(2), downloads = resolve(folder);
 const { equal, ok, match, deepEqual } = assert;
-const b = await Browser.start({ downloads });
+const desk = await Desk.start(way, page, downloads), { browser: b, url } = desk;
+const bound = (name) => (...args) => desk[name](...args);
+const [open, status, display, sitting, until] = ["open", "status", "display", "sitting", "until"].map(bound);
+const [change, drop, files, write, load, saved] = ["change", "drop", "files", "write", "load", "saved"].map(bound);
 const example = (name) => fileURLToPath(new URL(`examples/${name}`, ROOT));
-const status = () => b.text("#status"), display = () => b.text("#display");
-const sitting = (what) => b.run(`return lc3.sitting.${what}`);
-const until = (text) => b.wait(`document.getElementById('status').textContent.includes(${JSON.stringify(text)})`);
 const [DOWN, ENTER, HOME, ESCAPE, LEFT] = ["\uE015", "\uE007", "\uE011", "\uE00C", "\uE012"];
-
-async function open(name) {
-    await b.go("about:blank");
-    await b.go(url + (name && `#${name}`));
-    await b.wait("document.documentElement.dataset.ready");
-}
-
-const change = (id, value) => b.run("const e = document.getElementById(arguments[0]);"
-    + "if (e.type === 'checkbox') e.checked = arguments[1]; else e.value = arguments[1];"
-    + "e.dispatchEvent(new Event('input')); e.dispatchEvent(new Event('change'))", id, value);
-
-const drop = (name, bytes) => b.run("const t = new DataTransfer();"
-    + "t.items.add(new File([new Uint8Array(arguments[1])], arguments[0]));"
-    + "dispatchEvent(Object.assign(new Event('drop'), { dataTransfer: t }))", name, [...bytes]);
-
-// Object files of words, on the disk: their names, as a file picker is handed them.
-async function files(...all) {
-    const names = all.map((_, at) => join(downloads, `${at}.obj`));
-    for (const [at, words] of all.entries())
-        await writeFile(names[at], Buffer.from(words.flatMap((word) => [word >> 8, word & 0xff])));
-    return names.join("\n");
-}
-
-async function write(text) {
-    await b.click("#tab-program");
-    await change("source", text);
-}
-
-async function load(text) {
-    await write(text);
-    await b.click("#load-program");
-}
-
-// The bytes of a file that the browser saves, once it is whole.
-async function saved(name, doing) {
-    const before = new Set(await readdir(downloads));
-    await doing();
-    for (let tries = 0; tries < 200; tries++) {
-        const whole = (file) => !before.has(file) && !file.endsWith(".crdownload") && !file.startsWith(".");
-        const [found] = (await readdir(downloads)).filter(whole);
-        if (found) return readFile(join(downloads, found));
-        await pause(50);
-    }
-    throw new Error(`${name} was not saved`);
-}
-
-const lc3 = (...words) => {
-    const env = { ...process.env, PYTHONPATH: "python" };
-    const options = { cwd: fileURLToPath(ROOT), env, stdio: ["ignore", "pipe", "pipe"] };
-    return execFileSync("sh", ["-c", 'python3 -m fanthrig "$@" 2>&1 || true', "sh", ...words], options).toString();
-};
 
 const ENDS = {
     hello: ["Hello, world!\nHalted\n", "halted by HALT; 317 steps; PC x3002: TRAP x25"],
@@ -370,11 +317,11 @@ const TESTS = {
         match(await b.value("#rate"), /^10 a second/);
         const begun = Date.now();
         await b.click("#run");
-        await pause(1200);
+        await b.wait("lc3.sitting.clock >= 8");
         await b.click("#run");
         // On a host that is busy the clicks take their time too.
         const made = await sitting("clock"), most = 10 * ((Date.now() - begun) / 1000) + 5;
-        ok(made >= 3 && made <= most, `${made} steps, and ${most} at most`);
+        ok(made <= most, `${made} steps, and ${most} at most`);
         match(await status(), /^stopped by you; \d+ steps; PC/);
         await change("speed", 24);
         await b.click("#run");
@@ -386,12 +333,11 @@ const TESTS = {
         await b.click("#run");
         await b.wait("lc3.sitting.clock > 3e6");
         const begun = Date.now(), from = await sitting("clock");
-        await pause(2000);
+        await b.wait(`lc3.sitting.clock > ${from + 2e8}`);
         const made = (await sitting("clock")) - from, rate = made / (Date.now() - begun) / 1000;
         await b.click("#run");
         match(await status(), /^stopped by you/);
         console.log(`    ${rate.toFixed(0)} million steps a second on the page`);
-        ok(made > 1e6);
         await b.click("#line-12289 .gutter");
         await b.click("#run");
         await until("breakpoint");
@@ -462,25 +408,8 @@ const TESTS = {
     },
 };
 
-let failed = 0;
-const begun = performance.now();
-try {
-    for (const [name, test] of Object.entries(TESTS).filter(([title]) => title.includes(only))) {
-        try {
-            await test();
-            console.log(`ok  ${name}`);
-        } catch (error) {
-            failed++;
-            console.log(`NOT ${name}: ${error.stack.split("\n").slice(0, 8).join("\n")}`);
-        }
-    }
+await desk.run(TESTS, only, async () => {
     await open("hello");
     const ready = await b.run("return document.documentElement.dataset.ready");
     console.log(`    ready ${ready} ms after the page was asked for`);
-} finally {
-    await b.end();
-    server?.close();
-}
-const count = Object.keys(TESTS).length;
-console.log(`${count} tests in Chromium ${b.version} over ${way}, ${failed} failed, ${seconds(begun)}`);
-process.exitCode = failed ? 1 : 0;
+});

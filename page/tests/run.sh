@@ -12,15 +12,21 @@ trap 'rm -rf "$work"' EXIT
 has() { command -v "$1" >/dev/null; }
 missing() { echo "page-test: $1 not installed: the page was NOT tried in $2"; }
 
-in_browsers() { # the page in each browser that there is; over file:// and http at once, since either mostly waits
+in_chromium() { # the page over file:// and http and in hostile hands, all at once, since each of them mostly waits
+    mkdir "$work/file" "$work/http" "$work/hostile"
+    node page/tests/page.mjs file $page "$work/file" >"$work/file.txt" 2>&1 & file=$!
+    node page/tests/page.mjs http $page "$work/http" >"$work/http.txt" 2>&1 & http=$!
+    node page/tests/hostile.mjs $page "$work/hostile" || failed=hostile
+    wait $file || failed=file
+    wait $http || failed=http
+    cat "$work/file.txt" "$work/http.txt"
+    [ -z "${failed:-}" ] || exit 1
+    node page/tests/engine.mjs $page "$work/runs.txt"
+}
+
+in_browsers() { # the page in each browser that there is
     if has chromium && has chromedriver; then
-        mkdir "$work/file" "$work/http"
-        node page/tests/page.mjs file $page "$work/file" >"$work/said" 2>&1 & file=$!
-        node page/tests/page.mjs http $page "$work/http" || failed=http
-        wait $file || failed=file
-        cat "$work/said"
-        [ -z "${failed:-}" ] || exit 1
-        node page/tests/engine.mjs $page "$work/runs.txt"
+        in_chromium
     else
         missing "chromium or chromedriver is" Chromium
     fi

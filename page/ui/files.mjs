@@ -142,9 +142,9 @@ async function taken(list, openText, isLast) {
     if (!isLast() || !files.length) return;
     const [first] = files;
     if (files.length === 1 && isRecording(first.name)) return openRecording(first, isLast);
-    if (files.length === 1 && (/\.txt$/i.test(first.name) || isText(first.bytes)))
-        return openText(new TextDecoder().decode(first.bytes));
-    load(files);
+    if (files.length > 1 || !(/\.txt$/i.test(first.name) || isText(first.bytes))) return load(files);
+    openText(new TextDecoder().decode(first.bytes));
+    tell(`${first.name} is opened as a text: “Load into the machine” makes words of it.`);
 }
 
 // Opens what was chosen or dropped: a recording, a program as text, or object files.
