@@ -17,7 +17,6 @@ import re
 import subprocess
 import sys
 import threading
-import time
 from collections import Counter
 from collections.abc import Iterable
 from concurrent.futures import ThreadPoolExecutor
@@ -62,11 +61,7 @@ OTHERS = {
 CONSTANT = re.compile(r"(i(?:32|64)\.const) (-?\d+)")
 FUNCTION = re.compile(r"  \(func \(;(\d+);\)")
 EXPORT = re.compile(r'  \(export "(\w+)" \(func (\d+)\)\)')
-PATIENCE = 15  # times that a test may take of what it takes with the library as it is
-AT_ONCE = 4  # alterations that are tried at a time
-AT_LEAST = 60.0  # seconds that it may take in any case
-# The comparisons that each alteration is tried with; those that survive are tried with all.
-PART = {"runs.txt": 2000, "longs.txt": 1000, "sittings": 50}
+AT_ONCE = 12  # alterations that are tried at a time
 
 
 class Text:
@@ -114,58 +109,49 @@ class Text:
 
 
 class Tests:
-    """The tests, the shortest first, each with the time that it may take."""
+    """The tests, the shortest first."""
 
     def __init__(self, folder: Path, part: bool) -> None:
         """All that there is to compare, or a part of it that takes a tenth of the time."""
         self._folder = folder / ("part" if part else "all")
         self._folder.mkdir(exist_ok=True)
-        self._copy(folder, PART if part else {})
-        self._most: dict[str, float] = {}
+        self._seconds = 60 if part else 1200
+        self._copy(folder, part)
 
-    def _copy(self, folder: Path, counts: dict[str, int]) -> None:
-        """The comparisons, so many of each; those of sittings, which take long, by themselves."""
+    def _copy(self, folder: Path, part: bool) -> None:
+        """The comparisons, those of sittings, which take long, by themselves."""
         lines = (folder / "answers.jsonl").read_text(encoding="utf-8").splitlines(True)
+        memory = [line for line in lines if line.startswith('{"call":"memory"')]
         sittings = [line for line in lines if line.startswith('{"call":"sitting"')]
-        calls = [line for line in lines if not line.startswith('{"call":"sitting"')]
-        memory = [line for line in calls if line.startswith('{"call":"memory"')]
-        sittings = memory + sittings[: counts.get("sittings")]
-        for name, some in {"calls.jsonl": calls, "sittings.jsonl": sittings}.items():
-            (self._folder / name).write_text("".join(some), encoding="utf-8")
-        for name in ("runs.txt", "longs.txt"):
+        calls = [line for line in lines if not line.startswith(('{"call":"m', '{"call":"sitting"'))]
+        others = [line for line in lines if line.startswith('{"call":"monitor')]
+        if part:
+            calls, sittings = calls[::8], sittings[:50]
+        for name, some in {"calls": [*calls, *others], "sittings": sittings}.items():
+            text = "".join([*memory, *some])
+            (self._folder / f"{name}.jsonl").write_text(text, encoding="utf-8")
+        for name, count in {"runs.txt": 2000, "longs.txt": 1000}.items():
             with (folder / name).open(encoding="utf-8") as file:
-                text = "".join(islice(file, counts.get(name)))
+                text = "".join(islice(file, count if part else None))
             (self._folder / name).write_text(text, encoding="utf-8")
 
     def _commands(self, library: Path) -> dict[str, list[str]]:
-        """The command of each test."""
-        node, to = ["node"], ["--library", str(library)]
+        """The command of each test, which ends after so many seconds of processor time."""
+        node, to = ["prlimit", f"--cpu={self._seconds}", "node"], ["--library", str(library)]
         runs, native = [*node, "page/tests/runs.mjs"], [*node, "page/tests/native.mjs"]
         return {
             "300 stored runs": [*runs, "host/tests/reference/runs.txt", *to],
-            "what programs replace": [*node, "page/tests/windows.mjs", *to],
+            "what programs replace and reach": [*node, "page/tests/windows.mjs", *to],
+            "the native library's answers": [*native, str(self._folder / "calls.jsonl"), *to],
             "the long runs": [*runs, str(self._folder / "longs.txt"), *to],
             "the runs of the reference": [*runs, str(self._folder / "runs.txt"), *to],
-            "the native library's answers": [*native, str(self._folder / "calls.jsonl"), *to],
             "Python's sittings": [*native, str(self._folder / "sittings.jsonl"), *to],
         }
 
-    def pass_as_it_is(self) -> None:
-        """Has each test pass with the library as it is, and sets its time."""
-        for name, command in self._commands(LIBRARY).items():
-            begun = time.monotonic()
-            subprocess.run(command, cwd=ROOT, check=True, capture_output=True)
-            self._most[name] = max(AT_LEAST, PATIENCE * (time.monotonic() - begun))
-
     def finding(self, library: Path) -> str:
-        """The first test that does not pass in good time, or nothing."""
+        """The first test that does not pass, or nothing."""
         for name, command in self._commands(library).items():
-            most = self._most[name]
-            try:
-                said = subprocess.run(command, cwd=ROOT, capture_output=True, timeout=most)
-            except subprocess.TimeoutExpired:
-                return f"{name}, which do not end"
-            if said.returncode:
+            if subprocess.run(command, cwd=ROOT, capture_output=True).returncode:
                 return name
         return "nothing"
 
@@ -177,8 +163,11 @@ class Trial:
     """Alterations of the library, tried by tests, several at a time."""
 
     def __init__(self, text: Text, tests: Tests, folder: Path) -> None:
-        """None yet; the altered libraries are written to the folder."""
+        """None yet; the altered libraries are written to the folder. All must pass without one."""
         self._text, self._tests, self._folder = text, tests, folder
+        found = tests.finding(LIBRARY)
+        if found != "nothing":
+            sys.exit(f"the library as it is does not pass {found}")
         self.found: Counter[str] = Counter()
         self.survivors: list[Alteration] = []
 
@@ -213,16 +202,14 @@ def main(count: int, seed: int, folder: Path, only: str = "") -> None:
     rng, text, tests = random.Random(seed), Text(only), Tests(folder, True)
     digest = hashlib.sha256(LIBRARY.read_bytes()).hexdigest()
     print(f"{len(text.places)} places, seed {seed}, library {digest}", flush=True)
-    tests.pass_as_it_is()
     trial = Trial(text, tests, folder)
     trial.run(iter(lambda: text.altered(rng), None), count)
     for name, number in trial.found.most_common():
         print(f"{number} found by {name}")
     if trial.survivors:
         print(f"all comparisons for the {len(trial.survivors)} that a part does not find:")
-        everything = Tests(folder, False)
-        everything.pass_as_it_is()
-        Trial(text, everything, folder).run(trial.survivors, len(trial.survivors))
+        everything = Trial(text, Tests(folder, False), folder)
+        everything.run(trial.survivors, len(trial.survivors))
 
 
 if __name__ == "__main__":

@@ -7,29 +7,39 @@ PYTHONPATH=python
 export PYTHONPATH
 page=build/page/lc3.html
 work=$(mktemp -d)
-trap 'rm -rf "$work"' EXIT
+others= # what runs beside, which ends when this does
+# shellcheck disable=SC2086
+trap '[ -z "$others" ] || kill $others 2>/dev/null || true; rm -rf "$work"' EXIT
 
 has() { command -v "$1" >/dev/null; }
 missing() { echo "page-test: $1 not installed: the page was NOT tried in $2"; }
 
+beside() { # NAME COMMAND...: begins something that runs beside; what it says is kept under its name
+    name=$1
+    shift
+    "$@" >"$work/$name.txt" 2>&1 &
+    others="$others $!"
+}
+
+all_beside() { # waits for what runs beside, and shows what each of these NAMEs has said
+    failed=
+    for other in $others; do wait "$other" || failed=yes; done
+    others=
+    for name in "$@"; do cat "$work/$name.txt"; done
+    [ -z "$failed" ] || exit 1
+}
+
 in_chromium() { # the page over file:// and http and in hostile hands, all at once, since each of them mostly waits
     mkdir "$work/file" "$work/http" "$work/hostile"
-    node page/tests/page.mjs file $page "$work/file" >"$work/file.txt" 2>&1 & file=$!
-    node page/tests/page.mjs http $page "$work/http" >"$work/http.txt" 2>&1 & http=$!
-    node page/tests/hostile.mjs $page "$work/hostile" || failed=hostile
-    wait $file || failed=file
-    wait $http || failed=http
-    cat "$work/file.txt" "$work/http.txt"
-    [ -z "${failed:-}" ] || exit 1
+    beside over-file node page/tests/page.mjs file $page "$work/file"
+    beside over-http node page/tests/page.mjs http $page "$work/http"
+    beside in-hostile-hands node page/tests/hostile.mjs $page "$work/hostile"
+    all_beside over-file over-http in-hostile-hands
     node page/tests/engine.mjs $page "$work/runs.txt"
 }
 
 in_browsers() { # the page in each browser that there is
-    if has chromium && has chromedriver; then
-        in_chromium
-    else
-        missing "chromium or chromedriver is" Chromium
-    fi
+    if has chromium && has chromedriver; then in_chromium; else missing "chromium or chromedriver is" Chromium; fi
     if has firefox-esr; then node page/tests/firefox.mjs $page; else missing "firefox-esr is" Firefox; fi
 }
 
@@ -38,9 +48,10 @@ LC3_RUNS_IN=$work cargo test --quiet --offline --release --manifest-path host/Ca
     --test page -- --ignored
 node page/tests/header.mjs
 node page/tests/guide.mjs
-node page/tests/runs.mjs host/tests/reference/runs.txt "$work/runs.txt" "$work/longs.txt"
+beside runs node page/tests/runs.mjs host/tests/reference/runs.txt "$work/runs.txt" "$work/longs.txt"
 node page/tests/windows.mjs
 python3 page/tests/native.py write "$work/answers.jsonl" 300
 node page/tests/native.mjs --recordings "$work/recordings" "$work/answers.jsonl"
 python3 page/tests/native.py read "$work/recordings"
+all_beside runs
 in_browsers

@@ -1,6 +1,8 @@
-// lc3_run_long reads the instructions of 256 words in advance. Programs that replace a word and obey it at once, for
-// each place of such a window and around its edges, must come to what lc3_run does.     node windows.mjs [--library
-// FILE.wasm]
+// lc3_run_long must come to what lc3_run does:     node windows.mjs [--library FILE.wasm]
+//
+// It reads the instructions of 256 words in advance: so there are programs that replace a word and obey it at once, for
+// each place of such a window and around its edges. And it makes stretches of steps at once that reach no device: so
+// there are stretches of each length between two accesses to one, with the display busy and the timer on its way.
 import { strict as assert } from "node:assert";
 import { parseArgs } from "node:util";
 import { Library, MEMORY_WORDS } from "../../build/fanthrig.mjs";
@@ -38,6 +40,18 @@ function ended(call, origin, target, store) {
     return [answer, [...library.shorts(record)], Buffer.from(library.words(memory, MEMORY_WORDS).slice().buffer)];
 }
 
+// A loop of 400 steps, a store to DDR, some steps that reach no device, DSR and TSR loaded; and all of it again.
+function reached(call, between, interval, n) {
+    const words = library.words(memory, MEMORY_WORDS), adds = Array(between).fill(0x14a1);
+    words.fill(0);
+    words.set([0x220f, 0x127f, 0x03fe, 0xb00d, ...adds, 0xa60d - between, 0xa80d - between, 0x0ff9 - between], 0x3000);
+    words.set([200, 0xfe06, 0xfe04, 0xfe08], 0x3010);
+    library.bytes(record, 48).fill(0);
+    library.shorts(record).set([0x3000, 2, 0, 0, 0, 0, 0x8000, 0, 0, interval, interval], 8);
+    const answer = library[call](record, { ...lent, outputLength: 8 }, n);
+    return [answer, [...library.shorts(record)]];
+}
+
 let count = 0;
 for (const origin of [0x3000, 0x3040, 0x30f8]) {
     for (let target = origin + LOOP.length + 8; target < origin + 0x220; target++) {
@@ -47,4 +61,13 @@ for (const origin of [0x3000, 0x3040, 0x30f8]) {
         }
     }
 }
-console.log(`${count} programs that replace what they obey: lc3_run_long comes to what lc3_run does`);
+let stretches = 0;
+for (let between = 0; between < 10; between++) {
+    for (const interval of [0, 9, 405, 409]) {
+        for (let n = 400; n < 425; n++, stretches++)
+            assert.deepEqual(reached("runLong", between, interval, n), reached("run", between, interval, n));
+        assert.deepEqual(reached("runLong", between, interval, 9000), reached("run", between, interval, 9000));
+    }
+}
+console.log(`${count} programs that replace what they obey, ${stretches} runs to and between accesses to devices: `
+    + "lc3_run_long comes to what lc3_run does");
