@@ -137,6 +137,45 @@ const TESTS = {
         await b.click("#step");
         equal(await b.value("#r-R1"), "x0007");
     },
+    async "memory tells what lines mean, and goes where it is asked to"() {
+        await open("hello");
+        const row = (address) => b.run("return [...document.getElementById(`line-${arguments[0]}`).children].slice(1)"
+            + ".map((cell) => cell.textContent)", address);
+        deepEqual(await row(0x3000), ["x3000", "xE002", "LEA R0, #2", "→ x3003"]);
+        deepEqual(await row(0x3001), ["x3001", "xF022", "TRAP x22", "PUTS"]);
+        deepEqual(await row(0x3003), ["x3003", "x0048", ".FILL x0048", "#72 'H'"]);
+        await change("goto", "xFE00");
+        await b.wait("document.getElementById('line-65024')");
+        deepEqual(await b.run("return [lc3.chosen, document.getElementById('follow').checked]"), [0xfe00, false]);
+        await change("goto", "r6");
+        equal(await b.run("return lc3.chosen"), 0xfdff);
+        await change("goto", "nowhere");
+        match(await status(), /“nowhere” is no address/);
+        await b.click("#topc");
+        equal(await b.run("return lc3.chosen"), 0x3000);
+        await b.run("document.getElementById('listing').focus()");
+        await b.keys(DOWN, DOWN, "p");
+        equal(await b.value("#r-PC"), "x3002");
+        await b.click("#run");
+        await until("halted by HALT");
+        equal(await display(), "Halted\n");
+    },
+    async "files lie anywhere and without the monitor where that is chosen, and a program is saved from memory"() {
+        await open("");
+        await change("anywhere", true);
+        await drop("low.obj", [0x02, 0xa5, 0xf0, 0x25, 0x12, 0x34]);
+        await until("low.obj: 2 words from x02A5 on");
+        equal(await sitting("words[0x25] !== 0"), true);
+        await change("monitor", false);
+        equal(await sitting("words[0x25] !== 0"), false);
+        await b.click("#settings summary");
+        const file = await saved("low.obj", () => b.click("#save-program"));
+        equal(file.toString("hex"), "02a5f0251234");
+        await open("");
+        await b.click("#settings summary");
+        await b.click("#save-program");
+        await until("No program is loaded");
+    },
     async "registers are altered, and what is wrong is refused"() {
         await open("hello");
         await change("r-R3", "'A'");
