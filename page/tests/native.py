@@ -12,6 +12,7 @@ import random
 import sys
 from array import array
 from dataclasses import astuple
+from itertools import product
 from pathlib import Path
 from typing import Any, Callable, TextIO
 
@@ -24,6 +25,10 @@ from fanthrig.formats import is_swapped, is_text, other_format
 EXAMPLES = Path(__file__).resolve().parent.parent.parent / "examples"
 ROUTINES = "getc out puts input putsp halt trap exception interrupt".split()
 RNG = random.Random(7)
+# Registers and masks, right and just not; the least and greatest value of each field, and beyond.
+BORDER_REGISTERS = [(0, 0, 0), (7, 7, 7), (8, 0, 0), (0, 8, 0), (0, 0, 8), (8, 8, 8), (255, 7, 7)]
+BORDERS = [sign * (1 << bits) for bits in (0, 4, 5, 8, 10, 15, 16) for sign in (1, -1)]
+BORDER_VALUES = sorted({border + more for border in BORDERS for more in (-1, 0, 1)})
 
 
 class Out:
@@ -67,15 +72,21 @@ def put_words(out: Out) -> None:
 
 
 def put_instructions(out: Out, count: int) -> None:
-    """Instructions, most of them wrong."""
+    """Instructions: those at the borders of every field, and others, most of them wrong."""
+    for kind, registers, value in product(range(20), BORDER_REGISTERS, BORDER_VALUES):
+        put_instruction(out, [kind, *registers, value])
     for _ in range(count):
         near = RNG.random() < 0.7
         kind = RNG.randrange(19) if near or RNG.random() < 0.5 else RNG.randrange(256)
-        registers = [RNG.randrange(8 if near or RNG.random() < 0.5 else 256) for _ in range(3)]
+        numbers = [RNG.randrange(8 if near or RNG.random() < 0.5 else 256) for _ in range(3)]
         limit = RNG.choice([40, 300, 1100, 2**31 - 1])
-        operands = [kind, *registers, RNG.randint(-limit, limit)]
-        written = LIBRARY.lc3_write(InstructionStruct(*operands))
-        out.put("write", instruction=operands, answer=[written.word, written.refusal])
+        put_instruction(out, [kind, *numbers, RNG.randint(-limit, limit)])
+
+
+def put_instruction(out: Out, operands: list[int]) -> None:
+    """What lc3_write answers to an instruction."""
+    written = LIBRARY.lc3_write(InstructionStruct(*operands))
+    out.put("write", instruction=operands, answer=[written.word, written.refusal])
 
 
 PARTS = (
