@@ -10,7 +10,7 @@ import {
     replayed,
     wordOf,
 } from "../../build/fanthrig.mjs";
-import { bytesOf, compiled, linesOf, seconds } from "./support.mjs";
+import { bytesOf, compiled, linesOf, seconds, spoilAnswer } from "./support.mjs";
 
 const { values, positionals } = parseArgs({
     options: { library: { type: "string" }, recordings: { type: "string" } }, allowPositionals: true,
@@ -43,6 +43,7 @@ function started(name, test) {
     library.words(memoryAt, MEMORY_WORDS).set(memory);
     library.bytes(fileAt, file.length).set(file);
     const lent = [fileAt, file.length, memoryAt, test.length], user = name === "start" ? [test.user] : [];
+    spoilAnswer(library);
     const { words, refusal } = library[name](...lent, ...user, test.stack, recordAt);
     const got = [...fieldsAt(library, recordAt), words];
     equal([refusal, got], [test.refusal, test.got ?? got.map(() => 0)]);
@@ -52,6 +53,7 @@ function started(name, test) {
 function ranged(name, test) {
     library.words(memoryAt, MEMORY_WORDS).set(memory);
     library.bytes(outAt, test.room + 8).fill(0);
+    spoilAnswer(library);
     const { count, refusal } = library[name](memoryAt, MEMORY_WORDS, test.first, test.count, outAt, test.room);
     equal([refusal, count, digest(library.bytes(outAt, test.room))], [test.refusal, ...test.got]);
     equal(hexOf(library.bytes(outAt + test.room, 8)), "0000000000000000");
@@ -140,6 +142,7 @@ async function recordings(sitting, test) {
 
 const TESTS = {
     word({ word, line, read }) {
+        spoilAnswer(library);
         const { count, refusal } = library.line(word, outAt, 17);
         equal([String.fromCharCode(...library.bytes(outAt, count)), refusal], [`${line}\n`, 0]);
         equal([library.lineLength(word), wordOf(library, line)], [count, word]);

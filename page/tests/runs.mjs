@@ -6,7 +6,7 @@
 import { strict as assert } from "node:assert";
 import { parseArgs } from "node:util";
 import { Library, MEMORY_WORDS } from "../../build/fanthrig.mjs";
-import { bytesOf, compiled, linesOf, same, seconds } from "./support.mjs";
+import { bytesOf, compiled, linesOf, same, seconds, spoilAnswer } from "./support.mjs";
 
 const { values, positionals } = parseArgs({ options: { library: { type: "string" } }, allowPositionals: true });
 const library = new Library(await compiled(values.library));
@@ -88,6 +88,7 @@ class Run {
         keys.set(this.bytes);
         output.set(this.output);
         record.set(this.before);
+        spoilAnswer(library);
         return {
             memory: memory.at, memoryLength: this.words.length, times: times.at, timesLength: this.times.length / 8,
             keys: keys.at, keysLength: this.bytes.length, output: output.at, outputLength: this.output.length,

@@ -37,6 +37,10 @@ export function lc3(...words) {
     return execFileSync("sh", ["-c", 'python3 -m fanthrig "$@" 2>&1 || true', "sh", ...words], options).toString();
 }
 
+// Fills the place of the answers, so that what a call leaves out there is not what the call before it answered.
+const ANSWER_BYTES = 96;
+export function spoilAnswer(library) { library.bytes(library.answer, ANSWER_BYTES).fill(0xa5); }
+
 export const bytesOf = (view) => new Uint8Array(view.buffer, view.byteOffset, view.byteLength);
 export const same = (one, other) => Buffer.compare(one, other) === 0;
 export const seconds = (begun) => `${((performance.now() - begun) / 1000).toFixed(1)} s`;

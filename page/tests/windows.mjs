@@ -6,7 +6,7 @@
 import { strict as assert } from "node:assert";
 import { parseArgs } from "node:util";
 import { Library, MEMORY_WORDS } from "../../build/fanthrig.mjs";
-import { compiled } from "./support.mjs";
+import { compiled, spoilAnswer } from "./support.mjs";
 
 const { values } = parseArgs({ options: { library: { type: "string" } } });
 const library = new Library(await compiled(values.library));
@@ -36,6 +36,7 @@ function ended(call, origin, target, store) {
     words[target + 1] = BACK;
     library.bytes(record, 48).fill(0);
     library.shorts(record).set([origin, 0x8002, 0, 0, 0, 0, 0x8000], 8);
+    spoilAnswer(library);
     const answer = library[call](record, lent, 1000);
     return [answer, [...library.shorts(record)], Buffer.from(library.words(memory, MEMORY_WORDS).slice().buffer)];
 }
@@ -48,6 +49,7 @@ function reached(call, between, interval, n) {
     words.set([200, 0xfe06, 0xfe04, 0xfe08], 0x3010);
     library.bytes(record, 48).fill(0);
     library.shorts(record).set([0x3000, 2, 0, 0, 0, 0, 0x8000, 0, 0, interval, interval], 8);
+    spoilAnswer(library);
     const answer = library[call](record, { ...lent, outputLength: 8 }, n);
     return [answer, [...library.shorts(record)]];
 }
