@@ -14,10 +14,11 @@ trap '[ -z "$others" ] || kill $others 2>/dev/null || true; rm -rf "$work"' EXIT
 has() { command -v "$1" >/dev/null; }
 missing() { echo "page-test: $1 not installed: the page was NOT tried in $2"; }
 
+mkdir "$work/said"
 beside() { # NAME COMMAND...: begins something that runs beside; what it says is kept under its name
     name=$1
     shift
-    "$@" >"$work/$name.txt" 2>&1 &
+    "$@" >"$work/said/$name" 2>&1 &
     others="$others $!"
 }
 
@@ -25,7 +26,7 @@ all_beside() { # waits for what runs beside, and shows what each of these NAMEs 
     failed=
     for other in $others; do wait "$other" || failed=yes; done
     others=
-    for name in "$@"; do cat "$work/$name.txt"; done
+    for name in "$@"; do cat "$work/said/$name"; done
     [ -z "$failed" ] || exit 1
 }
 

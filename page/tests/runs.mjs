@@ -194,6 +194,7 @@ for (const file of positionals) {
             throw error;
         }
     }
+    assert(number > 0, `${file} has no run`);
 }
 const sorted = (set) => [...set].sort((one, other) => one - other).join(" ");
 const counts = `${met.calls} comparisons, ${met.steps} steps`;
