@@ -33,9 +33,9 @@ async function ready() {
 // A step with all drawn, layout too; and a run with all drawn, after the steps in which reads are watched.
 async function onThePage() {
     await desk.open("sieve");
-    const times = await browser.run("return Array.from({ length: arguments[0] }, () => { const begun = performance.now();"
-        + "document.getElementById('step').click(); document.body.offsetHeight; return performance.now() - begun; })",
-    STEPS);
+    const times = await browser.run("const step = () => { const begun = performance.now();"
+        + "document.getElementById('step').click(); document.body.offsetHeight; return performance.now() - begun; };"
+        + "return Array.from({ length: arguments[0] }, step)", STEPS);
     console.log(`a step with all drawn: ${middle(times).toFixed(1)} ms (the middle of ${STEPS})`);
     await desk.load("x3000\nADD R0, R0, #1\nADD R1, R1, R0\nBRnzp #-3\n");
     await browser.click("#run");

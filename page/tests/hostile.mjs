@@ -162,11 +162,11 @@ const TESTS = {
     async "what a program shows is text and nothing else"() {
         await desk.open("echo");
         const scripts = "return document.querySelectorAll('script, img').length", before = await b.run(scripts);
-        await paste("<script>alert(1)</script><img src=x onerror=alert(1)>&lt;\u001b[31m\u0007\u009b2J\u202eé€😀\u0000.");
+        const html = "<script>alert(1)</script><img src=x onerror=alert(1)>&lt;";
+        await paste(`${html}\u001b[31m\u0007\u009b2J\u202eé€😀\u0000.`);
         await b.click("#run");
         await desk.until("halted by HALT");
-        equal(await desk.display(), "<script>alert(1)</script><img src=x onerror=alert(1)>&lt;␛[31m␇\ufffd2J\ufffdé€😀␀.\n"
-            + "Halted\n");
+        equal(await desk.display(), `${html}␛[31m␇\ufffd2J\ufffdé€😀␀.\nHalted\n`);
         equal(await b.run("return document.getElementById('display').children.length"), 1); // the cursor
         const name = "<img src=x onerror=alert(1)>.obj";
         await desk.drop(name, [0x40, 0, 0xf0, 0x25]);
@@ -260,8 +260,8 @@ const TESTS = {
             await desk.until(`${at}.json: no recording of a sitting: `);
         }
         equal(await desk.sitting("programs[0].name"), "hello.obj");
-        await desk.drop("older.json", Buffer.from(text.replace('"version": 2', '"version": 1').replace(/,\s*"digest".*?"$/m,
-            "")));
+        const older = text.replace('"version": 2', '"version": 1').replace(/,\s*"digest".*?"$/m, "");
+        await desk.drop("older.json", Buffer.from(older));
         await desk.until("older.json is replayed, and comes to its end: halted by HALT");
     },
     async "a recording of the second edition has its rules, and the next program those that are chosen"() {
@@ -290,16 +290,16 @@ const TESTS = {
         await b.click("#run");
         await desk.until("halted by HALT; 317 steps");
         await b.type("#files", path);
-        await desk.until("round.json is replayed, and comes to its end: all steps asked for were made; 100000000 steps");
+        await desk.until("round.json is replayed, and comes to its end: all steps asked for were made; 100000000");
     },
     async "timer and keyboard interrupt together, and each step is as it was told"() {
         await desk.open("");
         await desk.change("mode", "supervisor");
-        // The timer interrupts every 7 steps, and the keyboard for each key; each has a routine that reads its register.
-        await desk.load(["x3000", "LD R6, #15", "LEA R0, #10", "STI R0, #14", "LEA R0, #10", "STI R0, #13", "LD R1, #13",
-            "STI R1, #13", "STI R1, #13", "LD R1, #13", "STI R1, #13", "ADD R2, R2, #1", "BRnzp #-2", "LDI R3, #8", "RTI",
-            "LDI R4, #9", "RTI", "x3000", "x0181", "x0180", "x4000", "xFE00", "xFE08", "x0007", "xFE0A", "xFE02"]
-            .join("\n"));
+        // The timer interrupts every 7 steps, and the keyboard for each key; each has a routine that reads a register.
+        await desk.load(["x3000", "LD R6, #15", "LEA R0, #10", "STI R0, #14", "LEA R0, #10", "STI R0, #13",
+            "LD R1, #13", "STI R1, #13", "STI R1, #13", "LD R1, #13", "STI R1, #13", "ADD R2, R2, #1", "BRnzp #-2",
+            "LDI R3, #8", "RTI", "LDI R4, #9", "RTI", "x3000", "x0181", "x0180", "x4000", "xFE00", "xFE08", "x0007",
+            "xFE0A", "xFE02"].join("\n"));
         const steps = await b.run("return Array.from({ length: 90 }, (_, made) => {"
             + "if (made % 20 === 19) document.getElementById('keys').dispatchEvent(new InputEvent('beforeinput',"
             + "    { inputType: 'insertText', data: 'ab', bubbles: true, cancelable: true }));"
