@@ -173,12 +173,14 @@ static double now(void) {
 
 /* Nanoseconds per step of a program, over calls of the full length for about the given time. */
 static double time_steps(run_function *run, const program *p, double ns) {
-    static uint8_t output[MOST_SHOWN];
+    static uint8_t output[MOST_SHOWN], bytes[MOST_KEYS];
+    static uint64_t times[MOST_KEYS];
     lc3_record record = start_program(lent, p);
     uint64_t steps = 0;
     double start = now(), end = start;
     while (end - start < ns) {
-        lc3_answer a = run(record, lent, LC3_MEMORY_WORDS, no_times, 0, no_bytes, 0, output,
+        size_t keys = p->typed ? type_keys(record.clock, LC3_MAX_STEPS, times, bytes) : 0;
+        lc3_answer a = run(record, lent, LC3_MEMORY_WORDS, times, keys, bytes, keys, output,
                            sizeof output, LC3_MAX_STEPS);
         record = a.record;
         steps += a.steps;

@@ -1,6 +1,6 @@
 /*
  * count ENGINE PROGRAM STEPS CALLS: so many calls of that many steps each, one going on from the
- * other, for an exact count of instructions.
+ * other, for an exact count of instructions. A program that takes keys is called once.
  */
 #include "interpreters.h"
 #include "programs.h"
@@ -9,15 +9,16 @@
 #include <stdlib.h>
 
 static uint16_t memory[LC3_MEMORY_WORDS], step_log[LC3_LOG_WORDS * 65536];
-static uint8_t output[MOST_SHOWN];
+static uint8_t output[MOST_SHOWN], bytes[MOST_KEYS];
+static uint64_t times[MOST_KEYS];
 
 /* The run, logged. */
 static lc3_answer logged_run(lc3_record record, uint16_t *words, size_t words_len,
-                             const uint64_t *times, size_t times_len, const uint8_t *bytes,
-                             size_t bytes_len, uint8_t *shown, size_t shown_len, uint64_t n) {
+                             const uint64_t *at, size_t at_len, const uint8_t *keys,
+                             size_t keys_len, uint8_t *shown, size_t shown_len, uint64_t n) {
     lc3_logged_answer a =
-        lc3_run_logged(record, words, words_len, times, times_len, bytes, bytes_len, shown,
-                       shown_len, step_log, sizeof step_log / sizeof *step_log, n);
+        lc3_run_logged(record, words, words_len, at, at_len, keys, keys_len, shown, shown_len,
+                       step_log, sizeof step_log / sizeof *step_log, n);
     return (lc3_answer){.record = a.record, .steps = a.steps};
 }
 
@@ -32,12 +33,11 @@ static const struct {
 
 /* Whether every call made all its steps. */
 static bool makes_all(run_function *run, const program *p, uint64_t steps, unsigned long calls) {
-    const uint64_t time = 0;
-    const uint8_t byte = 0;
     lc3_answer a = {.record = start_program(memory, p), .steps = steps};
+    const size_t keys = p->typed ? type_keys(a.record.clock, steps, times, bytes) : 0;
     while (calls-- && a.steps == steps) {
-        a = run(a.record, memory, LC3_MEMORY_WORDS, &time, 0, &byte, 0, output, sizeof output,
-                steps);
+        a = run(a.record, memory, LC3_MEMORY_WORDS, times, keys, bytes, keys, output,
+                sizeof output, steps);
     }
     return a.steps == steps;
 }

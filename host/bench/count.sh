@@ -1,12 +1,12 @@
 #!/bin/sh
 # Counts the library's processor instructions per step, which no load on the computer disturbs.
-# Exits 1 where a program takes more than the limit. `poll` and `show` wait for a device; `show` has a limit of its own,
-# since the step that shows a byte is an ordinary one. `last` stands among the device registers. `timer` is `count` with
-# the timer on, at an interval of 1000 steps.
+# Exits 1 where a program takes more than the limit. `poll` and `show` wait for a device; `hello` and `echo` do so in
+# the ready-made monitor. `echo` has a limit of its own, since the steps in which a key arrives or is loaded are
+# ordinary ones. `last` stands among the device registers. `timer` is `count` with the timer on, at an interval of 1000 steps.
 #
 # The run for long sittings is held against the run. `count`, `timer`, `copy`, `sieve` and `last` are loops that fit its
 # window, and it must be faster there by far; elsewhere, and in a call with n = 1, it may be a little slower. Its polls
-# are ordinary steps: for `poll` and `show` it has a limit, and no ratio.
+# and shows are ordinary steps: for `poll`, `show`, `hello` and `echo` it has a limit, and no ratio.
 #
 # The cost of starting and of the call itself is the same for any number of steps, so the
 # difference between two lengths counts steps alone, and that between two numbers of calls, calls.
@@ -14,7 +14,7 @@
 #   FANTHRIG_LIB_DIR   where libfanthrig.a is                               build
 #   CC            C compiler                                      gcc
 #   COUNT_LIMIT   instructions per step                           40
-#   SHOW_LIMIT    for show                                        60
+#   ECHO_LIMIT    for echo                                        46
 #   LONG_LIMIT    for the long run                                115
 #   LOG_LIMIT     for logged runs                                 110
 #   LOOP_RATIO    of the long run's to the run's, in hundredths   65
@@ -24,7 +24,7 @@ set -eu
 cd "$(dirname "$0")/../.."
 
 limit=${COUNT_LIMIT:-40}
-show_limit=${SHOW_LIMIT:-60}
+echo_limit=${ECHO_LIMIT:-46}
 long_limit=${LONG_LIMIT:-115}
 log_limit=${LOG_LIMIT:-110}
 loop_ratio=${LOOP_RATIO:-65}
@@ -105,13 +105,13 @@ count_calls() {
 }
 
 status=0
-echo "instructions per step, limit $limit, for show $show_limit, for the long run $long_limit," \
+echo "instructions per step, limit $limit, for echo $echo_limit, for the long run $long_limit," \
     "for logged runs $log_limit;"
 echo "ratio of the long run, limit $(decimal "$loop_ratio") for count, timer, copy, sieve and last," \
-    "$(decimal "$other_ratio") for others but poll and show, $(decimal "$call_ratio") for calls with n = 1"
+    "$(decimal "$other_ratio") for others but poll, show, hello and echo, $(decimal "$call_ratio") for calls with n = 1"
 for program in count timer copy sieve last; do count_program $program "$limit" "$loop_ratio"; done
 for program in self calls outs wander; do count_program $program "$limit" "$other_ratio"; done
-count_program poll "$limit"
-count_program show "$show_limit"
+for program in poll show hello; do count_program $program "$limit"; done
+count_program echo "$echo_limit"
 count_calls
 exit $status

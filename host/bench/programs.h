@@ -2,7 +2,7 @@
  * The programs that are timed and counted: most are words from x3000 up, in User mode, all without
  * end. TRAP x25 leads to an RTI at x0200, TRAP x20 to a routine that waits for a key, TRAP x21 to
  * one that waits for the display and shows a byte, TRAP x22 to one that needs no device, the
- * timer's interrupt to one that clears ready.
+ * timer's interrupt to one that clears ready. Two programs have the ready-made monitor instead.
  */
 #ifndef PROGRAMS_H
 #define PROGRAMS_H
@@ -196,8 +196,28 @@ static const uint16_t last_words[] = {
     0x0F81,         /* xFFFF   BRnzp  AGAIN */
 };
 
-/* A byte takes ten steps or more. */
-enum { MOST_SHOWN = LC3_MAX_STEPS / 10 };
+/* A text of 60 characters, shown again and again by the ready-made monitor. */
+static const uint16_t hello_words[] = {
+    0xE002, /* START   LEA    R0, TEXT */
+    0xF022, /*         PUTS */
+    0x0FFD, /*         BRnzp  START */
+    /* TEXT    .STRINGZ */
+    'T', 'h', 'e', ' ', 'q', 'u', 'i', 'c', 'k', ' ', 'b', 'r', 'o', 'w', 'n',
+    ' ', 'f', 'o', 'x', ' ', 'j', 'u', 'm', 'p', 's', ' ', 'o', 'v', 'e', 'r',
+    ' ', 'a', ' ', 'l', 'a', 'z', 'y', ' ', 'd', 'o', 'g', ' ', 'a', 'n', 'd',
+    ' ', 't', 'h', 'e', 'n', ' ', 'i', 't', ' ', 's', 'l', 'e', 'e', 'p', 's',
+    0,
+};
+
+/* Every key is shown, by the ready-made monitor: most steps are those of the wait for a key. */
+static const uint16_t echo_words[] = {
+    0xF020, /* AGAIN   GETC */
+    0xF021, /*         OUT */
+    0x0FFD, /*         BRnzp  AGAIN */
+};
+
+/* A byte takes ten steps or more, and a key comes every TYPING steps to a program that takes keys. */
+enum { MOST_SHOWN = LC3_MAX_STEPS / 10, TYPING = 100, MOST_KEYS = LC3_MAX_STEPS / TYPING + 1 };
 
 typedef struct {
     const char *name;
@@ -207,23 +227,27 @@ typedef struct {
     bool user;
     uint16_t interval; /* of the timer, which interrupts; 0 where it is off */
     uint16_t spacing;  /* from copy to copy, up to the end of User memory; 0 where there is one */
+    bool monitor;      /* the ready-made one */
+    bool typed;        /* keys come */
 } program;
 
 #define WORDS_OF(name) name##_words, sizeof name##_words / sizeof *name##_words
 #define USUAL 0x3000, true
 
 static const program programs[] = {
-    {"count", WORDS_OF(count), USUAL, 0, 0},
-    {"timer", WORDS_OF(count), USUAL, 1000, 0},
-    {"copy", WORDS_OF(copy), USUAL, 0, 0},
-    {"sieve", WORDS_OF(sieve), USUAL, 0, 0},
-    {"self", WORDS_OF(self), USUAL, 0, 0},
-    {"calls", WORDS_OF(calls), USUAL, 0, 0},
-    {"outs", WORDS_OF(outs), USUAL, 0, 0},
-    {"wander", WORDS_OF(wander), USUAL, 0, 256},
-    {"last", WORDS_OF(last), 0xFF80, false, 0, 0},
-    {"poll", WORDS_OF(poll), USUAL, 0, 0},
-    {"show", WORDS_OF(show), USUAL, 0, 0},
+    {"count", WORDS_OF(count), USUAL, 0, 0, false, false},
+    {"timer", WORDS_OF(count), USUAL, 1000, 0, false, false},
+    {"copy", WORDS_OF(copy), USUAL, 0, 0, false, false},
+    {"sieve", WORDS_OF(sieve), USUAL, 0, 0, false, false},
+    {"self", WORDS_OF(self), USUAL, 0, 0, false, false},
+    {"calls", WORDS_OF(calls), USUAL, 0, 0, false, false},
+    {"outs", WORDS_OF(outs), USUAL, 0, 0, false, false},
+    {"wander", WORDS_OF(wander), USUAL, 0, 256, false, false},
+    {"last", WORDS_OF(last), 0xFF80, false, 0, 0, false, false},
+    {"poll", WORDS_OF(poll), USUAL, 0, 0, false, false},
+    {"show", WORDS_OF(show), USUAL, 0, 0, false, false},
+    {"hello", WORDS_OF(hello), USUAL, 0, 0, true, false},
+    {"echo", WORDS_OF(echo), USUAL, 0, 0, true, true},
 };
 
 enum { PROGRAMS = sizeof programs / sizeof *programs };
@@ -263,9 +287,21 @@ static inline lc3_record start_program(uint16_t *memory, const program *p) {
     lc3_record record =
         lc3_start(file, 2 + 2 * p->length, memory, LC3_MEMORY_WORDS, p->user, 0xFDFF).record;
     if (p->spacing) put_copies(memory, p);
+    if (p->monitor) lc3_monitor(memory, LC3_MEMORY_WORDS);
     record.timer_interval = record.timer_count = p->interval;
     if (p->interval) record.timer_status = LC3_TSR_INTERRUPT;
     return record;
+}
+
+/* The keys that come in so many steps from this clock on. Answers how many there are. */
+static inline size_t type_keys(uint64_t clock, uint64_t steps, uint64_t *times, uint8_t *bytes) {
+    size_t keys = 0;
+    uint64_t first = (clock + TYPING - 1) / TYPING * TYPING;
+    for (uint64_t time = first; time < clock + steps; time += TYPING) {
+        times[keys] = time;
+        bytes[keys++] = 'a' + time / TYPING % 26;
+    }
+    return keys;
 }
 
 #endif

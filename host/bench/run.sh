@@ -69,7 +69,7 @@ awk -v limit="${BENCH_LIMIT:-1.00}" -v target="${BENCH_TARGET:-0.85}" '
     END {
         printf "%-8s %16s %12s %7s %15s %7s %15s %7s\n", "program", "library ns/step", "long ns/step",
             "ratio", "plain C ns/step", "ratio", "tuned C ns/step", "ratio"
-        programs = split("count timer copy sieve self calls outs wander last poll show", program, " ")
+        programs = split("count timer copy sieve self calls outs wander last poll show hello echo", program, " ")
         for (i = 1; i <= programs; i++) {
             a = ns[program[i] ".library"]
             l = ns[program[i] ".long"]

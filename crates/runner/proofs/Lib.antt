@@ -1,3 +1,4 @@
--- The laws of the loop over the steps, and of its quiet stretches.
+-- The laws of the loop over the steps, of its quiet stretches, and of those that show bytes.
 pub mod LoopLaws
 pub mod QuietLaws
+pub mod ShowLaws
