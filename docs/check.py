@@ -8,6 +8,7 @@ difference.
   is in docs/MACHINE.md, once.
 - Each crate is in docs/ARCHITECTURE.md, and crates.txt and the folders of crates/ have the same.
 - Each relative link of a document leads to a file, and to a heading where it names one.
+- No line of code, definitions, proofs or scripts has more than 120 characters.
 
 With an argument, the root of the repository to check; otherwise the one that this file is in.
 """
@@ -24,6 +25,9 @@ DEFINED_RULE = re.compile(r"\*\*(M\d+\.\d+)\*\*")
 CRATE = re.compile(r"\w+:")
 LINK = re.compile(r"\]\(([^)\s]+)\)")
 FENCE = re.compile(r"^```.*?^```$", re.MULTILINE | re.DOTALL)
+# Folders that people write in, and the files there that are no data.
+WRITTEN = ("crates", "docs", "examples", "host", "include", "page", "python", "tools")
+TEXTS = {".rt", ".antt", ".py", ".rs", ".c", ".h", ".sh", ".mjs", ".js", ".css", ".html"}
 CITING = (
     "crates/*/src/**/*.rt",
     "crates/*/*/**/*.antt",
@@ -80,11 +84,24 @@ def links(root: Path, documents: list[Path]) -> list[str]:
     return found
 
 
+def long_lines(root: Path) -> list[str]:
+    """Lines of more than 120 characters."""
+    paths = [path for folder in WRITTEN for path in sorted((root / folder).rglob("*"))]
+    return [
+        f"{path.relative_to(root)}:{number}: {len(line)} characters"
+        for path in paths
+        if path.suffix in TEXTS
+        for number, line in enumerate(path.read_text(encoding="utf-8").splitlines(), 1)
+        if len(line) > 120
+    ]
+
+
 def main() -> int:
     """Checks the documents of a repository."""
     root = Path(sys.argv[1] if len(sys.argv) > 1 else Path(__file__).parent.parent).resolve()
     documents = [*sorted(root.glob("*.md")), *sorted(root.glob("docs/**/*.md"))]
     found = differences(root) + crates(root) + rules(root, documents) + links(root, documents)
+    found += long_lines(root)
     for line in found:
         print(line, file=sys.stderr)
     if not found:

@@ -12,8 +12,8 @@ cd "$work"
 tar -xzf "$dist/$binary.tar.gz"
 there=$work/$binary
 
-same "$(env -i PATH="$PATH" "$there/bin/lc3" run "$there/share/doc/fanthrig/examples/hello.obj" </dev/null 2>/dev/null)" \
-    "$hello" "lc3 run"
+greeting=$there/share/doc/fanthrig/examples/hello.obj
+same "$(env -i PATH="$PATH" "$there/bin/lc3" run "$greeting" </dev/null 2>/dev/null)" "$hello" "lc3 run"
 same "$(env -i PATH="$PATH" "$there/bin/lc3" page)" "$there/share/fanthrig/lc3.html" "lc3 page"
 same "$(env -i PATH="$PATH" PYTHONPATH="$there/lib/python3/dist-packages" \
     python3 -c 'import fanthrig; print(fanthrig.__version__, fanthrig.line(0xF025))')" "$version TRAP x25" "the module"

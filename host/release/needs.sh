@@ -16,7 +16,8 @@ esac || fail "the tag of the wheel does not go with glibc $glibc"
 same "$(readelf -d "$library" | sed -n 's/.*(NEEDED).*\[\(.*\)\]/\1/p')" libc.so.6 "the libraries needed"
 others=$(nm -D --defined-only "$library" | sed 's/.* //' | grep -v '^lc3_' || true)
 same "$others" "" "names that do not begin with lc3_"
-if objdump -d --no-show-raw-insn "$library" | grep -qE '%[yz]mm|\b(mulx|andn|bextr|sarx|shlx|shrx|popcnt|lzcnt|tzcnt)\b'; then
+late='%[yz]mm|\b(mulx|andn|bextr|sarx|shlx|shrx|popcnt|lzcnt|tzcnt)\b'
+if objdump -d --no-show-raw-insn "$library" | grep -qE "$late"; then
     fail "the library has instructions that an early x86-64 processor lacks"
 fi
 lintian --fail-on error --suppress-tags initial-upload-closes-no-bugs --allow-root "$dist"/*.deb

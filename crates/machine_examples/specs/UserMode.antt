@@ -9,8 +9,8 @@ use Rattle.machine.specs.LogExamples.{user as logged, supervisor as supervisorL
 
 -- Access control.
 pub record UserMode : Type 0 where
-  -- "In User mode an access exception is raised by .. either address of LDI and STI, or by the address of .. ST, STR, if
-  -- privileged." LD and LDR in Addresses (crate machine). Nothing is read before its check: KBDR keeps ready.
+  -- "In User mode an access exception is raised by .. either address of LDI and STI, or by the address of .. ST, STR,
+  -- if privileged." LD and LDR in Addresses (crate machine). Nothing is read before its check: KBDR keeps ready.
   pub access-exceptions :
       Hold
       (user 0x31FE (word 0x0102 0x0D00 ∷ []) accessException  -- ST R0, #-2

@@ -49,5 +49,6 @@ left-by-last-step s (suc n) = go (unfold runBy in one-more s (runOf s n) (runOf 
     })
 
 -- The same of an accepted call, after k steps.
-pub call-left : (s : Start) (n k : ℕ) → admissionOf s n ≡ Accepted → runOf s n .steps ≡ k → LeftAs (callOf s n) (runOf s k)
+pub call-left : (s : Start) (n k : ℕ) → admissionOf s n ≡ Accepted → runOf s n .steps ≡ k
+    → LeftAs (callOf s n) (runOf s k)
 call-left s n k a e = rw (accepted-call-is-run stepOf s n a, ← e) (left-by-last-step s n)

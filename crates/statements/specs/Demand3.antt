@@ -56,8 +56,8 @@ pub record NoInterruptFor (s : Start) : Type 0 where
   pub high-priority : inUserMode (s .machine .psr) ≡ true → 6 ≤ priorityOf (s .machine .psr) → (n : ℕ)
       → admissionOf s n ≡ Accepted → NoInterrupt s n
 
--- And so it stays: where such a call meets no trap or exception, what it leaves is as its start was in this. So the next
--- call takes no interrupt either (see Continued.antt).
+-- And so it stays: where such a call meets no trap or exception, what it leaves is as its start was in this. So the
+-- next call takes no interrupt either (see Continued.antt).
 pub record StaysSo (s : Start) : Type 0 where
   pub none-enabled : inUserMode (s .machine .psr) ≡ true → NoneEnabled (s .machine) → (n : ℕ)
       → admissionOf s n ≡ Accepted → MeetsNone s n
