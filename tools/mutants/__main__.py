@@ -8,11 +8,13 @@ from __future__ import annotations
 
 import argparse
 import os
+import re
+import resource
 import sys
 from collections import Counter
 from dataclasses import replace
 from pathlib import Path
-from typing import Dict, Iterator, List
+from typing import Dict, Iterator, List, Optional
 
 from .alterations import Alteration, Alterer
 from .conditions import Conditions, allow_conditions
@@ -21,6 +23,9 @@ from .modules import Repository
 from .roots import altered
 
 UNCHANGED = Path(__file__).with_name('unchanged.txt')
+BEYOND = 'Beyond this tool:'                   # how the reason begins of what a proof alone refuses
+DEEPEST, STACK = 200_000, 100 << 20            # frames of Python, and bytes
+EACH = re.compile(r'(.*) \(numbers (\d+) to (\d+)\)')
 
 
 def options() -> argparse.Namespace:
@@ -56,6 +61,16 @@ def numbered(alterations: List[Alteration]) -> Iterator[Alteration]:
         yield replace(alteration, number=seen[text])
 
 
+def each(line: str) -> List[str]:
+    """The alterations that a line of unchanged.txt names: one, or several that read alike."""
+    several = EACH.fullmatch(line)
+    if not several:
+        return [line]
+    numbers = range(int(several.group(2)), int(several.group(3)) + 1)
+    text = several.group(1)
+    return [text if number == 1 else f'{text} (number {number})' for number in numbers]
+
+
 def reasons() -> Dict[str, str]:
     """The survivors that change nothing, each with the reason above it in unchanged.txt."""
     found: Dict[str, str] = {}
@@ -66,21 +81,27 @@ def reasons() -> Dict[str, str]:
             above = ' '.join(filter(None, [above, line[1:].strip()]))
         elif line.strip():
             reason, above = [above] if above else reason, ''
-            found[line.strip()] = reason[0]
+            found.update(dict.fromkeys(each(line.strip()), reason[0]))
         else:
             above = ''
     return found
 
 
+def column_of(reason: Optional[str]) -> str:
+    """Where a survivor is counted, by its reason."""
+    if reason is None:
+        return 'survive'
+    return 'beyond the tool' if reason.startswith(BEYOND) else 'change nothing'
+
+
 def score(verdicts: List[Verdict], known: Dict[str, str]) -> List[str]:
     """The figures, for each file and for all."""
-    columns = ('tried', 'by a row', 'by a theorem', 'change nothing', 'survive')
+    columns = ('tried', 'by a row', 'by a theorem', 'beyond the tool', 'change nothing', 'survive')
     counts: Dict[str, 'Counter[str]'] = {}
     for verdict in verdicts:
         module = verdict.alteration.definition.module
         names = {ROW: 'by a row', THEOREM: 'by a theorem'}
-        otherwise = 'change nothing' if str(verdict.alteration) in known else 'survive'
-        column = names.get(verdict.kind, otherwise)
+        column = names.get(verdict.kind, column_of(known.get(str(verdict.alteration))))
         for place in (f'{module.crate}/{module.name}', 'all'):
             counts.setdefault(place, Counter()).update(['tried', column])
     order = sorted(counts, key=lambda place: (place == 'all', place))
@@ -99,9 +120,7 @@ def judged(judge: Judge, alterations: Iterator[Alteration], record: str) -> Iter
                 yield verdict
 
 
-def main() -> int:
-    sys.setrecursionlimit(5000)
-    chosen = options()
+def judge_all(chosen: argparse.Namespace) -> int:
     repository = Repository(chosen.root)
     if chosen.extra:
         allow_conditions(repository)
@@ -123,6 +142,12 @@ def main() -> int:
         for line in sorted(set(known) - surviving):
             print('in unchanged.txt, and survives no longer:', line)
     return 1 if surviving - set(known) else 0
+
+
+def main() -> int:
+    sys.setrecursionlimit(DEEPEST)             # definitions recur as deep as a run has steps
+    resource.setrlimit(resource.RLIMIT_STACK, (STACK, resource.getrlimit(resource.RLIMIT_STACK)[1]))
+    return judge_all(options())
 
 
 if __name__ == '__main__':

@@ -56,6 +56,8 @@ class Conditions:
         body = definition.module.text[start:end]
         for name, kind in types.items():
             otherwise = self.otherwise(result, name, kind, types)
+            if body == otherwise:
+                continue                       # the same on both sides
             for condition in CONDITIONS.get(kind or '', ()) if otherwise else ():
                 new = f'cond ({condition.format(name, name)}) ({body}) {otherwise}'
                 yield Alteration(definition, 'condition', start, end, new)

@@ -8,8 +8,7 @@ from __future__ import annotations
 
 import signal
 from dataclasses import dataclass
-from types import FrameType
-from typing import Dict, List, Optional, Set
+from typing import Dict, List, Set
 
 from .alterations import Alteration
 from .modules import Definition, Meaning, Module, Repository, parsed
@@ -20,7 +19,9 @@ from .statements import Found, Statement, statements
 from .syntax import Node
 
 SECONDS = 10                                   # for one definition; one that has no end is noticed
-SLOW = 0.5                                     # seconds beyond which a statement is not tried
+SLOW = 0.5                                     # seconds beyond which a theorem is not tried
+# Rows that take long, and the crates whose definitions they are for: no others are tried with them.
+LONG, OF_RUNS = 'numbers/Counts.ManySteps', ('run', 'logging')
 ROW, THEOREM, SURVIVES, NO_DEFINITION = 'row', 'theorem', 'survives', 'no definition'
 
 
@@ -29,10 +30,6 @@ class Verdict:
     alteration: Alteration
     kind: str
     by: str = ''
-
-
-def out_of_time(number: int, frame: Optional[FrameType]) -> None:
-    raise TimeoutError
 
 
 class Reach:
@@ -76,7 +73,6 @@ class Judge:
         self.found: Found = statements(repository, self.program, Reach().of)
         self.found.untried += [s.name for s in self.found.laws if s.seconds > SLOW]
         self.found.laws = [s for s in self.found.laws if s.seconds <= SLOW]
-        signal.signal(signal.SIGVTALRM, out_of_time)
 
     def verdict(self, alteration: Alteration) -> Verdict:
         """Puts the altered definition in place of its original, and asks tables and theorems."""
@@ -90,7 +86,7 @@ class Judge:
         signal.setitimer(signal.ITIMER_VIRTUAL, SECONDS)
         try:
             for kind, tried in ((ROW, self.found.tables), (THEOREM, self.found.laws)):
-                by = self.refusing(tried, alteration.definition.number)
+                by = self.refusing(tried, alteration.definition)
                 if by:
                     return Verdict(alteration, kind, by)
             return Verdict(alteration, SURVIVES)
@@ -109,11 +105,14 @@ class Judge:
         if f'f_{old.number}' not in self.program.names:
             raise NameError(old.name)
 
-    def refusing(self, tried: List[Statement], number: int) -> str:
+    def refusing(self, tried: List[Statement], altered: Definition) -> str:
         """The first statement that does not hold; it is asked first the next time."""
         self.program.remembered.clear()
+        of_runs = altered.module.crate in OF_RUNS
         for at, statement in enumerate(tried):
-            if number in statement.reach and not statement.holds():
+            if statement.name.startswith(LONG) and not of_runs:
+                continue
+            if altered.number in statement.reach and not statement.holds():
                 tried.insert(0, tried.pop(at))
                 return statement.name
         return ''

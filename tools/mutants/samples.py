@@ -39,8 +39,10 @@ NUMBERS: Dict[str, Sequence[int]] = {
     'origin': [0, 0x30FE, 0x3000, 0xFDFF, 0xFFFF, 65536],
     'status': STATUS, 'psr': [0, 2, 0x8002, 0x8304, 0x0701],
     'high': [0, 1, 0x30, 0xFD, 0xFF], 'low': [0, 1, 0xFF], 'clock': [0, 5],
-    'userStack': [0x1234, 0xFDFF], 'm': [0, 1, 9, 10, 11, 99, 100, 101, 1024],
+    'userStack': [0x1234, 0xFDFF], 'index': [0, 1, 5, 0x81, 0x8001],
+    'm': [0, 1, 9, 10, 11, 99, 100, 101, 1024],
 }
+ROUTINES = ('getc', 'out', 'puts', 'input', 'putsp', 'halt', 'trap', 'exception', 'interrupt')
 KEY_TIMES = [(), (5,), (4,), (5, 5), (6, 5), (6, 4), (4, 6), (5, 6, 6), (7, 6, 4), (5, 7, 6),
              (9, 9, 8, 3), (5, 6, 7, 8)]
 FILES = [(), (0x30,), (0x30, 0), (0x30, 0, 0x12), (0x30, 0, 0x12, 0x34), (0xFD, 0xFF, 1, 2),
@@ -176,6 +178,7 @@ class Draw:
             'Reason': lambda: self.one(REASONS),
             'Refusal': lambda: self.one(REFUSALS),
             'Lc3Instruction': self.flat_instruction,
+            'Routines': lambda: {name: self.word() for name in ROUTINES},
         }
         return makers[kind]()
 

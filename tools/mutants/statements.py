@@ -1,9 +1,11 @@
 """The statements of the specs: tables, which are computed, and laws, which are tried on samples."""
 from __future__ import annotations
 
+import signal
 import time
 from dataclasses import dataclass
-from typing import Callable, Iterator, List, Set, Tuple
+from types import FrameType
+from typing import Callable, Iterator, List, Optional, Set, Tuple
 
 from .modules import Definition, Module, RecordType, Repository
 from .program import Program, Unknown
@@ -90,6 +92,25 @@ class Found:
     false: List[str]
 
 
+LONGEST = 2                                    # seconds beyond which a statement is left untried
+
+
+def out_of_time(number: int, frame: Optional[FrameType]) -> None:
+    raise TimeoutError
+
+
+def within(seconds: float, statement: Statement) -> Value:
+    """What the statement comes to, and in what time."""
+    signal.signal(signal.SIGVTALRM, out_of_time)
+    signal.setitimer(signal.ITIMER_VIRTUAL, seconds)
+    begin = time.process_time()
+    try:
+        return statement.test()
+    finally:
+        signal.setitimer(signal.ITIMER_VIRTUAL, 0)
+        statement.seconds = time.process_time() - begin
+
+
 Reaching = Callable[[Module, Node], Set[int]]
 
 
@@ -107,10 +128,8 @@ def statements(repository: Repository, program: Program, reach: Reaching) -> Fou
             if uncertain(module, node):
                 raise Unknown(name)
             statement = Statement(name, program.test(module, node), reach(module, node))
-            begin = time.process_time()
             program.remembered.clear()
-            value = statement.test()
-            statement.seconds = time.process_time() - begin
+            value = within(LONGEST, statement)
         except Unknown:
             if is_law:
                 found.untried.append(name)

@@ -11,11 +11,14 @@ use Rattle.object.specs.File.{bytesOf}
 use Rattle.object.specs.Calls.{wrongSize, beyondMemory, tooShort, saveRefusal, saveAccepted, saveBy, saveOf}
 use Rattle.start.proofs.Opened.{opened as start-opened}
 use Rattle.monitor.specs.declared.Routines.{Routines}
+use Rattle.monitor.specs.Vectors.{vectorWord, vectorsFrom, vectorTable}
+use Rattle.monitor.specs.Routines.{routineWords, monitorWords}
 use Rattle.monitor.specs.Install.{vectorsOf, installOf}
 use Rattle.text.specs.Operands.{digits, decimal}
 use Rattle.line.specs.Line.{lineOf}
 use Rattle.line.specs.Page.{linesOf, pageOf}
-use Rattle.numbers.specs.Buffers.{LinesAndPages, ObjectFiles, MonitorRefusals, LastStepLogged, BuffersHold}
+use Rattle.numbers.specs.Buffers.{LinesAndPages, ObjectFiles, MonitorRefusals, MonitorInPlace}
+use Rattle.numbers.specs.Buffers.{LastStepLogged, BuffersHold}
 
 lines-and-pages : LinesAndPages
 unfolding readOf fixedOf digits decimal lineOf linesOf pageOf
@@ -56,6 +59,10 @@ monitor : (r : Routines) → MonitorRefusals r
 unfolding vectorsOf installOf
 monitor r = record { vectors-16 = refl; install-11 = refl }
 
+monitor-in-place : MonitorInPlace
+unfolding vectorWord vectorsFrom vectorTable vectorsOf routineWords monitorWords installOf
+monitor-in-place = record { vectors = refl; fits-exactly = refl; sizes = refl; installed = refl; routines = refl }
+
 last-step-logged : LastStepLogged
 unfolding run-opened fetchedWordBy nextRule entryOf lacksRoom beginLogged stoppedBy stepLogged oneMoreLogged
     loggedRunOf loggedAdmitted loggedCallOf
@@ -66,5 +73,6 @@ buffers-hold = record {
   lines-and-pages = lines-and-pages;
   object-files = object-files;
   monitor = monitor;
+  monitor-in-place = monitor-in-place;
   last-step-logged = last-step-logged;
 }

@@ -2,3 +2,4 @@
 pub mod Numbers
 pub mod Answers
 pub mod Buffers
+pub mod Counts

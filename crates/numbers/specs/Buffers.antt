@@ -3,8 +3,8 @@
 use Prim.Native.Nat.{ℕ, _-_, _^_}
 use mathlib.Core.Path.{_≡_}
 use mathlib.Core.Bool.{true}
-use mathlib.Core.List.{List, [], _∷_}
-use lib.ListN.{replicate}
+use mathlib.Core.List.{List, [], _∷_, map}
+use lib.ListN.{length, getD, replicate}
 use Rattle.machine.specs.declared.Machine.{Machine}
 use Rattle.run.specs.Call.{startOf}
 use Rattle.logging.specs.LoggedRun.{Logged}
@@ -13,6 +13,7 @@ use Rattle.object.specs.Calls.{Saving, loadOf, saveOf}
 use Rattle.object.specs.RoundTrip.{fileIn}
 use Rattle.start.specs.Start.{zeroMachine, startedOf, userStartedOf}
 use Rattle.monitor.specs.declared.Routines.{Routines}
+use Rattle.monitor.specs.Vectors.{ours}
 use Rattle.monitor.specs.Install.{filling, vectorsOf, installOf}
 use Rattle.text.specs.Characters.{codesIn}
 use Rattle.line.specs.Line.{lineOf}
@@ -80,6 +81,49 @@ pub record MonitorRefusals (r : Routines) : Type 0 where
   pub vectors-16 : vectorsOf r (replicate 511 7) ≡ filling 16 (replicate 511 7)
   pub install-11 : installOf (replicate 65535 7) ≡ filling 11 (replicate 65535 7)
 
+-- Nine addresses of routines, no two of them the same.
+abbrev pub nine : Routines
+nine = record {
+  getc = 1;
+  out = 2;
+  puts = 3;
+  input = 4;
+  putsp = 5;
+  halt = 6;
+  trap = 7;
+  exception = 8;
+  interrupt = 9;
+}
+
+-- What stands at these places.
+abbrev pub standing : List ℕ → List ℕ → List ℕ
+standing words = map (λ a. getD words a 0)
+
+pub record MonitorInPlace : Type 0 where
+  -- "Trap vectors x20 to x25 lead to GETC, OUT, PUTS, IN, PUTSP and HALT ..; all other trap vectors lead to one routine
+  -- that halts. The three exception words lead to a routine that halts, and every other word of x0100 to x01FF to a
+  -- lone RTI": in a lent buffer of 513 words, of which the last stays as lent.
+  pub vectors :
+      vectorsOf nine (replicate 513 0xAA) .refusal
+      ∷ standing (vectorsOf nine (replicate 513 0xAA) .words)
+      (0x00 ∷ 0x1F ∷ 0x20 ∷ 0x21 ∷ 0x22 ∷ 0x23 ∷ 0x24 ∷ 0x25 ∷ 0x26 ∷ 0xFF ∷ 0x100 ∷ 0x101 ∷ 0x102 ∷ 0x103 ∷ 0x180
+      ∷ 0x181 ∷ 0x1FF ∷ 0x200 ∷ [])
+      ≡ 0 ∷ 7 ∷ 7 ∷ 1 ∷ 2 ∷ 3 ∷ 4 ∷ 5 ∷ 6 ∷ 7 ∷ 7 ∷ 8 ∷ 8 ∷ 8 ∷ 9 ∷ 9 ∷ 9 ∷ 9 ∷ 0xAA ∷ []
+  pub fits-exactly : vectorsOf nine (replicate 512 0xAA) .refusal ≡ 0
+  pub sizes : length (vectorsOf nine (replicate 513 0xAA) .words) ∷ length (installOf (replicate 65536 0xAA) .words) ∷ []
+      ≡ 513 ∷ 65536 ∷ []
+  -- our monitor in memory: its vector words, the first word of each routine, its last word, and what stays as lent
+  pub installed :
+      installOf (replicate 65536 0xAA) .refusal
+      ∷ standing (installOf (replicate 65536 0xAA) .words)
+      (0x00 ∷ 0x20 ∷ 0x21 ∷ 0x22 ∷ 0x23 ∷ 0x24 ∷ 0x25 ∷ 0x100 ∷ 0x181 ∷ 0x2A5 ∷ 0xFFFF ∷ [])
+      ≡ 0 ∷ 0x027C ∷ 0x0200 ∷ 0x0204 ∷ 0x020C ∷ 0x0228 ∷ 0x023D ∷ 0x026D ∷ 0x027C ∷ 0x027F ∷ 0xAA ∷ 0xAA ∷ []
+  -- where our routines are, as `lc3_monitor_routines` answers
+  pub routines :
+      ours .getc ∷ ours .out ∷ ours .puts ∷ ours .input ∷ ours .putsp ∷ ours .halt ∷ ours .trap ∷ ours .exception
+      ∷ ours .interrupt ∷ []
+      ≡ 0x0200 ∷ 0x0204 ∷ 0x020C ∷ 0x0228 ∷ 0x023D ∷ 0x026D ∷ 0x027C ∷ 0x027C ∷ 0x027F ∷ []
+
 -- The last step that may be made, logged: BR, which is not taken, at clock 2^48 - 1.
 abbrev pub last : Machine
 last = record {
@@ -112,4 +156,5 @@ pub record BuffersHold : Type 0 where
   pub lines-and-pages : LinesAndPages
   pub object-files : ObjectFiles
   pub monitor : (r : Routines) → MonitorRefusals r
+  pub monitor-in-place : MonitorInPlace
   pub last-step-logged : LastStepLogged

@@ -93,10 +93,10 @@ pub record NumbersHold : Type 0 where
   pub refusals : map endingRefusal endings ≡ 0 ∷ 0 ∷ 0 ∷ 11 ∷ 12 ∷ 13 ∷ 14 ∷ 15 ∷ 19 ∷ []
   pub indices : map endingIndex endings ≡ 0 ∷ 0 ∷ 0 ∷ 0 ∷ 0 ∷ 0 ∷ 0 ∷ 3 ∷ 5 ∷ []
   -- for every entry
-  pub index-below-clock : (i : ℕ) → endingIndex (Refused (TimeBelowClock i)) ≡ i
-  pub index-out-of-order : (i : ℕ) → endingIndex (Refused (TimesOutOfOrder i)) ≡ i
-  pub refusal-below-clock : (i : ℕ) → endingRefusal (Refused (TimeBelowClock i)) ≡ 15
-  pub refusal-out-of-order : (i : ℕ) → endingRefusal (Refused (TimesOutOfOrder i)) ≡ 19
+  pub index-below-clock : (index : ℕ) → endingIndex (Refused (TimeBelowClock index)) ≡ index
+  pub index-out-of-order : (index : ℕ) → endingIndex (Refused (TimesOutOfOrder index)) ≡ index
+  pub refusal-below-clock : (index : ℕ) → endingRefusal (Refused (TimeBelowClock index)) ≡ 15
+  pub refusal-out-of-order : (index : ℕ) → endingRefusal (Refused (TimesOutOfOrder index)) ≡ 19
   -- "the reason: 0 instruction, 1 trap, 2 privilege, 3 illegal, 4 access, 5 keyboard, 6 timer"
   pub reasons : map ruleNumber rules ≡ 0 ∷ 1 ∷ 2 ∷ 3 ∷ 4 ∷ 5 ∷ 6 ∷ []
   pub rules-of-causes : map ruleOf causes

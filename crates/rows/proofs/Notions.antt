@@ -32,6 +32,7 @@ notions-hold = record {
   interrupts = refl;
   new-interval = refl;
   three-steps = refl;
+  eight-steps = refl;
   comes-to-zero = refl;
   off-never-expires = refl;
   off-stays = refl;

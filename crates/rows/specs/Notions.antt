@@ -138,9 +138,10 @@ pub record NotionsHold : Type 0 where
   -- "A trap or exception", and an interrupt, which is none.
   pub traps-and-exceptions : map meetsTrapOrException causes ≡ false ∷ true ∷ true ∷ true ∷ true ∷ false ∷ false ∷ []
   pub interrupts : map takesInterrupt causes ≡ false ∷ false ∷ false ∷ false ∷ false ∷ true ∷ true ∷ []
-  -- The timer when an interval has been stored, three steps later, and when its count comes to zero.
+  -- The timer when an interval has been stored, three and eight steps later, and when its count comes to zero.
   pub new-interval : newInterval 0xC000 0x8901 ≡ timer 0xC000 0x8901 0x8901
   pub three-steps : tickedBy 3 (timer 0x4000 7 7) ≡ timer 0x4000 7 4
+  pub eight-steps : tickedBy 8 (timer 0x4000 7 7) ≡ timer 0xC000 7 6
   pub comes-to-zero : map (λ k. expires (timer 0 0x8901 k)) (0 ∷ 1 ∷ 2 ∷ 3 ∷ 0x81 ∷ 0x8001 ∷ 0x8901 ∷ [])
       ≡ true ∷ true ∷ false ∷ false ∷ false ∷ false ∷ false ∷ []
   -- A timer that is off comes to zero in no step, and stays off.

@@ -121,7 +121,7 @@ pub record Further : Type 0 where
       ∷ userQuiet 0xDABC (word 0x0101 0x9E01 ∷ []) (taken illegal 0x0101 0xB455)  -- illegal, with no key
       ∷ [])
 
--- Keys and trap vectors with each bit set and each clear; and two keys in one step.
+-- Keys and trap vectors with each bit set and each clear; and two keys in one step, and four.
 pub record KeysAndVectors : Type 0 where
   pub every-bit :
       Hold
@@ -131,6 +131,7 @@ pub record KeysAndVectors : Type 0 where
       ∷ userQuiet 0x0000 (key 0xAA ∷ []) (KBSR 0x8000 ∷ KBDR 0xAA ∷ [])  -- a key xAA
       ∷ userQuiet 0x0000 (key 0x84 ∷ []) (KBSR 0x8000 ∷ KBDR 0x84 ∷ [])  -- a key x84
       ∷ userQuiet 0x0000 (key 0xE9 ∷ key 0x96 ∷ []) (KBSR 0x8000 ∷ KBDR 0x96 ∷ [])  -- two keys
+      ∷ userQuiet 0x0000 (key 0xE9 ∷ key 0x96 ∷ key 0x41 ∷ key 0x84 ∷ []) (KBSR 0x8000 ∷ KBDR 0x84 ∷ [])  -- four keys
       ∷ user 0xF0FF (word 0x00FF 0x9E01 ∷ []) (taken (trap 0x00FF) 0x00FF 0xB456)  -- TRAP xFF
       ∷ user 0xF000 (word 0x0000 0x9E01 ∷ []) (taken (trap 0x0000) 0x0000 0xB456)  -- TRAP x00
       ∷ user 0xF055 (word 0x0055 0x9E01 ∷ []) (taken (trap 0x0055) 0x0055 0xB456)  -- TRAP x55
@@ -169,6 +170,10 @@ pub record MoreLoads : Type 0 where
       (reads 0xFE09 ∷ R 5 0x9ABD ∷ PSR 0x0204 ∷ [])
       ∷ supervisor 0x6A40 (R 1 0xFFFD ∷ word 0xFFFD 0x9ABD ∷ [])  -- LDR, a plain word
       (reads 0xFFFD ∷ R 5 0x9ABD ∷ PSR 0x0204 ∷ [])
+      ∷ supervisor 0xAA01 (PC 0xFE01 ∷ word 0xFE03 0x4000 ∷ [])  -- LDI R5, #1: a pointer beside KBDR
+      (reads 0xFE03 ∷ reads 0x4000 ∷ R 5 0xAA01 ∷ PSR 0x0204 ∷ [])
+      ∷ supervisor 0xAA01 (PC 0xFE07 ∷ word 0xFE09 0x4000 ∷ [])  -- LDI R5, #1: a pointer beside TSR
+      (reads 0xFE09 ∷ reads 0x4000 ∷ R 5 0xAA01 ∷ PSR 0x0204 ∷ [])
       ∷ [])
 
 -- Stores to each device register, while the display is busy.
@@ -252,7 +257,8 @@ pub record SecondInUserMode : Type 0 where
       ∷ [])
 
 -- A load of 1; a word that stands at PC alone; a store to the PSR while the timer is off; counts and an interval of
--- which bit 15 is the only one, or the only one but bit 0.
+-- which bit 15 is the only one, or the only one but bit 0; the longest interval; codes of which more than one is set; a
+-- stack that wraps.
 pub record Single : Type 0 where
   pub values :
       Hold
@@ -262,6 +268,11 @@ pub record Single : Type 0 where
       ∷ supervisorQuiet 0x0000 (timerCount 0x8001 ∷ []) []  -- the count falls
       ∷ supervisorQuiet 0x0000 (timerCount 0x8000 ∷ []) []  -- the count falls
       ∷ supervisorQuiet 0x0000 (TIR 0x8000 ∷ timerCount 0x0002 ∷ []) []  -- the count falls
+      ∷ supervisorQuiet 0x0000 (TIR 0xFFFF ∷ timerCount 0x0002 ∷ []) []  -- the count falls
+      ∷ user 0x0410 (PSR 0x8206 ∷ []) (PC 0xB466 ∷ [])  -- BRz #16, N and Z set
+      ∷ user 0x0210 (PSR 0x8207 ∷ []) (PC 0xB466 ∷ [])  -- BRp #16, all set
+      ∷ supervisor 0x8000 (R 6 0xFFFE ∷ word 0xFFFE 0x8AAB ∷ word 0xFFFF 0x0101 ∷ [])  -- RTI, and the stack wraps
+      (reads 0xFFFE ∷ reads 0xFFFF ∷ R 6 0x0000 ∷ PC 0x8AAB ∷ PSR 0x0101 ∷ [])
       ∷ [])
 
 pub record OtherRecordsHold : Type 0 where
