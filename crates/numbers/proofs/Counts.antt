@@ -19,6 +19,8 @@ unfolding opened fetchedWordBy nextRule entryOf lacksRoom stoppedBy stepLogged o
 long-runs = record {
   due = refl;
   made = refl;
+  halted = refl;
+  full = refl;
   stopped = refl;
   shown = refl;
   logged = refl;

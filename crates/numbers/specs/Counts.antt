@@ -6,14 +6,14 @@ use mathlib.Core.Bool.{true, false}
 use mathlib.Core.List.{List, [], _∷_, _++_, map}
 use lib.ListN.{getD, replicate}
 use Rattle.machine.specs.declared.Machine.{Machine}
-use Rattle.machine.specs.Record.{devicesOf, zeroTimer}
+use Rattle.machine.specs.Record.{devicesOf, zeroTimer, withBusy}
 use Rattle.machine.specs.Outcome.{trap, entered}
 use Rattle.machine.specs.Exclusions.{trap as trapMet}
 use Rattle.machine.specs.Step.{stepOf}
 use Rattle.machine.specs.Rows.{withWord}
 use Rattle.run.specs.declared.Refusal.the-variants.{TooManySteps}
 use Rattle.run.specs.declared.Ending.the-variants.{Done, Halted, Refused}
-use Rattle.run.specs.Run.{Start, End, begin, endedBy, arriving, stepMade}
+use Rattle.run.specs.Run.{Start, End, begin, endedBy, arriving, stepMade, isHalted, isFull}
 use Rattle.run.specs.Call.{startOf, callOf, secondCallOf}
 use Rattle.run.specs.Noninterference.{causeAt}
 use Rattle.run.specs.AlteredWords.{readsAt, writesAt}
@@ -56,6 +56,29 @@ far mcr = record {
   ending = Done;
 }
 
+-- The same halted, with the display busy; and with an output that is full.
+abbrev pub farHalted : End
+farHalted = record {
+  machine = withBusy 3 (storing 0x8101 0xFE06 0);
+  memory = [];
+  output = [];
+  steps = 0x18081;
+  keys = 0x8081;
+  shown = 0x8081;
+  ending = Done;
+}
+
+abbrev pub farFull : End
+farFull = record {
+  machine = storing 0x8101 0xFE06 0x8000;
+  memory = replicate 65536 0x7040;
+  output = replicate 0x8081 0;
+  steps = 0x18081;
+  keys = 0x8081;
+  shown = 0x8081;
+  ending = Done;
+}
+
 -- The same logged, with x8081 words of a log of so many written.
 abbrev pub farLogged : ℕ → Logged
 farLogged size = withLog (Run Done) (far 0x8000) (replicate size 0) 0x8081
@@ -73,6 +96,8 @@ places values = map (λ i. getD values i 0)
 pub record LongRuns : Type 0 where
   pub due : arriving crowded (far 0) ≡ 0xE5 ∷ []
   pub made : counts (stepMade crowded (far 0)) ≡ 0x18082 ∷ 0x8082 ∷ 0x8082 ∷ []
+  pub halted : isHalted farHalted ≡ true
+  pub full : isFull crowded farFull ≡ true
   pub stopped : counts (endedBy Halted (far 0)) ≡ 0x18081 ∷ 0x8081 ∷ 0x8081 ∷ []
   pub shown : places (stepMade crowded (far 0x8000) .output) (1 ∷ 0x81 ∷ 0x8080 ∷ 0x8081 ∷ [])
       ≡ 0 ∷ 0 ∷ 0 ∷ 0xC1 ∷ []
