@@ -110,7 +110,8 @@ pub record MonitorInPlace : Type 0 where
       ∷ 0x181 ∷ 0x1FF ∷ 0x200 ∷ [])
       ≡ 0 ∷ 7 ∷ 7 ∷ 1 ∷ 2 ∷ 3 ∷ 4 ∷ 5 ∷ 6 ∷ 7 ∷ 7 ∷ 8 ∷ 8 ∷ 8 ∷ 9 ∷ 9 ∷ 9 ∷ 9 ∷ 0xAA ∷ []
   pub fits-exactly : vectorsOf nine (replicate 512 0xAA) .refusal ≡ 0
-  pub sizes : length (vectorsOf nine (replicate 513 0xAA) .words) ∷ length (installOf (replicate 65536 0xAA) .words) ∷ []
+  pub sizes :
+      length (vectorsOf nine (replicate 513 0xAA) .words) ∷ length (installOf (replicate 65536 0xAA) .words) ∷ []
       ≡ 513 ∷ 65536 ∷ []
   -- our monitor in memory: its vector words, the first word of each routine, its last word, and what stays as lent
   pub installed :
