@@ -1,0 +1,57 @@
+-- `certify::rows::wrong_in_row` meets its contract.
+use borrow.Author.Needs.{needs}
+use Prim.Native.Nat.{_-_, _*_}
+use native.Mathlib.Omega.{arith}
+use mathlib.Core.Path.{_≡_, refl, sym, _∙_}
+use borrow.Author.Tests.{eq-eqb, ne-eqb}
+use lib.ListN.{drop}
+use Rattle.word.specs.Reading.{readOf}
+use Rattle.sitting.specs.Test.{allHarmless}
+use Rattle.claims.specs.Encoding.{statesOf, claimOf}
+use Rattle.certify.proofs.Laws.{harmless-step, harmless-end}
+use Rattle.certify.proofs.rows.wrong_in_row.Statement.{statement}
+use Rattle.certify.proofs.rows.wrong_in_row.Tie as tie
+
+abbrev Inv-loop : tie.InvT-loop
+Inv-loop memory kinds lowest watched ends table pc w start end k₀ k =
+    allHarmless (claimOf memory kinds lowest watched ends table) pc (readOf w)
+    (statesOf (end - start) (drop (start * 17) table))
+    ≡ allHarmless (claimOf memory kinds lowest watched ends table) pc (readOf w)
+    (statesOf (end - k) (drop (k * 17) table))
+
+abbrev μ-loop : tie.MeasureT-loop
+μ-loop memory kinds lowest watched ends table pc w start end k₀ k = end - k
+
+loop-holds : tie.Need-loop-holds Inv-loop μ-loop
+loop-holds c = refl
+
+returns : tie.Need-returns Inv-loop μ-loop
+returns c = let a = c .before .before .before .before .before .before .before .before .before .before .args in
+    let l = c .before .before .before .before .loop in
+    ne-eqb (c .before .before .wrong-in .result) 0 (λ e. omega arith)
+    ∙ sym (l .inv ∙ (harmless-step (claimOf (a .memory .now) (a .kinds .now) (a .lowest) (a .watched .now)
+    (a .ends .now) (a .table .now)) (a .pc) (readOf (a .w)) (a .table .now) (l .k) (a .end) (omega arith)
+    ∙ rw (
+      ← c .before .before .wrong-in .ensures,
+      ne-eqb (c .before .before .wrong-in .result) 0
+          (λ e. omega arith),
+    ) refl))
+
+loop-again : tie.Need-loop-again Inv-loop μ-loop
+loop-again c = let a = c .before .before .before .before .before .before .before .before .before .args in
+    let l = c .before .before .before .loop in
+    l .inv ∙ (harmless-step (claimOf (a .memory .now) (a .kinds .now) (a .lowest) (a .watched .now) (a .ends .now)
+    (a .table .now)) (a .pc) (readOf (a .w)) (a .table .now) (l .k) (a .end) (omega arith)
+    ∙ rw (← c .before .wrong-in .ensures, eq-eqb (c .before .wrong-in .result) 0 (omega arith)) refl)
+
+returns-2 : tie.Need-returns-2 Inv-loop μ-loop
+returns-2 c = let a = c .before .before .before .before .before .before .before .args in
+    let l = c .before .loop in
+    sym (l .inv ∙ harmless-end (claimOf (a .memory .now) (a .kinds .now) (a .lowest) (a .watched .now)
+    (a .ends .now) (a .table .now)) (a .pc) (readOf (a .w)) (a .table .now) _ _ (omega arith))
+
+pub wrong-in-row-spec : {M : Type 1} → statement M
+wrong-in-row-spec =
+    tie.close
+    (tie.spec Inv-loop μ-loop loop-holds (λ c κs. search needs) (λ c κs. search needs) returns (λ c. search needs)
+    (λ c. search needs) loop-again returns-2)

@@ -1,0 +1,26 @@
+-- `claims::states::move_to` meets its contract.
+use borrow.Author.Needs.{needs}
+use native.Mathlib.Omega.{arith}
+use Rattle.claims.proofs.StateLaws.{moved-first, moved-other}
+use Rattle.claims.proofs.states.move_to.Statement.{statement}
+use Rattle.claims.proofs.states.move_to.Tie as tie
+
+returns : tie.Need-returns
+returns c =
+    let a = c .before .before .before .before .before .before .before .args in
+    let f = c .before .before .before .forget-all in
+    moved-first (a .t .now) (f .last .0) (a .r) (a .v) (c .forgotten .result) (omega (arith, f .kept .0))
+    (f .ensures) (c .forgotten .ensures)
+    (omega arith)
+
+returns-2 : tie.Need-returns-2
+returns-2 c =
+    let a = c .before .before .args in
+    moved-other (a .t .now) (a .r) (a .v) (omega arith) (λ e. omega arith)
+
+pub move-to-spec : {M : Type 1} → statement M
+move-to-spec =
+    tie.close
+    (tie.spec (λ c. search needs) (λ c κs. search needs) (λ c κs. search needs) (λ c. search needs)
+    (λ c. search needs) (λ c. search needs) (λ c. search needs) (λ c. search needs) (λ c. search needs) returns
+    (λ c. search needs) returns-2)

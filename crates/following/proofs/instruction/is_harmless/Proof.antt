@@ -1,0 +1,41 @@
+-- `following::instruction::is_harmless` meets its contract.
+use borrow.Author.Needs.{needs}
+use mathlib.Core.Path.{_∙_}
+use Rattle.claims.specs.Encoding.{stateOf, rowsOf, claimOf}
+use Rattle.following.specs.Ways.{wayHolds}
+use Rattle.following.proofs.BranchLaws.{accepted-is}
+use Rattle.following.proofs.instruction.is_harmless.Statement.{statement}
+use Rattle.following.proofs.instruction.is_harmless.Tie as tie
+
+returns : tie.Need-returns
+unfolding wayHolds
+returns c = let a = c .before .before .before .before .before .before .before .before .before .before .before
+    .before .before .before .before .args in
+    c .accepts .ensures
+    ∙ (accepted-is (claimOf (a .memory .now) (a .kinds .now) (a .lowest) (a .watched .now) (a .ends .now)
+    (a .table .now)) _ (stateOf (c .before .before .before .before .before .before .before .leads .last .0)) ∙ (rw
+    (c .before .before .before .way .given .1) at (c .before .before .before .before .before .before .before .leads
+    .ensures (rowsOf (a .table .now) 0 (a .ends .now)))))
+
+returns-2 : tie.Need-returns-2
+unfolding wayHolds
+returns-2 c = let a = c .before .before .before .before .before .before .before .before .before .before .before
+    .before .before .before .before .before .before .args in
+    c .before .before .branches .ensures (a .memory .now) (a .kinds .now) (a .lowest) (a .watched .now)
+    ∙ (rw (c .before .before .before .before .before .way2 .given .1) at
+    (c .before .before .before .before .before .before .before .before .before .leads .ensures (rowsOf
+    (a .table .now) 0 (a .ends .now))))
+
+returns-3 : tie.Need-returns-3
+unfolding wayHolds
+returns-3 c = let a = c .before .before .before .before .before .before .before .before .before .before .before
+    .before .args in
+    rw (c .enum-told .given .1) at (c .before .before .before .before .leads .ensures (rowsOf (a .table .now) 0
+    (a .ends .now)))
+
+pub is-harmless-spec : {M : Type 1} → statement M
+is-harmless-spec =
+    tie.close
+    (tie.spec (λ c κs. search needs) (λ c. search needs) (λ c κs. search needs) (λ c. search needs)
+    (λ c κs. search needs) (λ c. search needs) (λ c. search needs) returns (λ c. search needs) returns-2
+    (λ c. search needs) returns-3)

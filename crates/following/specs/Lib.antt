@@ -1,0 +1,3 @@
+-- What an instruction of a monitor leads to.
+pub mod Ways
+pub mod Pushed
