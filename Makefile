@@ -15,7 +15,8 @@
 # make mutants    alters the definitions one point at a time: would a wrong rule be noticed? (no part of make test)
 # make release-test   a release, made twice, and installed without the kit: wheel, packages in a fresh Debian, archive
 
-EXPORTS = lc3_machine lc3_logging lc3_long lc3_second lc3_words lc3_lines lc3_objects lc3_monitor lc3_version
+EXPORTS = lc3_machine lc3_logging lc3_long lc3_second lc3_words lc3_lines lc3_objects lc3_monitor lc3_certify \
+    lc3_version
 ARCHIVES = $(EXPORTS:%=target/staticlib/lib%.a)
 # The crates that they rest on.
 BELOW := $(sort $(foreach name,$(EXPORTS),$(shell sed -n 's/^$(name)://p' crates.txt)))

@@ -1353,6 +1353,63 @@ static void test_monitor(void) {
                  (WORDS + 1 - LC3_MONITOR_WORDS) * sizeof *memory), 0);
 }
 
+/* A claim about a monitor of one RTI, x0200, and of the word after it, with its one state each. */
+static uint8_t kinds[0x0202];
+static uint16_t watched[LC3_WATCHED_WORDS + 1], stack_start;
+static uint32_t ends[2], table[2 * LC3_STATE_NUMBERS];
+
+static void claim(void) {
+    fill_memory();
+    for (size_t a = 0; a < 0x0200; a++) memory[a] = 0x0200;
+    memory[0x0200] = memory[0x0201] = 0x8000;
+    for (size_t a = 0; a < sizeof kinds; a++) kinds[a] = 1;
+    for (size_t i = 0; i < sizeof table / sizeof *table; i++) table[i] = 0x10000; /* some value */
+    table[6] = table[6 + LC3_STATE_NUMBERS] = 0x22FFE;                            /* R6 is x2FFE */
+    table[8] = table[8 + LC3_STATE_NUMBERS] = 0;                                  /* the codes */
+    ends[0] = 1;
+    ends[1] = 2;
+    stack_start = 0x2FFE;
+}
+
+static void check_claim(size_t watched_len, uint32_t finding, uint32_t address, uint32_t state) {
+    keep_buffers();
+    lc3_certified found =
+        lc3_certify(memory, WORDS, kinds, sizeof kinds, stack_start, watched, watched_len, ends, 2,
+                    table, sizeof table / sizeof *table);
+    CHECK(found.finding, finding);
+    CHECK(found.address, address);
+    CHECK(found.state, state);
+    check_buffers();
+}
+
+/* The claim is certified, and each finding is met once it is altered. */
+static void test_certify(void) {
+    part = "certify";
+    claim();
+    check_claim(LC3_WATCHED_WORDS, LC3_CERTIFIED, 0, 0);
+    check_claim(LC3_WATCHED_WORDS - 1, LC3_WRONG_WATCHED, 0, 0);
+    check_claim(LC3_WATCHED_WORDS + 1, LC3_WRONG_WATCHED, 0, 0);
+    stack_start = 0x0202 + 3;
+    check_claim(LC3_WATCHED_WORDS, LC3_WRONG_ROOM, 0, 0);
+    stack_start = 0x2FFF;
+    check_claim(LC3_WATCHED_WORDS, LC3_WRONG_ROOM, 0, 0);
+    claim();
+    memory[0x0102] = 0x0300;
+    check_claim(LC3_WATCHED_WORDS, LC3_WRONG_VECTOR, 0x0102, 0);
+    claim();
+    memory[0x0181] = 0x01FF;
+    check_claim(LC3_WATCHED_WORDS, LC3_WRONG_INTERRUPT, 0x0181, 0);
+    claim();
+    kinds[0x0201] = 2;
+    check_claim(LC3_WATCHED_WORDS, LC3_WRONG_WORD, 0x0201, 1);
+    claim();
+    table[6 + LC3_STATE_NUMBERS] = 0x22FFF;
+    check_claim(LC3_WATCHED_WORDS, LC3_WRONG_STACK, 0x0201, 1);
+    claim();
+    memory[0x0201] = 0xD000;
+    check_claim(LC3_WATCHED_WORDS, LC3_WRONG_INSTRUCTION, 0x0201, 1);
+}
+
 /* HALT, called by a program in User mode. */
 static void test_halt(void) {
     part = "halt";
@@ -1398,6 +1455,7 @@ int main(void) {
     test_attack();
     test_save();
     test_vectors();
+    test_certify();
     test_monitor();
     test_halt();
     printf("interface: %lu checks, %lu failures\n", checks, failures);

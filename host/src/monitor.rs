@@ -8,7 +8,10 @@ pub const VECTOR_WORDS: usize = ffi::LC3_VECTOR_WORDS;
 /// The words of the ready-made monitor, from x0000 on.
 pub const MONITOR_WORDS: usize = ffi::LC3_MONITOR_WORDS;
 
-pub use ffi::Routines;
+pub use ffi::{Certified, Routines};
+
+/// The watched words of a claim about a monitor.
+pub const WATCHED_WORDS: usize = ffi::LC3_WATCHED_WORDS;
 
 /// Puts the ready-made monitor into memory: words x0000 to x02A4, and no other.
 ///
@@ -49,4 +52,39 @@ pub fn vectors(routines: Routines) -> [u16; VECTOR_WORDS] {
     let refusal = unsafe { ffi::lc3_vectors(routines, words.as_mut_ptr(), words.len()) };
     assert_eq!(refusal, ffi::LC3_ACCEPTED, "the table fits");
     words
+}
+
+/// Tests a claim about a monitor, any class's. Where the finding is 0, a sitting on this memory tells
+/// nothing of the secret words: the header says what the numbers mean.
+///
+/// ```
+/// // No word is claimed, so that the first vector is secret.
+/// let memory = fanthrig::memory();
+/// let found = fanthrig::certify(&memory[..], &[], 0x2FF8, &[0; 8], &[], &[]);
+/// assert_eq!((found.finding, found.address), (3, 0x0000));
+/// ```
+pub fn certify(
+    memory: &[u16],
+    kinds: &[u8],
+    lowest: u16,
+    watched: &[u16; WATCHED_WORDS],
+    ends: &[u32],
+    table: &[u32],
+) -> Certified {
+    // SAFETY: each pointer and length come from one slice.
+    unsafe {
+        ffi::lc3_certify(
+            memory.as_ptr(),
+            memory.len(),
+            kinds.as_ptr(),
+            kinds.len(),
+            lowest,
+            watched.as_ptr(),
+            watched.len(),
+            ends.as_ptr(),
+            ends.len(),
+            table.as_ptr(),
+            table.len(),
+        )
+    }
 }

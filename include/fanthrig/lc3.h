@@ -19,6 +19,8 @@
  *   lc3_monitor  puts the ready-made monitor into lent memory; lc3_monitor_routines says where
  *                its routines are
  *   lc3_vectors  writes the vector words for the routines of any monitor
+ *   lc3_certify  tests a claim about any monitor: where it holds, a sitting beside it tells nothing
+ *                of the secret words
  *
  * What a host owes and may rely on:
  *
@@ -29,7 +31,8 @@
  *   aligned pointer but NULL. Memory, times, bytes, output, log, file and the record lent to
  *   lc3_step may not overlap.
  * - Several threads may call at once. What a call only reads they may share while nobody writes
- *   it: times and bytes of every run and step, file of a start, memory of lc3_page and lc3_save.
+ *   it: times and bytes of every run and step, file of a start, memory of lc3_page and lc3_save,
+ *   all that lc3_certify is lent.
  *   What a call writes is that call's alone: memory of every run and step, of a start and of
  *   lc3_monitor, every output, the log, and the record lent to a step.
  * - Every call is answered. One that cannot be obeyed is refused with a number that says why, and
@@ -71,6 +74,8 @@ __extension__ typedef _Bool lc3_bool;
 #define LC3_LOG_WORDS 3                   /* words of one step in a log */
 #define LC3_VECTOR_WORDS 512              /* the vector words, x0000 to x01FF */
 #define LC3_MONITOR_WORDS 677             /* the words of the ready-made monitor, x0000 to x02A4 */
+#define LC3_WATCHED_WORDS 8               /* the watched words of a claim about a monitor */
+#define LC3_STATE_NUMBERS 17              /* the numbers of one state in its table */
 
 /* Bits of the PSR. No other bit may be set in a record; any pattern of N, Z, P is allowed. */
 #define LC3_PSR_USER 0x8000     /* set in User mode, clear in Supervisor mode */
@@ -277,6 +282,26 @@ enum {
     LC3_LEA,
     LC3_TRAP
 };
+
+/* What lc3_certify finds wrong first. */
+enum {
+    LC3_CERTIFIED = 0,
+    LC3_WRONG_WATCHED = 1,    /* watched is not LC3_WATCHED_WORDS words */
+    LC3_WRONG_ROOM = 2,       /* the words and four more reach lowest, or lowest is above x2FFE */
+    LC3_WRONG_VECTOR = 3,     /* x0000 to x0102: not a fixed word, or its entry is not covered */
+    LC3_WRONG_INTERRUPT = 4,  /* x0180 or x0181: the same, or it does not lead to a lone RTI */
+    LC3_WRONG_WORD = 5,       /* the table has a state for a word that is not fixed */
+    LC3_WRONG_STACK = 6,      /* R6 is no known word of the stack, or a word below it is known */
+    LC3_WRONG_INSTRUCTION = 7 /* the instruction is not allowed from the state, or leads to one that
+                                 the table does not cover */
+};
+
+/* What lc3_certify answers. Where the finding names no word or no state, the number is 0. */
+typedef struct {
+    uint32_t finding; /* LC3_CERTIFIED, or what is wrong */
+    uint32_t address; /* the word */
+    uint32_t state;   /* the state, counted from 0 over all rows of the table */
+} lc3_certified;
 
 /* What lc3_read answers. */
 typedef struct {
@@ -502,6 +527,30 @@ lc3_routines lc3_monitor_routines(void);
  */
 uint32_t lc3_vectors(lc3_routines routines, uint16_t *output, size_t output_len);
 
+/*
+ * Tests a claim about a monitor, any class's. Where it finds nothing wrong, a sitting on this memory
+ * tells nothing of the secret words and leaves them as they were: a candidate's program in User mode
+ * with Saved_SSP x3000, and any calls of lc3_run and the like. docs/CERTIFY.md says what is claimed
+ * and what is not. Writes nothing and accepts every argument; any tool may make the table, as
+ * nothing is taken from it that is not tested.
+ *
+ * - kinds: what each word from x0000 on is: 1 it never changes; 2 it is the monitor's own, which the
+ *   routines may write; 0 it is secret, as are the words past the end of kinds or of memory.
+ * - lowest: the lowest word of the routines' stack, which ends at x2FFF. Four words below it are for
+ *   interrupts.
+ * - watched: eight addresses of words of which the table says something; 0 for none.
+ * - ends: for each word from x0200 on, where its row of states ends in the table, counted in states.
+ *   A row begins where the one before it ends; one that ends past the table ends with it.
+ * - table: LC3_STATE_NUMBERS numbers for each state, in which each is what is known of a value: of
+ *   R0 to R7, of the one that the codes were set from, of the watched words. A value is its kind
+ *   times 65,536, and its number: 0 nothing; 1 some value; 2 this number; 3 x8000 or more; 4 less;
+ *   5 R0 plus this number; 6 an address of User mode's.
+ */
+lc3_certified lc3_certify(const uint16_t *memory, size_t memory_len, const uint8_t *kinds,
+                          size_t kinds_len, uint16_t lowest, const uint16_t *watched,
+                          size_t watched_len, const uint32_t *ends, size_t ends_len,
+                          const uint32_t *table, size_t table_len);
+
 #ifdef __cplusplus
 }
 #endif
@@ -595,6 +644,11 @@ LC3_LAYOUT(offsetof(lc3_routines, halt) == 10);
 LC3_LAYOUT(offsetof(lc3_routines, trap) == 12);
 LC3_LAYOUT(offsetof(lc3_routines, exception) == 14);
 LC3_LAYOUT(offsetof(lc3_routines, interrupt) == 16);
+
+LC3_LAYOUT(sizeof(lc3_certified) == 12);
+LC3_LAYOUT(offsetof(lc3_certified, finding) == 0);
+LC3_LAYOUT(offsetof(lc3_certified, address) == 4);
+LC3_LAYOUT(offsetof(lc3_certified, state) == 8);
 
 #undef LC3_LAYOUT
 

@@ -19,6 +19,10 @@ pub const LC3_LOG_WORDS: usize = 3;
 pub const LC3_VECTOR_WORDS: usize = 512;
 /// The words of the ready-made monitor, x0000 to x02A4.
 pub const LC3_MONITOR_WORDS: usize = 677;
+/// The watched words of a claim about a monitor.
+pub const LC3_WATCHED_WORDS: usize = 8;
+/// The numbers of one state in its table.
+pub const LC3_STATE_NUMBERS: usize = 17;
 
 /// Bit of the PSR: set in User mode, clear in Supervisor mode.
 pub const LC3_PSR_USER: u16 = 0x8000;
@@ -155,3 +159,20 @@ pub const LC3_RESERVED: u8 = 16;
 pub const LC3_LEA: u8 = 17;
 /// Kind: `TRAP`.
 pub const LC3_TRAP: u8 = 18;
+
+/// What [`lc3_certify`](crate::lc3_certify) finds wrong: nothing.
+pub const LC3_CERTIFIED: u32 = 0;
+/// The watched words are not eight.
+pub const LC3_WRONG_WATCHED: u32 = 1;
+/// The monitor's words leave no room for its stack.
+pub const LC3_WRONG_ROOM: u32 = 2;
+/// A vector is not fixed, or the table misses its entry.
+pub const LC3_WRONG_VECTOR: u32 = 3;
+/// The same of an interrupt's, or it does not lead to a lone RTI.
+pub const LC3_WRONG_INTERRUPT: u32 = 4;
+/// The table has a state for a word that is not fixed.
+pub const LC3_WRONG_WORD: u32 = 5;
+/// The stack is not known in a state.
+pub const LC3_WRONG_STACK: u32 = 6;
+/// The instruction is not allowed from a state, or leads to one that the table does not cover.
+pub const LC3_WRONG_INSTRUCTION: u32 = 7;

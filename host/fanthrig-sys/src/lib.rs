@@ -168,6 +168,18 @@ impl Routines {
     }
 }
 
+/// What [`lc3_certify`] answers. Where the finding names no word or no state, the number is 0.
+#[repr(C)]
+#[derive(Clone, Copy, Debug, PartialEq, Eq)]
+pub struct Certified {
+    /// `LC3_CERTIFIED`, or what is wrong first.
+    pub finding: u32,
+    /// The word.
+    pub address: u32,
+    /// The state, counted from 0 over all rows of the table.
+    pub state: u32,
+}
+
 // The layout that C gives the same declarations.
 const _: () = assert!(size_of::<Record>() == 48 && align_of::<Record>() == 8);
 const _: () = assert!(offset_of!(Record, regs) == 0 && offset_of!(Record, pc) == 16);
@@ -177,6 +189,9 @@ const _: () = assert!(offset_of!(Record, kbdr) == 26 && offset_of!(Record, mcr) 
 const _: () = assert!(offset_of!(Record, busy) == 30 && offset_of!(Record, timer_status) == 32);
 const _: () = assert!(offset_of!(Record, timer_interval) == 34);
 const _: () = assert!(offset_of!(Record, timer_count) == 36 && offset_of!(Record, clock) == 40);
+const _: () = assert!(size_of::<Certified>() == 12 && align_of::<Certified>() == 4);
+const _: () = assert!(offset_of!(Certified, finding) == 0 && offset_of!(Certified, address) == 4);
+const _: () = assert!(offset_of!(Certified, state) == 8);
 const _: () = assert!(size_of::<Answer>() == 88 && align_of::<Answer>() == 8);
 const _: () = assert!(offset_of!(Answer, record) == 0 && offset_of!(Answer, steps) == 48);
 const _: () = assert!(offset_of!(Answer, keys) == 56 && offset_of!(Answer, shown) == 64);
@@ -450,4 +465,23 @@ unsafe extern "C" {
     ///
     /// `output` must be valid for writing `output_len` words.
     pub fn lc3_vectors(routines: Routines, output: *mut u16, output_len: usize) -> u32;
+
+    /// Tests a claim about a monitor.
+    ///
+    /// # Safety
+    ///
+    /// Each pointer must be valid for its number of elements.
+    pub fn lc3_certify(
+        memory: *const u16,
+        memory_len: usize,
+        kinds: *const u8,
+        kinds_len: usize,
+        lowest: u16,
+        watched: *const u16,
+        watched_len: usize,
+        ends: *const u32,
+        ends_len: usize,
+        table: *const u32,
+        table_len: usize,
+    ) -> Certified;
 }
