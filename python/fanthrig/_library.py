@@ -134,6 +134,12 @@ class CountedStruct(Structure):
     _fields_ = [("count", c_uint64), ("refusal", c_uint32)]
 
 
+class CertifiedStruct(Structure):
+    """``lc3_certified``."""
+
+    _fields_ = [("finding", c_uint32), ("address", c_uint32), ("state", c_uint32)]
+
+
 class RoutinesStruct(Structure):
     """``lc3_routines``."""
 
@@ -164,6 +170,7 @@ SIZES = {
     WrittenStruct: 8,
     StartedStruct: 56,
     CountedStruct: 16,
+    CertifiedStruct: 12,
     RoutinesStruct: 18,
 }
 
@@ -191,6 +198,7 @@ FUNCTIONS: dict[str, tuple[Any, tuple[Any, ...]]] = {
     "lc3_monitor": (c_uint32, _LENT),
     "lc3_monitor_routines": (RoutinesStruct, ()),
     "lc3_vectors": (c_uint32, (RoutinesStruct, *_LENT)),
+    "lc3_certify": (CertifiedStruct, (*_LENT, *_LENT, c_uint16, *_LENT * 3)),
 }
 
 

@@ -9,6 +9,7 @@ element  for                          made by
 =======  ===========================  ==================================================
 WORD     memory, log, vector words    ``array("H", ...)``, numpy ``uint16``
 TIME     the times of keys            ``array("Q", ...)``, numpy ``uint64``
+NUMBER   tables of ``certify``        ``array("I", ...)``, numpy ``uint32``
 BYTE     keys, files, output          ``bytes``, ``bytearray``, ``array("B", ...)``
 =======  ===========================  ==================================================
 
@@ -33,6 +34,7 @@ class Element(NamedTuple):
 
 WORD = Element(2, "H", "unsigned 16-bit words, as of array('H')")
 TIME = Element(8, "QL", "unsigned 64-bit numbers, as of array('Q')")
+NUMBER = Element(4, "IL", "unsigned 32-bit numbers, as of array('I')")
 BYTE = Element(1, "Bc", "bytes, as of bytearray or array('B')")
 
 

@@ -21,11 +21,11 @@ from array import array
 from typing import TYPE_CHECKING, Any, Callable, overload
 
 from ._library import LIBRARY
-from .buffers import BYTE, TIME, WORD, Lending
+from .buffers import BYTE, NUMBER, TIME, WORD, Lending
 from .constants import MAX_LINE, MEMORY_WORDS, VECTOR_WORDS
 from .exclusive import Exclusive
-from .records import LONG_LIMIT, WORD_LIMIT, Instruction, LoggedRun, Reading, Record, Refused
-from .records import Report, Routines, Run, Started, Stop, whole
+from .records import LONG_LIMIT, WORD_LIMIT, Certified, Finding, Instruction, LoggedRun, Reading
+from .records import Record, Refused, Report, Routines, Run, Started, Stop, whole
 
 if TYPE_CHECKING:
     from _typeshed import ReadableBuffer, WriteableBuffer
@@ -430,3 +430,32 @@ def vectors(routines: Routines, output: Any = None) -> Any:
         refusal = LIBRARY.lc3_vectors(routines.to_c(), *lending.write(words, WORD, "output"))
     _accepted(refusal)
     return words if output is None else None
+
+
+def certify(
+    memory: ReadableBuffer,
+    kinds: ReadableBuffer,
+    lowest: int,
+    watched: ReadableBuffer,
+    ends: ReadableBuffer,
+    table: ReadableBuffer,
+) -> Certified:
+    """Tests a table that says what is known at each word of a monitor's routines. Where it holds,
+    a sitting beside that monitor tells nothing of a secret word: it is a theorem.
+
+    ``kinds`` has a byte for each word from x0000 on: 1 fixed, as it stands in memory, 2 the
+    monitor's own, and else secret. ``lowest`` is the lowest word of the stack, ``watched`` are
+    eight addresses, 0 for none, ``ends`` the number of states up to each row's end, from x0200 on,
+    and ``table`` has 17 numbers a state: R0 to R7, the codes, the watched words. ``fanthrig.
+    certifying`` makes such tables. No call is refused, and nothing is written.
+
+    >>> certify(array("H"), b"", 0x2FFE, array("H", bytes(16)), array("I"), array("I"))
+    Certified(finding=<Finding.VECTOR: 3>, address=0, state=0)
+    """
+    stack = whole(lowest, WORD_LIMIT, "lowest")
+    with Lending() as lending:
+        parts = lending.read(memory, WORD, "memory") + lending.read(kinds, BYTE, "kinds")
+        lists = lending.read(watched, WORD, "watched") + lending.read(ends, NUMBER, "ends")
+        lists += lending.read(table, NUMBER, "table")
+        answer = LIBRARY.lc3_certify(*parts, stack, *lists)
+    return Certified(Finding(answer.finding), answer.address, answer.state)

@@ -373,6 +373,55 @@ class Reading:
     mask: int
 
 
+class Finding(IntEnum):
+    """What the test of a monitor finds: that it passes, or the first thing that is wrong."""
+
+    CERTIFIED = 0
+    WATCHED = 1
+    ROOM = 2
+    VECTOR = 3
+    INTERRUPT = 4
+    WORD = 5
+    STACK = 6
+    INSTRUCTION = 7
+
+    @property
+    def text(self) -> str:
+        """The finding in words.
+
+        >>> Finding.CERTIFIED.text
+        'the table holds'
+        """
+        return _FINDING_TEXTS[self]
+
+
+_FINDING_TEXTS = {
+    Finding.CERTIFIED: "the table holds",
+    Finding.WATCHED: "watched is not eight words",
+    Finding.ROOM: "no four words are between the monitor's words and its stack, or the stack does "
+    "not end at x2FFF",
+    Finding.VECTOR: "the vector is not fixed, or leads to where the table does not know the entry",
+    Finding.INTERRUPT: "the vector of the interrupt does not lead to a lone RTI",
+    Finding.WORD: "the table has states for a word that is not fixed",
+    Finding.STACK: "R6 is not known to lie in the stack, or a word below it is said to be known",
+    Finding.INSTRUCTION: "the instruction is not allowed, or leads to what the table does not know",
+}
+
+
+@dataclass(frozen=True)
+class Certified:
+    """What the test of a monitor answers: its finding, and where there is one the address of the
+    word and the number of the state in the table, counted from 0."""
+
+    finding: Finding
+    address: int = 0
+    state: int = 0
+
+    def __bool__(self) -> bool:
+        """Whether the monitor is certified."""
+        return self.finding is Finding.CERTIFIED
+
+
 @dataclass(frozen=True)
 class Started:
     """A fresh machine at a file's origin, and the words loaded, the origin not counted."""
