@@ -454,8 +454,8 @@ def certify(
     """
     stack = whole(lowest, WORD_LIMIT, "lowest")
     with Lending() as lending:
-        parts = lending.read(memory, WORD, "memory") + lending.read(kinds, BYTE, "kinds")
-        lists = lending.read(watched, WORD, "watched") + lending.read(ends, NUMBER, "ends")
-        lists += lending.read(table, NUMBER, "table")
-        answer = LIBRARY.lc3_certify(*parts, stack, *lists)
+        words = lending.read(memory, WORD, "memory") + lending.read(kinds, BYTE, "kinds")
+        places = lending.read(watched, WORD, "watched")
+        rows = lending.read(ends, NUMBER, "ends") + lending.read(table, NUMBER, "table")
+        answer = LIBRARY.lc3_certify(*words, stack, *places, *rows)
     return Certified(Finding(answer.finding), answer.address, answer.state)

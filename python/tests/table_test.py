@@ -6,7 +6,7 @@ It shares nothing with ``fanthrig.certifying``. Values are pairs of a kind's nam
 
 from __future__ import annotations
 
-from typing import NamedTuple, Sequence
+from typing import Iterator, NamedTuple, Sequence
 
 DEVICES = (0xFE00, 0xFE02, 0xFE04, 0xFE06, 0xFE08, 0xFE0A, 0xFFFC, 0xFFFE)
 DDR, MCR = 0xFE06, 0xFFFE
@@ -320,14 +320,17 @@ class Test:
         for vector in (0x0180, 0x0181):
             if not self.leads_back(vector):
                 return INTERRUPT, vector, 0
-        for at, row in enumerate(self.rows):
-            pc = 0x0200 + at
-            word = self.fixed(pc)
-            for place, state in enumerate(row, self.firsts[at]):
-                if word is None:
-                    return WORD, pc, place
-                if not self.sound(state):
-                    return STACK, pc, place
-                if not self.harmless(pc, word, state):
-                    return INSTRUCTION, pc, place
-        return CERTIFIED, 0, 0
+        wrong = (found for at in range(len(self.rows)) for found in self.wrong_in(at))
+        return next(wrong, (CERTIFIED, 0, 0))
+
+    def wrong_in(self, at: int) -> Iterator[tuple[int, int, int]]:
+        """What is wrong in a row, state by state."""
+        pc = 0x0200 + at
+        word = self.fixed(pc)
+        for place, state in enumerate(self.rows[at], self.firsts[at]):
+            if word is None:
+                yield WORD, pc, place
+            elif not self.sound(state):
+                yield STACK, pc, place
+            elif not self.harmless(pc, word, state):
+                yield INSTRUCTION, pc, place

@@ -146,8 +146,12 @@ class Follower:
         if cell is Cell.FIXED and target >= ROUTINES:
             return True
         what = "below x0200" if cell is Cell.FIXED else self._what(target)
-        verb = "goes on at" if source >= ROUTINES else "the vector leads to"
-        self._problem(source, f"{verb} x{target:04X}, which is {what}", problems.A_ROUTINE)
+        if source < ROUTINES:
+            text = f"the vector leads to x{target:04X}, which is {what}"
+            self._problem(source, text, problems.NAMED)
+        else:
+            text = f"goes on at x{target:04X}, which is {what}"
+            self._problem(source, text, problems.A_ROUTINE)
         return False
 
     def _kept(self, state: State, stack: int) -> State:

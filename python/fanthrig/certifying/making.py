@@ -41,12 +41,12 @@ def certificate_of(
 
     >>> certificate_of([("empty.obj", b"\\x02\\x00\\x80\\x00")])
     Traceback (most recent call last):
-    fanthrig.certifying.problems.NotCertified: x0000 and 258 more: the vector is in no file of the \\
-monitor's, or secret
+    fanthrig.certifying.problems.NotCertified: x0000 and 258 more: the vector is in no file of \
+the monitor's, or secret
     """
     claim = claim_of(monitor, others, declared)
     made = made_of(claim)
-    check_secret(made, claim.others, claim.declared)
+    check_secret(made, claim.others)
     answer = made.tested()
     if not answer:
         text = f"the proved test does not accept the table: {answer.finding.text}"
@@ -125,9 +125,7 @@ def _encoded(claim: Claim, follower: Follower, watched: Sequence[int]) -> Certif
     return Certificate(kinds, tuple(words), follower.least, places, tuple(ends), tuple(table))
 
 
-def check_secret(
-    made: Certificate, others: Sequence[Program], declared: Iterable[int] = ()
-) -> None:
+def check_secret(made: Certificate, others: Sequence[Program]) -> None:
     """That no file beside the monitor has a word of its stack, which every routine writes."""
     for program in others:
         reached = common(program.addresses, made.stack)

@@ -44,6 +44,7 @@ BALANCED = "change R6 by ADD with numbers, or load it by LD, so that it is known
 POPPED = "before RTI have R6 where it was on entry: x2FFE for a trap by a program in User mode"
 FIXED_POINTER = "have the pointer in a word that no routine stores to"
 A_ROUTINE = "end the routine by RTI, RET, JMP or BRnzp, and have its words in a file of the monitor"
+NAMED = "have the routine in a file of the monitor's, and name that by --monitor"
 ALL_VECTORS = (
     "have every word x0000 to x0102 in a file of the monitor's, and lead those without a service "
     "to a routine that halts"

@@ -1,4 +1,5 @@
-"""The command ``lc3``: run, list, make, log, debug and mark programs, and open the page.
+"""The command ``lc3``: run, list, make, log, debug and mark programs, certify monitors, and open
+the page.
 
 ``lc3 run FILE.obj...``              runs a program on the terminal, or with the bytes of a pipe
 ``lc3 list FILE.obj...``             lists the words of files with their lines
@@ -6,6 +7,7 @@
 ``lc3 log FILE.obj...``              tells of every step what it did
 ``lc3 debug FILE.obj...``            steps through a program, forwards and back
 ``lc3 mark --cases CASES FILE...``   marks many programs against cases
+``lc3 certify MONITOR.obj FILE...``  tells whether a monitor keeps the words of files secret
 ``lc3 page``                         opens the LC-3 in a browser
 
 ``lc3 COMMAND --help`` says more. Of each command one module has the work; the others are

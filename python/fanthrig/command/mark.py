@@ -16,6 +16,7 @@ from contextlib import closing
 from dataclasses import fields, replace
 from typing import Iterator, Sequence
 
+from ..certifying.problems import NotCertified
 from ..marking.candidates import Found, found_in
 from ..marking.feedback import FeedbackFolder
 from ..marking.forms import FORMS, SINGLE
@@ -31,6 +32,8 @@ from .messages import Code, CommandError, say
 from .options import processors
 from .output import Bar, Output
 from .terminal import Signals, die
+
+HOW_TO_CERTIFY = "lc3 certify tells more; --uncertified marks beside it all the same"
 
 # The bits of a seed that nobody has named.
 SEED_BITS = 32
@@ -79,14 +82,20 @@ def candidates_of(options: argparse.Namespace) -> list[Found]:
 def marking_of(options: argparse.Namespace) -> Marking:
     """What the candidates share. What is wrong with it is wrong with the marking, and not with a
     candidate."""
-    check_edition(options)
+    if not options.monitor_files:
+        check_edition(options)
     given = {field.name: getattr(options, field.name) for field in fields(Options)}
     given["lenient"] = tuple(options.lenient)
+    given["monitor"] = options.monitor and not options.monitor_files
     if options.seed == "random":
         given["seed"] = secrets.randbits(SEED_BITS)
     try:
         chosen = Options(**given)
-        return Marking.of(options.cases, chosen, options.with_files, options.data_files)
+        files = options.with_files, options.data_files, options.monitor_files
+        return Marking.of(options.cases, chosen, *files, options.uncertified)
+    except NotCertified as error:
+        text = f"{options.monitor_files[0]}: refused: it is not certified: {error}"
+        raise CommandError(f"{text}: {HOW_TO_CERTIFY}") from None
     except (PlaceError, ValueError) as error:
         raise CommandError(str(error), Code.WRONG_USE) from None
 

@@ -34,6 +34,10 @@ WITH = (
     "xFE00 on, beside the monitor"
 )
 TRUSTED = "; name a file that you trust by --with, or have every file trusted by --anywhere"
+MONITOR = (
+    "the class's own monitor, in the place of the ready-made one; it is refused unless lc3 certify "
+    "would certify it beside the files of --with, and results have the certificate's SHA-256"
+)
 DATA = "load this file before each candidate, for it to read and write; it lies in x3000 to xFDFF"
 
 RUN = (
@@ -130,6 +134,7 @@ examples:
   lc3 run model.obj < cases/one.keys > cases/one.expected      make a case from a model
   lc3 mark --cases cases students                              a table for a folder of files
   lc3 mark --cases cases --with answers.obj students           the examiner's words beside each
+  lc3 mark --cases cases --monitor monitor.obj --with answers.obj students
   lc3 mark --cases cases --csv students > marks.csv
   lc3 mark --cases cases --feedback hand-back students         a text for each candidate as well
   lc3 mark --cases cases --resume marks.jsonl students         go on from results by --json
@@ -141,9 +146,32 @@ exit codes:
   0  every candidate is right; with --one: the line was written, whatever it says
   1  some candidate is not right
   2  wrong use of the command
-  3  nothing to mark, cases or a file of --with or --data were refused, or the results could not
-     be written
+  3  nothing to mark, cases or a file of --monitor, --with or --data were refused, the monitor is
+     not certified, or the results could not be written
   130, or as a shell tells of the signal: stopped by Ctrl-C or a signal; results so far are written
+"""
+
+
+CERTIFY = (
+    "Tells whether a class's own monitor keeps the examiner's words secret. The first file, and "
+    "those of --monitor, are the monitor's: its words are no secrets, and those that its routines "
+    "store to are its own. The other files, as answers or a marking routine, are secret, and so is "
+    "all other privileged memory; only words that routines go on to are not. A table of what is "
+    "known at each word of the routines is made and checked by the library's proved test. Where "
+    "it holds, it is a theorem that no program in User mode, and nobody who sees its display, "
+    "learns anything of a secret word. Where not, each place is told with what could be written "
+    "instead."
+)
+CERTIFY_EXAMPLES = """\
+examples:
+  lc3 certify monitor.obj marking.obj                 certified, or why not
+  lc3 certify --secret x0227-x0229 monitor.obj        answers in the midst of the monitor
+  lc3 certify --save monitor.cert monitor.obj         keep the certificate
+  lc3 certify --table monitor.cert monitor.obj        check it again, by the proved test alone
+  lc3 mark --monitor monitor.obj --with answers.obj --cases cases students
+
+exit codes: 0 certified, 1 not certified, 2 wrong use of the command, 3 a file was refused, or
+could not be read or written
 """
 
 
@@ -175,6 +203,17 @@ def address(text: str) -> int:
             f"{text!r} is no address: write x0000 to xFFFF, or #0 to #65535"
         )
     return value
+
+
+def words(text: str) -> range:
+    """A range of words of the command line."""
+    # The module is loaded only where it is needed: a short run shall not wait for it.
+    from ..certifying.claims import words_of
+
+    try:
+        return words_of(text)
+    except ValueError as error:
+        raise argparse.ArgumentTypeError(str(error)) from None
 
 
 def count(text: str) -> int:
@@ -384,6 +423,12 @@ def _add_mark(to: argparse.ArgumentParser) -> None:
         help="a case is passed however the machine was halted, and not by HALT alone",
     )
     _add_comparison(to)
+    _add_files(to, "monitor", MONITOR)
+    to.add_argument(
+        "--uncertified",
+        action="store_true",
+        help="mark beside the class's own monitor also where it is not certified",
+    )
     _add_files(to, "with", WITH)
     _add_files(to, "data", DATA)
     _add_machine(to)
@@ -470,6 +515,7 @@ def parser() -> argparse.ArgumentParser:
         ("log", "log", "tell of every step what it did", "", LOG_EXAMPLES + EXIT_CODES),
         ("debug", "debug", "step through a program, forwards and back", DEBUG, DEBUG_EXAMPLES),
         ("mark", "mark", "mark programs against cases", MARK, MARK_EXAMPLES),
+        ("certify", "certify", "certify a class's own monitor", CERTIFY, CERTIFY_EXAMPLES),
         ("page", "page", "open the LC-3 in a browser", PAGE, PAGE_EXAMPLE),
     )
     adding = whole.add_subparsers(metavar="COMMAND", required=True, parser_class=Parser)
@@ -539,6 +585,40 @@ def _add_debug(to: argparse.ArgumentParser) -> None:
     to.add_argument("--screen", action="store_true", help="begin in the screen")
 
 
+class _Declare(argparse.Action):
+    """Adds words to what is declared, in the order of the command line."""
+
+    def __call__(
+        self, to: Any, namespace: argparse.Namespace, values: Any, option: str | None = None
+    ) -> None:
+        """What the option's name says of the words."""
+        namespace.declared = [*namespace.declared, ((option or "").lstrip("-"), values)]
+
+
+def _add_certify(to: argparse.ArgumentParser) -> None:
+    """The options of certify."""
+    files = "the object file of a monitor, or its text; and files beside it whose words are secret"
+    to.add_argument("files", nargs="*", metavar="FILE.obj", help=files)
+    _add_files(to, "monitor", "another file of the monitor's")
+    to.set_defaults(declared=[])
+    for cell, text in (
+        ("fixed", "these words never change, and are no secret"),
+        ("own", "the monitor's routines may write these words, and they are no secret"),
+        ("secret", "these words are secret"),
+    ):
+        to.add_argument(
+            f"--{cell}",
+            type=words,
+            action=_Declare,
+            metavar="WORDS",
+            help=f"{text}, whatever file they are of; as x0227 or x0227-x0229",
+        )
+    to.add_argument("--save", metavar="FILE", help="write the certificate: claim and table")
+    to.add_argument(
+        "--table", metavar="FILE", help="check a certificate that was saved, and make none"
+    )
+
+
 def _add_page(to: argparse.ArgumentParser) -> None:
     """The options of page."""
     to.add_argument("--path", action="store_true", help="write the path of the file, and no more")
@@ -551,5 +631,6 @@ _ADD = {
     "log": _add_log,
     "debug": _add_debug,
     "mark": _add_mark,
+    "certify": _add_certify,
     "page": _add_page,
 }

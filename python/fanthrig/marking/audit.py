@@ -19,18 +19,20 @@ _PLACES = ("cases", "follow_links")
 
 @dataclass(frozen=True)
 class Audit:
-    """The versions of the product and of its interface, and the options with the files that they
-    name."""
+    """The versions of the product and of its interface, the options with the files that they name,
+    and the SHA-256 of the certificate of the class's own monitor, where it has one."""
 
     lc3: str
     interface: int
     options: dict[str, Any]
+    certificate: str | None = None
 
     def fits(self, told: dict[str, Any]) -> bool:
         """Whether a result that tells of these versions and options is one of this marking: the
         names of files do not matter, and what is in them does."""
         versions = told.get("lc3") == self.lc3 and told.get("interface") == self.interface
-        return versions and _bearing(told.get("options")) == _bearing(self.options)
+        same = versions and told.get("certificate") == self.certificate
+        return same and _bearing(told.get("options")) == _bearing(self.options)
 
 
 def _bearing(options: Any) -> Any:
@@ -38,7 +40,7 @@ def _bearing(options: Any) -> Any:
     if not isinstance(options, dict):
         return None
     bearing = {name: value for name, value in options.items() if name not in _PLACES}
-    for name in ("with", "data"):
+    for name in ("monitor_files", "with", "data"):
         files = bearing.get(name)
         bearing[name] = [file.get("sha256") for file in files] if isinstance(files, list) else None
     return json.loads(json.dumps(bearing))
@@ -48,17 +50,20 @@ def audit_of(
     options: Options,
     name: str,
     cases: Sequence[Case],
+    monitor_files: Sequence[tuple[str, bytes]],
     with_files: Sequence[tuple[str, bytes]],
     data_files: Sequence[tuple[str, bytes]],
+    certificate: str | None,
 ) -> Audit:
     """What a marking is made with; files are given by their names and their bytes."""
     told: dict[str, Any] = {
         "cases": name,
         "cases_sha256": cases_sha256(cases),
+        "monitor_files": [_hashed(*file) for file in monitor_files],
         "with": [_hashed(*file) for file in with_files],
         "data": [_hashed(*file) for file in data_files],
     }
-    return Audit(__version__, VERSION, {**told, **asdict(options)})
+    return Audit(__version__, VERSION, {**told, **asdict(options)}, certificate)
 
 
 def sha256(data: bytes) -> str:

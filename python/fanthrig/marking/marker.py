@@ -6,6 +6,8 @@ import time
 from dataclasses import dataclass
 from typing import Sequence
 
+from ..certifying.certificate import Certificate
+from ..certifying.making import certificate_of
 from ..ending import Ending, EndKind
 from ..loading import as_object_file
 from ..programs import LONGEST_FILE, LONGEST_TEXT
@@ -15,6 +17,7 @@ from ..telling import FileError
 from .audit import Audit, audit_of, now, sha256
 from .candidates import candidate_file, shared_files
 from .cases import ANY_HALT, Case, cases_of
+from .certified import check_certificate
 from .comparing import Difference, compared, difference
 from .contents import MOST_TOLD, Mismatch
 from .flags import Flag, flags_of
@@ -99,7 +102,9 @@ class Result:
 @dataclass(frozen=True)
 class Marking:
     """What all candidates of a marking share: the cases, the options, the examiner's files and
-    those of ``data``, given by their names and their bytes. ``name`` is that of the cases.
+    those of ``data``, given by their names and their bytes. ``name`` is that of the cases. The
+    files of ``monitor`` are those of the class's own monitor, in the place of the ready-made one;
+    its ``certificate``, where there is one, is checked by the proved test.
 
     >>> marking = Marking([Case("sum", expected=b"Halted\\n")])
     >>> marking.mark_bytes("sum.obj", bytes.fromhex("3000 F025")).verdict
@@ -111,12 +116,19 @@ class Marking:
     examiner: Sequence[File] = ()
     data: Sequence[File] = ()
     name: str = ""
+    monitor: Sequence[File] = ()
+    certificate: Certificate | None = None
 
     def __post_init__(self) -> None:
         """What is wrong with it is wrong with the marking, and not with a candidate."""
-        sitting_of(self.options, self.examiner, self.data)
+        if self.monitor and self.options.monitor:
+            raise ValueError("a monitor of the class's own takes its place: set monitor=False")
+        sitting = sitting_of(self.options, self.shared, self.data)
         for case in self.cases:
             check_call(self.options, case)
+        if self.certificate is not None:
+            beside = sitting.programs[len(self.monitor) : len(self.shared)]
+            check_certificate(self.certificate, self.options, self.cases, sitting, beside)
 
     @classmethod
     def of(
@@ -125,14 +137,29 @@ class Marking:
         options: Options = Options(),
         examiner: Sequence[str] = (),
         data: Sequence[str] = (),
+        monitor: Sequence[str] = (),
+        uncertified: bool = False,
     ) -> Marking:
-        """A marking by the names of its files; ``cases`` is a folder or a JSON file."""
-        return cls(cases_of(cases), options, shared_files(examiner), shared_files(data), cases)
+        """A marking by the names of its files; ``cases`` is a folder or a JSON file. A monitor that
+        is not certified beside the examiner's files raises ``NotCertified``, unless it is to do
+        ``uncertified``."""
+        files = shared_files(examiner), shared_files(data)
+        own, made = shared_files(monitor), None
+        if own and not uncertified:
+            made = certificate_of(own, files[0])
+        return cls(cases_of(cases), options, *files, cases, own, made)
+
+    @property
+    def shared(self) -> list[File]:
+        """The files of the monitor and of the examiner, which lie in privileged memory."""
+        return [*self.monitor, *self.examiner]
 
     @property
     def audit(self) -> Audit:
         """What stands in every result."""
-        return audit_of(self.options, self.name, self.cases, self.examiner, self.data)
+        files = self.monitor, self.examiner, self.data
+        made = None if self.certificate is None else self.certificate.sha256
+        return audit_of(self.options, self.name, self.cases, *files, made)
 
     @property
     def most(self) -> Points:
@@ -174,7 +201,7 @@ class Marking:
         until = None if options.seconds is None else time.monotonic() + options.seconds
         for case in self.cases:
             begun = time.monotonic()
-            sitting = sitting_of(options, self.examiner, [*self.data, file])
+            sitting = sitting_of(options, self.shared, [*self.data, file])
             set_up(options, case, sitting)
             ending = play(sitting, case, options, until, stopper)
             if stopper.caught:

@@ -49,6 +49,7 @@ COLUMNS = (
     "lc3",
     "interface",
     "options",
+    "certificate",
 )
 
 # The columns that are the same for all cases of a candidate.
