@@ -32,6 +32,10 @@ class Cell(IntEnum):
     OWN = 2
 
 
+# An enum is slow to make of a number, and this is asked for at every step.
+_CELLS = tuple(Cell)
+
+
 class Declared(NamedTuple):
     """Words that are declared to be something."""
 
@@ -79,7 +83,7 @@ class Claim:
 
     def __getitem__(self, address: int) -> Cell:
         """What a word is."""
-        return Cell(self.cells[address]) if address < USER_ORIGIN else Cell.SECRET
+        return _CELLS[self.cells[address]] if address < USER_ORIGIN else Cell.SECRET
 
     def may_be_own(self, address: int) -> bool:
         """Whether a store makes a fixed word the monitor's own."""
@@ -108,7 +112,12 @@ class Claim:
     @property
     def owned(self) -> list[int]:
         """The words that are the monitor's own."""
-        return [address for address, cell in enumerate(self.cells) if cell == Cell.OWN]
+        owned, cells = [], bytes(self.cells)
+        address = cells.find(Cell.OWN)
+        while address >= 0:
+            owned.append(address)
+            address = cells.find(Cell.OWN, address + 1)
+        return owned
 
 
 def _fill(cells: bytearray, words: range, cell: Cell) -> None:

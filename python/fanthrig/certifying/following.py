@@ -9,9 +9,10 @@ say. Where a rule does not let an instruction pass, that is a problem, and the p
 from __future__ import annotations
 
 from dataclasses import replace
+from functools import lru_cache
 from typing import Callable, Sequence
 
-from ..calls import read
+from ..calls import line, read
 from ..constants import ADDRESS_DDR, ADDRESS_MCR, USER_ORIGIN
 from ..records import Instruction, Kind
 from . import problems
@@ -38,6 +39,12 @@ MOST_STATES, MOST_STEPS = 2048, 400_000
 ABOVE, BELOW = range(0x0200, 0x5001), range(0x8200, 0xD001)
 
 
+@lru_cache(1 << 12)
+def instruction(word: int) -> Instruction:
+    """The instruction that a word is; kept, for routines are followed several times."""
+    return read(word).instruction
+
+
 def codes_of(number: int) -> int:
     """The condition code of a number, as a bit of BR's mask.
 
@@ -62,8 +69,10 @@ class Follower:
         """Nothing is followed yet."""
         self._claim, self._lowest, self._most = claim, lowest, most
         self._places = {address: WATCHED_FROM + at for at, address in enumerate(watched)}
+        # The watched words of the stack, highest first: an interrupt changes those below R6.
+        of_stack = sorted((word for word in watched if claim[word] is not Cell.OWN), reverse=True)
+        self._of_stack = [(word, self._places[word]) for word in of_stack]
         self._left: list[tuple[int, State]] = []
-        self._read: dict[int, Instruction] = {}
         self.rows: dict[int, dict[State, None]] = {}
         self.problems: dict[int, Problem] = {}
         self.least, self.joins = TOP, False
@@ -93,7 +102,7 @@ class Follower:
             target = self._claim.memory[vector]
             if self._claim[vector] is not Cell.FIXED:
                 text = f"the vector is {self._what(vector)}"
-                self._problem(vector, text, problems.ALL_VECTORS)
+                self._problem(vector, text, problems.ALL_VECTORS, sure=True)
             elif vector in VECTORS or self._returns(vector, target):
                 self._go(vector, target, entry)
 
@@ -102,7 +111,7 @@ class Follower:
         fixed = self._claim[target] is Cell.FIXED
         if not fixed or self._claim.memory[target] != RTI:
             text = f"the vector of an interrupt leads to x{target:04X}, where no lone RTI is"
-            self._problem(vector, text, problems.LONE_RTI)
+            self._problem(vector, text, problems.LONE_RTI, sure=True)
             return False
         return True
 
@@ -115,13 +124,16 @@ class Follower:
             return "no word of a monitor's"
         return "in no file of the monitor's, or secret"
 
-    def _problem(self, pc: int, text: str, instead: str) -> None:
+    def _problem(self, pc: int, text: str, instead: str, sure: bool = False) -> None:
         """Notes what is wrong at a word: the first thing."""
         if pc not in self.problems:
-            problem = Problem(pc, text, instead)
-            if pc >= ROUTINES:
-                problem = Problem.at(pc, self._claim.memory[pc], text, instead)
-            self.problems[pc] = problem
+            written = line(self._claim.memory[pc]) if pc >= ROUTINES else ""
+            self.problems[pc] = Problem(pc, text, instead, written, sure=sure)
+
+    @property
+    def sure(self) -> set[Problem]:
+        """The problems that more knowledge would hardly solve."""
+        return {problem for problem in self.problems.values() if problem.sure}
 
     # From word to word.
 
@@ -130,7 +142,8 @@ class Follower:
         stack = number_of(state[6])
         if stack is None or not self._lowest <= stack <= TOP:
             where = "an unknown number" if stack is None else f"x{stack:04X}"
-            self._problem(source, f"leaves {where} in R6", problems.BALANCED)
+            text = f"leaves {where} in R6"
+            self._problem(source, text, problems.BALANCED, sure=stack is not None)
             return
         if not self._is_fetched(source, target):
             return
@@ -148,10 +161,10 @@ class Follower:
         what = "below x0200" if cell is Cell.FIXED else self._what(target)
         if source < ROUTINES:
             text = f"the vector leads to x{target:04X}, which is {what}"
-            self._problem(source, text, problems.NAMED)
+            self._problem(source, text, problems.NAMED, sure=True)
         else:
             text = f"goes on at x{target:04X}, which is {what}"
-            self._problem(source, text, problems.A_ROUTINE)
+            self._problem(source, text, problems.A_ROUTINE, sure=True)
         return False
 
     def _kept(self, state: State, stack: int) -> State:
@@ -159,10 +172,8 @@ class Follower:
         that lie below R6."""
         lost = [
             place
-            for address, place in self._places.items()
-            if address < stack
-            and self._claim[address] is not Cell.OWN
-            and not implies(ANY, state[place])
+            for address, place in self._of_stack
+            if address < stack and state[place] != ANY and state[place] != UNSET
         ]
         if not lost:
             return state
@@ -200,9 +211,7 @@ class Follower:
 
     def _step(self, pc: int, state: State) -> None:
         """Takes a state through the instruction at a word."""
-        found = self._read.get(pc)
-        if found is None:
-            found = self._read[pc] = read(self._claim.memory[pc]).instruction
+        found = instruction(self._claim.memory[pc])
         _STEPS[found.kind](self, pc, found, state)
 
     def _branch(self, pc: int, found: Instruction, state: State) -> None:
@@ -309,7 +318,7 @@ class Follower:
         if self._claim[address] is Cell.FIXED:
             return int(self._claim.memory[address])
         text = f"takes its pointer from x{address:04X}, which is {self._what(address)}"
-        self._problem(pc, text, problems.FIXED_POINTER)
+        self._problem(pc, text, problems.FIXED_POINTER, sure=True)
         return None
 
     def _load(self, pc: int, register: int, address: int, state: State) -> None:
@@ -317,7 +326,7 @@ class Follower:
         of_stack = self._lowest <= address < USER_ORIGIN
         secret = self._claim[address] is Cell.SECRET
         if secret and not of_stack and address not in DEVICES:
-            self._problem(pc, *wrong_load(address))
+            self._problem(pc, *wrong_load(address), sure=True)
             return
         if of_stack:
             self.least = min(self.least, address)
@@ -350,7 +359,7 @@ class Follower:
             self.stored.setdefault(address, pc)
             cell = Cell.OWN
         if cell is not Cell.OWN and not of_stack:
-            self._problem(pc, *wrong_store(address, cell is Cell.FIXED))
+            self._problem(pc, *wrong_store(address, cell is Cell.FIXED), sure=True)
             return
         if of_stack:
             self.least = min(self.least, address)
@@ -413,7 +422,7 @@ class Follower:
 
     def _reserved(self, pc: int, found: Instruction, state: State) -> None:
         """An opcode that is no instruction."""
-        self._problem(pc, "is no instruction", problems.A_ROUTINE)
+        self._problem(pc, "is no instruction", problems.A_ROUTINE, sure=True)
 
 
 def _allowed(state: State) -> State:

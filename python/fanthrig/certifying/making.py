@@ -73,20 +73,32 @@ def made_of(claim: Claim) -> Certificate:
 def _followed(claim: Claim) -> tuple[Follower, list[int], int]:
     """A run over the routines without a problem, the words that it has watched, and the states of
     a word before they were joined."""
-    follower = None
+    found: dict[int, Problem] = {}
     for own, stack in ((False, range(0)), (True, range(0)), (True, WATCHED_STACK)):
+        if own and not stack and not claim.owned:
+            continue
+        sure: set[Problem] = set()
         for most in JOINED_FROM:
-            while True:
-                watched = [*claim.owned, *stack] if own else []
-                follower = _run(claim, watched, most)
-                if not claim.take(follower.stored, follower.fetched):
-                    break
+            follower, watched = _settled(claim, own, stack, most)
             if not follower.problems:
                 return follower, watched, most
-            if not follower.joins:
+            # More states help where some were joined, but hardly against what is sure.
+            before, sure = sure, follower.sure
+            alike = bool(sure) and sure == before
+            if alike or not follower.joins or len(sure) == len(follower.problems):
                 break
-    assert follower is not None
-    raise NotCertified(gathered(follower.problems))
+        found = follower.problems
+    raise NotCertified(gathered(found))
+
+
+def _settled(claim: Claim, own: bool, stack: range, most: int) -> tuple[Follower, list[int]]:
+    """A run over the routines that finds no more words that are stored to or fetched, and the words
+    that it has watched: none, or the monitor's own and those of the stack."""
+    while True:
+        watched = [*claim.owned, *stack] if own else []
+        follower = _run(claim, watched, most)
+        if not claim.take(follower.stored, follower.fetched):
+            return follower, watched
 
 
 def _run(claim: Claim, watched: Sequence[int], most: int) -> Follower:

@@ -4,7 +4,6 @@ from __future__ import annotations
 
 from dataclasses import dataclass
 
-from ..calls import line
 from ..constants import ADDRESS_DDR, ADDRESS_DSR, ADDRESS_KBDR, ADDRESS_KBSR, ADDRESS_MCR
 from ..constants import ADDRESS_PSR, ADDRESS_TIR, ADDRESS_TSR
 from ..places import USER_WORDS
@@ -60,7 +59,8 @@ FEWER = (
 @dataclass(frozen=True)
 class Problem:
     """What is wrong at an address, and what could be written instead; ``line`` is the instruction
-    there, and empty where it is about no instruction. The same may be wrong at ``more`` vectors.
+    there, and empty where it is about no instruction. The same may be wrong at ``more`` vectors. It
+    is ``sure`` where every address is known, so that to know more of values would hardly help.
 
     >>> print(Problem(0x0275, "loads the secret word x0227", SECRET_LOAD, "LD R0, #-79"))
     x0275: loads the secret word x0227 (LD R0, #-79)
@@ -71,16 +71,12 @@ class Problem:
     instead: str
     line: str = ""
     more: int = 0
+    sure: bool = False
 
     def __str__(self) -> str:
         """The address, what is wrong, and the line."""
         where = f"x{self.address:04X}" + (f" and {self.more} more" if self.more else "")
         return f"{where}: {self.text}" + (f" ({self.line})" if self.line else "")
-
-    @classmethod
-    def at(cls, address: int, word: int, text: str, instead: str) -> Problem:
-        """A problem of the instruction that a word is."""
-        return cls(address, text, instead, line(word))
 
 
 class NotCertified(Exception):
