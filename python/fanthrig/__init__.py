@@ -12,8 +12,8 @@ libfanthrig.so.
 'AHalted\\n'
 
 ``word`` and ``line`` turn lines of text into words and back; ``fanthrig.programs`` does so with
-whole programs, ``Labels`` are those of a symbol table, and ``fanthrig.marking`` marks programs
-against cases.
+whole programs, ``Labels`` are those of a symbol table, ``fanthrig.marking`` marks programs against
+cases, and ``fanthrig.certifying`` certifies a class's own monitor.
 
 >>> fanthrig.line(0x14E7), hex(fanthrig.word("ADD R2, R3, #7"))
 ('ADD R2, R3, #7', '0x14e7')
@@ -21,8 +21,8 @@ against cases.
 The calls of lc3.h are here one to one, for hosts that lend buffers of their own: ``version``,
 ``start``, ``start_user``, ``run``, ``run_long``, ``step``, ``run_logged``, ``run_second``,
 ``step_second``, ``read``, ``write``, ``line``, ``line_length``, ``page``, ``save``, ``monitor``,
-``monitor_routines``, ``vectors``; with ``logged_steps`` to read a log. A call that is refused
-raises ``Refused`` and alters nothing.
+``monitor_routines``, ``vectors``, ``certify``; with ``logged_steps`` to read a log. A call that is
+refused raises ``Refused`` and alters nothing.
 
 ``__version__`` is the version of the product, and ``VERSION`` that of the interface. The library is
 looked for when it is first needed, as ``fanthrig._library`` says. docs/MACHINE.md has the rules of
@@ -36,6 +36,7 @@ from ._library import LibraryError
 from .backwards import Moment
 from .breakpoints import Breakpoints
 from .calls import (
+    certify,
     line,
     line_length,
     monitor,
@@ -64,10 +65,12 @@ from .constants import (
     MAX_STEPS,
     MEMORY_WORDS,
     MONITOR_WORDS,
+    STATE_NUMBERS,
     USER_ORIGIN,
     USER_STACK,
     VECTOR_WORDS,
     VERSION,
+    WATCHED_WORDS,
     __version__,
 )
 from .ending import EndKind, Ending, SittingReport
@@ -82,7 +85,9 @@ from .places import PlaceError
 from .programs import ProgramError
 from .recording import Program, Recording, RecordingError, ReplayError
 from .records import (
+    Certified,
     Edition,
+    Finding,
     Instruction,
     Kind,
     LoggedRun,
@@ -105,6 +110,7 @@ from .words import LineError, word
 __all__ = [
     "At",
     "Breakpoints",
+    "Certified",
     "Change",
     "Changed",
     "Condition",
@@ -113,6 +119,7 @@ __all__ = [
     "EndKind",
     "Ending",
     "Event",
+    "Finding",
     "FormatError",
     "Found",
     "Holds",
@@ -151,6 +158,7 @@ __all__ = [
     "Report",
     "Routines",
     "Run",
+    "STATE_NUMBERS",
     "Sitting",
     "SittingReport",
     "Started",
@@ -160,8 +168,10 @@ __all__ = [
     "USER_STACK",
     "VECTOR_WORDS",
     "VERSION",
+    "WATCHED_WORDS",
     "Written",
     "__version__",
+    "certify",
     "line",
     "line_length",
     "logged_steps",

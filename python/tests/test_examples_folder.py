@@ -22,7 +22,8 @@ import fanthrig
 from . import ROOT
 
 EXAMPLES = ROOT / "examples"
-NAMES = ["answers", "echo", "examiner", "hello", "sieve", "tasks"]
+NAMES = ["answers", "echo", "examiner", "hello", "leaky", "marking", "monitor", "service"]
+NAMES += ["sieve", "tasks"]
 PRIMES = [n for n in range(2, 100) if all(n % d for d in range(2, n))]
 
 
@@ -124,6 +125,52 @@ class Programs(unittest.TestCase):
         self.assertEqual(other.last_steps(other.clock), sat.last_steps(sat.clock))
 
 
+class Certified(unittest.TestCase):
+    """The class's monitor, its service, and the marking routine that a host starts."""
+
+    def sat(self, name: str = "hello", service: str = "service") -> fanthrig.Sitting:
+        """A sitting beside the class's monitor, with the marking routine in memory."""
+        return sitting(name, "monitor", service, "marking", monitor=False)
+
+    def test_the_monitor_serves_the_examples(self) -> None:
+        for name, keys in (("hello", b""), ("echo", b"To be."), ("sieve", b"")):
+            sat, other = self.sat(name), sitting(name)
+            for each in (sat, other):
+                each.type(keys)
+                self.assertEqual(each.run(100_000).stop, fanthrig.Stop.HALTED)
+            self.assertEqual(sat.display, other.display)
+
+    def test_in_and_strings_that_are_refused(self) -> None:
+        sat = self.sat()
+        # IN, and then PUTS of the answers, which shows nothing.
+        words = [0xF023, fanthrig.word("LD R0, #2"), 0xF022, 0xF025, 0x2027]
+        sat.memory[0x3000:0x3005] = words
+        sat.type("k")
+        self.assertEqual(sat.run(10_000).stop, fanthrig.Stop.HALTED)
+        self.assertEqual(sat.display, "Key> kHalted\n")
+
+    def test_the_service_counts(self) -> None:
+        sat = self.sat()
+        sat.memory[0x3000:0x3004] = [0xF026, 0xF026, 0xF026, 0xF025]
+        sat.run(10_000)
+        self.assertEqual(sat.ending.record.regs[0], 3)
+
+    def test_the_marking_routine_marks(self) -> None:
+        for given, mark in (("BDAC", 4), ("BDAA", 3), ("XXXX", 0)):
+            sat = self.sat()
+            sat.memory[0x4000:0x4004] = [ord(letter) for letter in given]
+            self.assertEqual(sat.run(10_000).stop, fanthrig.Stop.HALTED)
+            sat.start(0x2000, fanthrig.Mode.SUPERVISOR)
+            self.assertEqual(sat.run(10_000).stop, fanthrig.Stop.HALTED)
+            self.assertEqual(sat.display, f"Mark {mark} of 4\nHalted\n")
+
+    def test_the_leaky_service_leaks(self) -> None:
+        sat = self.sat(service="leaky")
+        sat.memory[0x3000:0x3004] = [fanthrig.word("LD R0, #2"), 0xF026, 0xF025, ord("B")]
+        sat.run(10_000)
+        self.assertEqual(sat.ending.record.regs[0], 1)
+
+
 class Listings(unittest.TestCase):
     """The listings are the sources of the object files."""
 
@@ -132,7 +179,7 @@ class Listings(unittest.TestCase):
         self.assertEqual(sorted(path.stem for path in EXAMPLES.glob("*.obj")), NAMES)
         with contextlib.redirect_stdout(io.StringIO()) as said:
             self.assertEqual(MAKE.main(["--check"]), 0)
-        self.assertIn("6 object files agree", said.getvalue())
+        self.assertIn(f"{len(NAMES)} object files agree", said.getvalue())
 
     def test_the_lines_are_those_of_the_library(self) -> None:
         for name in NAMES:
@@ -145,7 +192,7 @@ class Listings(unittest.TestCase):
     def test_each_listing_names_its_command(self) -> None:
         for name in set(NAMES) - {"examiner"}:
             listing = (EXAMPLES / f"{name}.lst").read_text(encoding="ascii")
-            self.assertRegex(listing, rf"; +lc3 run .*examples/{name}\.obj")
+            self.assertRegex(listing, rf"; +lc3 (run|certify) .*examples/{name}\.obj")
 
 
 class Demonstration(unittest.TestCase):

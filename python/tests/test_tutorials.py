@@ -56,6 +56,11 @@ class Pages(Folder):
     def test_examiner(self) -> None:
         self.check("EXAMINER.md")
 
+    def test_certify(self) -> None:
+        for example in (ROOT / "examples").glob("*.obj"):
+            self.file(example.name, example.read_bytes())
+        self.check("CERTIFY.md")
+
 
 if __name__ == "__main__":
     unittest.main()

@@ -41,7 +41,8 @@ def command(options: argparse.Namespace) -> Code:
         return Code.NOT_HALTED
     if options.save is not None:
         write_file(options.save, made.data())
-    print("\n".join([CERTIFIED, *made.summary(), *_of_files(made, monitor, others)]))
+    for line in (CERTIFIED, *made.summary(), *_of_files(made, monitor, others)):
+        print(_wrapped(line))
     return Code.HALTED
 
 
@@ -95,10 +96,14 @@ def _refused(problems: Sequence[Problem]) -> Iterator[str]:
     for number, problem in enumerate(some, 1):
         yield plain(str(problem))
         if number == len(some) or some[number].instead != problem.instead:
-            advice = f"instead: {problem.instead}"
-            yield fill(advice, WIDTH, initial_indent="  ", subsequent_indent="  ")
+            yield _wrapped(f"  instead: {problem.instead}")
     if len(problems) > MOST_TOLD:
         yield f"and {counted(len(problems) - MOST_TOLD, 'more place')}"
+
+
+def _wrapped(text: str) -> str:
+    """A line in lines of some columns; a name that is longer is left whole."""
+    return fill(text, WIDTH, subsequent_indent="  ", break_long_words=False, break_on_hyphens=False)
 
 
 def _of_files(made: Certificate, monitor: Sequence[File], others: Sequence[File]) -> Iterator[str]:

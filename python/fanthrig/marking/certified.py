@@ -15,6 +15,16 @@ from .cases import Case
 from .options import Options
 
 
+def check_whole(made: Certificate, beside: Sequence[Program]) -> None:
+    """That every word of the files beside the monitor is secret."""
+    secret = set(made.words_of(Cell.SECRET))
+    for program in beside:
+        known = [address for address in program.addresses if address not in secret]
+        if known:
+            text = f"{program.subject} has this word, which routines go on to: it is no secret"
+            raise NotCertified([Problem(known[0], text, "name the file by --monitor")])
+
+
 def check_certificate(
     made: Certificate,
     options: Options,
@@ -37,6 +47,7 @@ def check_certificate(
         text = f"the table does not hold: {answer.finding.text}"
         raise NotCertified(wrong or [Problem(answer.address, text, "make it anew")])
     check_secret(made, beside)
+    check_whole(made, beside)
     for case in cases:
         for address, _ in case.before.words:
             if made.kinds[address : address + 1] == bytes([Cell.FIXED]):
