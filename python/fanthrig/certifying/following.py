@@ -30,9 +30,13 @@ TOP, CALLERS_PSR = 0x2FFE, 0x2FFF
 
 RTI = 0x8000
 
-# The states of a word that are never joined to fewer facts, and the steps of one run, before a
-# monitor is taken for one that can't be followed.
-MOST_STATES, MOST_STEPS = 2048, 400_000
+# The states of a word that a new one is compared with: where there are more, as for the characters
+# of many texts, hardly any says all that another says.
+COMPARED = 64
+
+# The states of a word from which on what is known of watched words is given up, and the steps of
+# one run after which a monitor is taken for one that can't be followed.
+MOST_STATES, MOST_STEPS = 16_384, 400_000
 
 # The numbers c by which the sign of R0 + c tells that R0 is an address of User mode's: where the
 # sum is negative, and where it is not.
@@ -92,7 +96,7 @@ class Follower:
                 steps += 1
             if steps > MOST_STEPS:
                 text = f"is not followed to its end in {MOST_STEPS} steps"
-                self._problem(pc, text, problems.FEWER)
+                self._problem(pc, text, problems.SIMPLER)
                 return
 
     def _enter(self) -> None:
@@ -182,10 +186,13 @@ class Follower:
     def _note(self, pc: int, state: State) -> None:
         """Notes a state at a word, unless it is known there already."""
         row = self.rows.setdefault(pc, {})
-        if state in row or any(covers(state, other) for other in row):
+        if state in row:
             return
-        for other in [other for other in row if covers(other, state)]:
-            del row[other]
+        if len(row) <= COMPARED:
+            if any(covers(state, other) for other in row):
+                return
+            for other in [other for other in row if covers(other, state)]:
+                del row[other]
         row[state] = None
         self._left.append((pc, state))
         if len(row) > self._most:

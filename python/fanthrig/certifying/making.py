@@ -28,7 +28,7 @@ from .problems import NotCertified, Problem
 DEEPEST, WATCHED_STACK = 0x2F00, range(0x2FE0, CALLERS_PSR)
 
 # The states of a word before they are joined, from try to try.
-JOINED_FROM = (8, 32, 128, 512)
+JOINED_FROM = (8, 64, 512, 4096)
 
 
 def certificate_of(

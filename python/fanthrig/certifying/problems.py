@@ -36,8 +36,8 @@ KNOWN_BASE = (
 OWN_WORD = "store to a word of the monitor's own (.BLKW), to the stack, to DDR or to MCR"
 SECRET_STORE = "store to the monitor's own words; or say by --own that this is one of them"
 KEPT = (
-    "keep the return address in a word of the monitor's own, or on the stack, before another JSR, "
-    "JSRR or TRAP, and load it back before RET"
+    "keep the return address in a word of the monitor's own, or on the stack, before another JSR or "
+    "JSRR, and load it back before RET; lower R6 before the store, for an interrupt writes below it"
 )
 BALANCED = "change R6 by ADD with numbers, or load it by LD, so that it is known at every word"
 POPPED = "before RTI have R6 where it was on entry: x2FFE for a trap by a program in User mode"
@@ -51,9 +51,10 @@ ALL_VECTORS = (
 LONE_RTI = "lead x0180 and x0181 to a word x8000, RTI: a candidate enables no device"
 LOWER = "give it an origin below"
 FEWER = (
-    "keep fewer addresses in words of the monitor's own at a time: on the stack, different "
-    "routines use the same words"
+    "keep return addresses and pointers on the stack, where different routines use the same words: "
+    "eight words are followed at most"
 )
+SIMPLER = "have it in fewer or shorter loops with known numbers"
 
 
 @dataclass(frozen=True)
