@@ -13,7 +13,7 @@ from fanthrig.certifying import Cell, Certificate
 from fanthrig.certifying.claims import ranges
 
 from . import ROOT
-from .support import fresh
+from .support import fresh, object_file
 
 EXAMPLES = ROOT / "examples"
 
@@ -40,6 +40,24 @@ def ready_made() -> File:
 def of_class() -> list[File]:
     """The class's monitor of examples/, with its service."""
     return [example("monitor"), example("service")]
+
+
+def large(services: int) -> File:
+    """The class's monitor with many services from TRAP x26 on, each with a text that it shows by a
+    subroutine and by PUTS: 47 words a service."""
+    routine: list[int | str] = ["ADD R6, R6, #-2", "STR R7, R6, #1", "STR R0, R6, #0", "JSR #4"]
+    routine += ["LDR R0, R6, #0", "LDR R7, R6, #1", "ADD R6, R6, #2", "RTI"]
+    routine += ["ADD R6, R6, #-1", "STR R7, R6, #0", "LEA R0, #4", "TRAP x22"]
+    routine += ["LDR R7, R6, #0", "ADD R6, R6, #1", "RET"]
+    one = object_file(0, *routine)[2:]
+    name, data = example("monitor")
+    words, first = bytearray(data.ljust(2 + 2 * 0x0300, b"\0")), 0x0300
+    for number in range(services):
+        text = f"Service {number:04} of a large monitor\n\0".encode("utf-16-be")
+        vector = 2 + 2 * (0x26 + number)
+        words[vector : vector + 2] = (first + len(one + text) // 2 * number).to_bytes(2, "big")
+        words += one + text
+    return name, bytes(words)
 
 
 def with_words(file: File, words: dict[int, int | str]) -> File:

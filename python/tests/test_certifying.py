@@ -13,7 +13,7 @@ import fanthrig
 from fanthrig.certifying import Cell, Certificate, CertificateError, Declared, NotCertified
 from fanthrig.certifying import certificate_of, words_of
 
-from .certify_support import EXAMPLES, File, example, of_class, ready_made, with_words
+from .certify_support import EXAMPLES, File, example, large, of_class, ready_made, with_words
 from .command_support import Folder, process, ran
 from .support import Words, object_file
 
@@ -78,9 +78,14 @@ class Accepted(unittest.TestCase):
         self.assertEqual(made.words_of(Cell.FIXED)[-2:], [0x0300, 0x0301])
         self.assertIn(0x0302, made.words_of(Cell.SECRET))
 
-    def test_a_long_text_and_many_words(self) -> None:
+    def test_a_long_text(self) -> None:
         text = [*map(ord, "a text of some length, " * 8), 0]
         self.assertTrue(certificate_of(serving("LEA R0, #2", "TRAP x22", "RTI", *text)).tested())
+
+    def test_a_large_monitor(self) -> None:
+        made = certificate_of([large(27)])
+        self.assertGreater(len(made.kinds), 2000)
+        self.assertNotIn(0, made.watched)
 
 
 class Refused(unittest.TestCase):

@@ -36,8 +36,9 @@ KNOWN_BASE = (
 OWN_WORD = "store to a word of the monitor's own (.BLKW), to the stack, to DDR or to MCR"
 SECRET_STORE = "store to the monitor's own words; or say by --own that this is one of them"
 KEPT = (
-    "keep the return address in a word of the monitor's own, or on the stack, before another JSR or "
-    "JSRR, and load it back before RET; lower R6 before the store, for an interrupt writes below it"
+    "keep the return address in a word of the monitor's own, or on the stack, before another JSR "
+    "or JSRR, and load it back before RET; lower R6 before the store, for an interrupt writes "
+    "below it"
 )
 BALANCED = "change R6 by ADD with numbers, or load it by LD, so that it is known at every word"
 POPPED = "before RTI have R6 where it was on entry: x2FFE for a trap by a program in User mode"
