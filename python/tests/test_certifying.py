@@ -184,6 +184,17 @@ class Refused(unittest.TestCase):
         self.assertNotIn(0x2027, made.words_of(Cell.SECRET))
         self.assertIn(0x2028, made.words_of(Cell.SECRET))
 
+    def test_words_above_the_candidates(self) -> None:
+        high = "high.obj", object_file(0xFE10, "RTI", 7)
+        jumping = serving("LD R1, #1", "JMP R1", 0xFE10)
+        text = "x0301: goes on at xFE10, which is no word of a monitor's (JMP R1)"
+        for more in (0, 1):
+            with self.assertRaises(NotCertified) as caught:
+                certificate_of([*jumping, high][: 2 + more], [high][more:])
+            self.assertEqual(str(caught.exception), text)
+        loading = serving("LDI R1, #1", "RTI", 0xFE11)
+        self.refused([*loading, high], "x0300: loads the secret word xFE11 (LDI R1, #1)")
+
     def test_no_room(self) -> None:
         high = "high.obj", object_file(0x2FF0, *[0] * 12)
         with self.assertRaisesRegex(NotCertified, "x2FFB: leaves no room for the stack"):

@@ -77,8 +77,8 @@ class Claim:
         for words, cell in declared:
             _fill(self.cells, words, cell)
             self.declared.update(words)
-        self._of_monitor = {word for program in monitor for word in program.addresses}
-        self._of_others = {word for program in others for word in program.addresses}
+        self._of_monitor = {word for program in monitor for word in _low(program.addresses)}
+        self._of_others = {word for program in others for word in _low(program.addresses)}
         self.stored_by: dict[int, int] = {}
 
     def __getitem__(self, address: int) -> Cell:
@@ -120,9 +120,14 @@ class Claim:
         return owned
 
 
+def _low(words: range) -> range:
+    """Those of some words that lie below x3000."""
+    return range(words.start, min(words.stop, USER_ORIGIN))
+
+
 def _fill(cells: bytearray, words: range, cell: Cell) -> None:
     """Has words be something, those below x3000."""
-    for address in range(words.start, min(words.stop, USER_ORIGIN)):
+    for address in _low(words):
         cells[address] = cell
 
 
