@@ -41,7 +41,7 @@ def certificate_of(
 
     >>> certificate_of([("empty.obj", b"\\x02\\x00\\x80\\x00")])
     Traceback (most recent call last):
-    fanthrig.certifying.problems.NotCertified: x0000 and 258 more: the vector is in no file of \
+    fanthrig.certifying.problems.NotCertified: x0000 and 260 more: the vector is in no file of \
 the monitor's, or secret
     """
     claim = claim_of(monitor, others, declared)
