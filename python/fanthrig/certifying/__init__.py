@@ -24,7 +24,7 @@ Of each part one module has the work: ``claims`` (which words are fixed, own or 
 
 from .certificate import Certificate, CertificateError
 from .claims import Cell, Declared, words_of
-from .making import certificate_of, check_secret, differences
+from .making import certificate_of, check_secret, check_test, differences
 from .problems import NotCertified, Problem
 
 __all__ = [
@@ -36,6 +36,7 @@ __all__ = [
     "Problem",
     "certificate_of",
     "check_secret",
+    "check_test",
     "differences",
     "words_of",
 ]

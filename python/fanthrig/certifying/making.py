@@ -39,19 +39,28 @@ def certificate_of(
     """A certificate that the proved test has accepted, of a monitor's files beside others, given by
     their names and their bytes; or ``NotCertified`` with the reasons.
 
-    >>> certificate_of([("empty.obj", b"\\x02\\x00\\x80\\x00")])
-    Traceback (most recent call last):
-    fanthrig.certifying.problems.NotCertified: x0000 and 260 more: the vector is in no file of \
-the monitor's, or secret
+    >>> try:
+    ...     certificate_of([("empty.obj", b"\\x02\\x00\\x80\\x00")])
+    ... except NotCertified as error:
+    ...     print(error.problems[0])
+    x0000 and 260 more: the vector is in no file of the monitor's, or secret
     """
     claim = claim_of(monitor, others, declared)
-    made = made_of(claim)
-    check_secret(made, claim.others)
+    try:
+        made = made_of(claim)
+        check_secret(made, claim.others)
+        check_test(made)
+    except NotCertified as error:
+        raise NotCertified(error.problems, monitor[0][0]) from None
+    return made
+
+
+def check_test(made: Certificate) -> None:
+    """That the proved test accepts a certificate."""
     answer = made.tested()
     if not answer:
         text = f"the proved test does not accept the table: {answer.finding.text}"
-        raise NotCertified([Problem(answer.address, text, "tell the makers of this command of it")])
-    return made
+        raise NotCertified([Problem(answer.address, text, problems.ANEW)])
 
 
 def made_of(claim: Claim) -> Certificate:
@@ -152,4 +161,4 @@ def differences(made: Certificate, words: Sequence[int]) -> Iterator[Problem]:
     for address, kind in enumerate(made.kinds[:USER_ORIGIN]):
         if kind == Cell.FIXED and words[address] != made.words[address]:
             text = f"is x{words[address]:04X}, and x{made.words[address]:04X} in the certificate"
-            yield Problem(address, text, "name the monitor that it was made of, or make it anew")
+            yield Problem(address, text, problems.ANEW)

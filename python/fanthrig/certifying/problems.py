@@ -7,6 +7,7 @@ from dataclasses import dataclass
 from ..constants import ADDRESS_DDR, ADDRESS_DSR, ADDRESS_KBDR, ADDRESS_KBSR, ADDRESS_MCR
 from ..constants import ADDRESS_PSR, ADDRESS_TIR, ADDRESS_TSR
 from ..places import USER_WORDS
+from ..telling import FileError
 
 DEVICES = {
     ADDRESS_KBSR: "KBSR",
@@ -18,6 +19,8 @@ DEVICES = {
     ADDRESS_PSR: "PSR",
     ADDRESS_MCR: "MCR",
 }
+
+HOW_ELSE = "lc3 certify tells more, and --uncertified has lc3 mark go on all the same"
 
 # What could be written instead, by what is wrong.
 SECRET_LOAD = (
@@ -50,6 +53,7 @@ ALL_VECTORS = (
     "to a routine that halts"
 )
 LONE_RTI = "lead x0180 and x0181 to a word x8000, RTI: a candidate enables no device"
+ANEW = "name the monitor that the certificate was made of, or make it anew"
 LOWER = "give it an origin below"
 FEWER = (
     "keep return addresses and pointers on the stack, where different routines use the same words: "
@@ -81,13 +85,19 @@ class Problem:
         return f"{where}: {self.text}" + (f" ({self.line})" if self.line else "")
 
 
-class NotCertified(Exception):
-    """A monitor that is not certified, with the reasons, the first of which is its text."""
+class NotCertified(FileError):
+    """A monitor that is not certified: the file that is its ``subject``, and the reasons.
 
-    def __init__(self, problems: list[Problem]) -> None:
+    >>> print(NotCertified([Problem(0x0300, "is no instruction", A_ROUTINE)], "monitor.obj"))
+    monitor.obj: refused: it is not certified: x0300: is no instruction: lc3 certify tells more, \
+and --uncertified has lc3 mark go on all the same
+    """
+
+    def __init__(self, problems: list[Problem], subject: str = "") -> None:
         """At least one reason."""
-        self.problems = problems
-        super().__init__(str(problems[0]))
+        self.problems, self.subject = problems, subject
+        before = f"{subject}: refused: " if subject else ""
+        super().__init__(f"{before}it is not certified: {problems[0]}: {HOW_ELSE}")
 
 
 def named(address: int) -> str:

@@ -8,7 +8,7 @@ from textwrap import fill
 from typing import Iterator, Sequence
 
 from ..certifying import Cell, Certificate, CertificateError, Declared, NotCertified, Problem
-from ..certifying import certificate_of, check_secret, differences
+from ..certifying import certificate_of, check_secret, check_test, differences
 from ..certifying.claims import claim_of, told
 from ..recording import Program
 from ..telling import counted, plain
@@ -81,10 +81,7 @@ def _saved(path: str, monitor: Sequence[File], others: Sequence[File]) -> Certif
         if wrong:
             raise NotCertified(wrong)
         check_secret(made, claim.others)
-    answer = made.tested()
-    if not answer:
-        text = f"the table does not hold: {answer.finding.text}"
-        raise NotCertified([Problem(answer.address, text, "make the certificate anew")])
+    check_test(made)
     return made
 
 

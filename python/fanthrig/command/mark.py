@@ -16,7 +16,6 @@ from contextlib import closing
 from dataclasses import fields, replace
 from typing import Iterator, Sequence
 
-from ..certifying.problems import NotCertified
 from ..marking.candidates import Found, found_in
 from ..marking.feedback import FeedbackFolder
 from ..marking.forms import FORMS, SINGLE
@@ -32,8 +31,6 @@ from .messages import Code, CommandError, say
 from .options import processors
 from .output import Bar, Output
 from .terminal import Signals, die
-
-HOW_TO_CERTIFY = "lc3 certify tells more; --uncertified marks beside it all the same"
 
 # The bits of a seed that nobody has named.
 SEED_BITS = 32
@@ -93,9 +90,6 @@ def marking_of(options: argparse.Namespace) -> Marking:
         chosen = Options(**given)
         files = options.with_files, options.data_files, options.monitor_files
         return Marking.of(options.cases, chosen, *files, options.uncertified)
-    except NotCertified as error:
-        text = f"{options.monitor_files[0]}: refused: it is not certified: {error}"
-        raise CommandError(f"{text}: {HOW_TO_CERTIFY}") from None
     except (PlaceError, ValueError) as error:
         raise CommandError(str(error), Code.WRONG_USE) from None
 

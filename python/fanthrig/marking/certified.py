@@ -6,7 +6,7 @@ from typing import Sequence
 
 from ..certifying.certificate import Certificate
 from ..certifying.claims import Cell
-from ..certifying.making import check_secret, differences
+from ..certifying.making import check_secret, check_test, differences
 from ..certifying.problems import NotCertified, Problem
 from ..recording import Program
 from ..records import Edition
@@ -41,13 +41,15 @@ def check_certificate(
             "a certificate is for programs in User mode by the third edition's rules: leave the "
             "other options out, or mark uncertified"
         )
-    answer = made.tested()
-    wrong = list(differences(made, sitting.memory.words))
-    if not answer or wrong:
-        text = f"the table does not hold: {answer.finding.text}"
-        raise NotCertified(wrong or [Problem(answer.address, text, "make it anew")])
-    check_secret(made, beside)
-    check_whole(made, beside)
+    try:
+        wrong = list(differences(made, sitting.memory.words))
+        if wrong:
+            raise NotCertified(wrong)
+        check_test(made)
+        check_secret(made, beside)
+        check_whole(made, beside)
+    except NotCertified as error:
+        raise NotCertified(error.problems, sitting.programs[0].subject) from None
     for case in cases:
         for address, _ in case.before.words:
             if made.kinds[address : address + 1] == bytes([Cell.FIXED]):

@@ -4,10 +4,8 @@ from __future__ import annotations
 
 import time
 from dataclasses import dataclass
-from typing import Sequence
+from typing import TYPE_CHECKING, Sequence
 
-from ..certifying.certificate import Certificate
-from ..certifying.making import certificate_of
 from ..ending import Ending, EndKind
 from ..loading import as_object_file
 from ..programs import LONGEST_FILE, LONGEST_TEXT
@@ -17,12 +15,14 @@ from ..telling import FileError
 from .audit import Audit, audit_of, now, sha256
 from .candidates import candidate_file, shared_files
 from .cases import ANY_HALT, Case, cases_of
-from .certified import check_certificate
 from .comparing import Difference, compared, difference
 from .contents import MOST_TOLD, Mismatch
 from .flags import Flag, flags_of
 from .options import Options
 from .playing import File, check_call, play, set_up, sitting_of
+
+if TYPE_CHECKING:
+    from ..certifying import Certificate
 
 RIGHT, REFUSED = "right", "refused"
 WRONG, WRONG_CONTENTS, WRONG_END = "wrong display", "wrong contents", "wrong end"
@@ -127,6 +127,9 @@ class Marking:
         for case in self.cases:
             check_call(self.options, case)
         if self.certificate is not None:
+            # What certifies is loaded only where it is needed: most markings have no such monitor.
+            from .certified import check_certificate
+
             beside = sitting.programs[len(self.monitor) : len(self.shared)]
             check_certificate(self.certificate, self.options, self.cases, sitting, beside)
 
@@ -146,6 +149,8 @@ class Marking:
         files = shared_files(examiner), shared_files(data)
         own, made = shared_files(monitor), None
         if own and not uncertified:
+            from ..certifying import certificate_of
+
             made = certificate_of(own, files[0])
         return cls(cases_of(cases), options, *files, cases, own, made)
 
