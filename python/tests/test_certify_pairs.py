@@ -15,9 +15,10 @@ from .certify_support import File, Pair, example, memory_with, of_class, randoml
 from .certify_support import ready_made
 from .hostile import hostile
 
-# Alterations, and the programs beside each that is certified. ``LC3_RUNS`` asks for more of both.
+# Alterations, and the programs beside each that is certified.
 ALTERATIONS, PROGRAMS = 200, 1000
 
+# ``LC3_SEED`` asks for others.
 SEED = int(os.environ.get("LC3_SEED", "39"))
 
 

@@ -78,6 +78,13 @@ class Accepted(unittest.TestCase):
         self.assertEqual(made.words_of(Cell.FIXED)[-2:], [0x0300, 0x0301])
         self.assertIn(0x0302, made.words_of(Cell.SECRET))
 
+    def test_own_words_beside_the_stack(self) -> None:
+        lines = ["LDI R0, #5", "ADD R0, R0, #1", "STI R0, #3", "LEA R0, #3", "TRAP x22", "RTI"]
+        counting = serving(*lines, 0x2FE5, 0)
+        made = certificate_of([*counting, ("count.obj", object_file(0x2FE5, 0))])
+        self.assertEqual(made.words_of(Cell.OWN)[-1], 0x2FE5)
+        self.assertGreaterEqual(made.lowest, 0x2FEA)
+
     def test_a_long_text(self) -> None:
         text = [*map(ord, "a text of some length, " * 8), 0]
         self.assertTrue(certificate_of(serving("LEA R0, #2", "TRAP x22", "RTI", *text)).tested())

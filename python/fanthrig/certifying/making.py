@@ -104,7 +104,8 @@ def _settled(claim: Claim, own: bool, stack: range, most: int) -> tuple[Follower
     """A run over the routines that finds no more words that are stored to or fetched, and the words
     that it has watched: none, or the monitor's own and those of the stack."""
     while True:
-        watched = [*claim.owned, *stack] if own else []
+        free = range(max(stack.start, claim.size), stack.stop)
+        watched = [*claim.owned, *free] if own else []
         follower = _run(claim, watched, most)
         if not claim.take(follower.stored, follower.fetched):
             return follower, watched
