@@ -56,6 +56,9 @@ class TheHeader(unittest.TestCase):
         ours.update({f"REASON_{reason.name}": reason.value for reason in fanthrig.Reason})
         ours.update({kind.name: kind.value for kind in fanthrig.Kind})
         ours.update({stop.name: stop.value for stop in fanthrig.Stop if stop >= 0})
+        findings = list(fanthrig.Finding)
+        ours[findings[0].name] = findings[0].value
+        ours.update({f"WRONG_{finding.name}": finding.value for finding in findings[1:]})
         self.assertEqual(ours, header_constants())
 
     def test_the_layouts(self) -> None:
