@@ -2,8 +2,8 @@
 # Counts the library's processor instructions per step, which no load on the computer disturbs.
 # Exits 1 where a program takes more than the limit. `poll` and `show` wait for a device; `hello` and `echo` do so in
 # the ready-made monitor. `echo` has a limit of its own, since the steps in which a key arrives or is loaded are
-# ordinary ones. `last` stands among the device registers. `timer` is `count` with the timer on, at an interval of 1000
-# steps.
+# ordinary ones. `last` stands among the device registers. `timer` is `count` with the timer on, at an interval of
+# 1000 steps.
 #
 # The run for long sittings is held against the run. `count`, `timer`, `copy`, `sieve` and `last` are loops that fit its
 # window, and it must be faster there by far; elsewhere, and in a call with n = 1, it may be a little slower. Its polls
