@@ -8,6 +8,8 @@ export const MAX_LINE = 17;
 export const LOG_WORDS = 3;
 export const VECTOR_WORDS = 512;
 export const MONITOR_WORDS = 677;
+export const WATCHED_WORDS = 8;
+export const STATE_NUMBERS = 17;
 
 export const PSR_USER = 0x8000;
 export const PSR_PRIORITY = 0x0700;
@@ -25,6 +27,12 @@ export const USER_END = 0xfe00; // the first address behind User mode's
 export const USER_STACK = 0xfdff;
 
 // The negative stops are a sitting's own: no call answers them.
+// What is found wrong first with a claim about a monitor.
+export const Finding = {
+    CERTIFIED: 0, WRONG_WATCHED: 1, WRONG_ROOM: 2, WRONG_VECTOR: 3, WRONG_INTERRUPT: 4, WRONG_WORD: 5, WRONG_STACK: 6,
+    WRONG_INSTRUCTION: 7,
+};
+
 export const Stop = { DONE: 0, HALTED: 1, OUTPUT_FULL: 2, LOG_FULL: 3, BREAKPOINT: -1, INTERRUPTED: -2 };
 
 export const STOP_TEXTS = {

@@ -10,9 +10,10 @@
 // Every step is made by the library. What stands here lends it buffers, hands it keys at their times, keeps what it
 // shows, and looks through its log.
 export {
-    ADDRESSES, KBDR_BYTE, KBSR_READY, Kind, LOG_WORDS, MAX_CLOCK, MAX_LINE, MAX_STEPS, MCR_CLOCK, MEMORY_WORDS,
-    MONITOR_WORDS, PLACES, PSR_PRIORITY, PSR_USER, REASON_TEXTS, REFUSALS, REGISTERS, Reason, Refused, STOP_TEXTS, Stop,
-    TSR_READY, USER_END, USER_ORIGIN, USER_STACK, VECTOR_WORDS, VERSION, hex, privileged, signed,
+    ADDRESSES, Finding, KBDR_BYTE, KBSR_READY, Kind, LOG_WORDS, MAX_CLOCK, MAX_LINE, MAX_STEPS, MCR_CLOCK, MEMORY_WORDS,
+    MONITOR_WORDS, PLACES, PSR_PRIORITY, PSR_USER, REASON_TEXTS, REFUSALS, REGISTERS, Reason, Refused,
+    STATE_NUMBERS, STOP_TEXTS, Stop, TSR_READY, USER_END, USER_ORIGIN, USER_STACK, VECTOR_WORDS, VERSION, WATCHED_WORDS,
+    hex, privileged, signed,
 } from "./constants.mjs";
 export { Library, accepted } from "./library.mjs";
 export { binary, objectFile, portable, sourceOf, textOf } from "./source.mjs";

@@ -40,6 +40,7 @@ export class Library {
 
     bytes(at, count) { return new Uint8Array(this.calls.memory.buffer, at, count); }
     words(at, count) { return new Uint16Array(this.calls.memory.buffer, at, count); }
+    numbers(at, count) { return new Uint32Array(this.calls.memory.buffer, at, count); }
     longs(at, count) { return new BigUint64Array(this.calls.memory.buffer, at, count); }
     view(at, count) { return new DataView(this.calls.memory.buffer, at, count); }
     shorts(record) { return this.words(record, SHORTS); }
@@ -153,9 +154,17 @@ export class Library {
         this.words(this.routines, 9).set([getc, out, puts, input, putsp, halt, trap, exception, interrupt]);
         return { refusal: this.calls.lc3_vectors(this.routines, output, BigInt(outputLength)) };
     }
+
+    // Tests a claim about a monitor. `claim` has lowest, and memory, kinds, watched, ends and table, each with its
+    // length. A finding of 0 says that it holds; no claim is refused.
+    certify(claim) {
+        const words = buffers(claim, ["memory", "kinds"]), rows = buffers(claim, ["watched", "ends", "table"]);
+        this.calls.lc3_certify(this.answer, ...words, claim.lowest, ...rows);
+        return { finding: this.short(0), address: this.short(4), state: this.short(8) };
+    }
 }
 
-// What is lent to a run or a step, in the order of the header.
-function buffers(lent) {
-    return ["memory", "times", "keys", "output"].flatMap((name) => [lent[name], BigInt(lent[`${name}Length`])]);
+// Lent buffers with their lengths: those of a run or a step, in the order of the header, or those named.
+function buffers(lent, names = ["memory", "times", "keys", "output"]) {
+    return names.flatMap((name) => [lent[name], BigInt(lent[`${name}Length`])]);
 }

@@ -9,7 +9,7 @@ const calls = [...header.matchAll(/^[a-z]\w+ \*?lc3_(\w+)\(/gm)].map(([, name]) 
 const camel = (name) => name.replace(/_(\w)/g, (_, letter) => letter.toUpperCase());
 const module = await compiled(), exported = WebAssembly.Module.exports(module).map(({ name }) => name);
 
-assert.equal(calls.length, 18);
+assert.equal(calls.length, 19);
 assert.deepEqual(exported.filter((name) => name.startsWith("lc3_")).sort(), calls.map((name) => `lc3_${name}`).sort());
 assert.deepEqual(WebAssembly.Module.imports(module), []);
 for (const name of calls) assert.equal(typeof fanthrig.Library.prototype[camel(name)], "function", name);
@@ -26,11 +26,13 @@ for (const [, body] of header.matchAll(/^enum \{([^}]*)\}/gm)) {
 }
 const same = (name, value) => assert.equal(value, numbers[name], name);
 for (const name of ["VERSION", "MEMORY_WORDS", "MAX_STEPS", "MAX_LINE", "LOG_WORDS", "VECTOR_WORDS", "MONITOR_WORDS",
-    "PSR_USER", "PSR_PRIORITY", "KBSR_READY", "KBDR_BYTE", "MCR_CLOCK", "TSR_READY"]) same(name, fanthrig[name]);
+    "WATCHED_WORDS", "STATE_NUMBERS", "PSR_USER", "PSR_PRIORITY", "KBSR_READY", "KBDR_BYTE", "MCR_CLOCK",
+    "TSR_READY"]) same(name, fanthrig[name]);
 for (const [name, value] of Object.entries(fanthrig.ADDRESSES)) same(`ADDRESS_${name}`, value);
 for (const [name, value] of Object.entries(fanthrig.Kind)) same(name, value);
 for (const [name, value] of Object.entries(fanthrig.Reason)) same(`REASON_${name}`, value);
 for (const [name, value] of Object.entries(fanthrig.Stop)) if (value >= 0) same(name, value);
+for (const [name, value] of Object.entries(fanthrig.Finding)) same(name, value);
 const refusals = Object.entries(numbers).filter(([name]) => name.startsWith("REFUSED_"));
 assert.deepEqual(Object.keys(fanthrig.REFUSALS), refusals.map(([, value]) => String(value)));
 console.log(`${calls.length} calls and ${Object.keys(numbers).length} numbers of the header: the module has them`);

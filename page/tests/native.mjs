@@ -178,6 +178,21 @@ const TESTS = {
         equal(library.vectors(named, outAt, room).refusal, refusal);
         equal(digest(library.words(outAt, room)), output);
     },
+    certify({ kinds, words, watched, ends, table, lowest, found }) {
+        const claim = { lowest, memoryLength: words.length, kindsLength: kinds.length };
+        Object.assign(claim, { watchedLength: watched.length, endsLength: ends.length, tableLength: table.length });
+        let at = memoryAt;
+        const lent = (name, view, numbers) => {
+            view.call(library, claim[name] = at, numbers.length).set(numbers);
+            at += numbers.length * 4 + 8 & ~7;
+        };
+        lent("memory", library.words, words);
+        lent("kinds", library.bytes, kinds);
+        lent("watched", library.words, watched);
+        lent("ends", library.numbers, ends);
+        lent("table", library.numbers, table);
+        equal(Object.values(library.certify(claim)), found);
+    },
     format({ file, problem, swapped, text }) {
         const data = unhex(file);
         equal([otherFormat(data), isSwapped(data), isText(data)], [problem, swapped, text]);

@@ -11,7 +11,7 @@ import json
 import random
 import sys
 from array import array
-from dataclasses import astuple
+from dataclasses import astuple, replace
 from itertools import product
 from pathlib import Path
 from typing import Any, Callable, TextIO
@@ -19,6 +19,7 @@ from typing import Any, Callable, TextIO
 import fanthrig
 from fanthrig import Edition, LineError, Mode, PlaceError, Record, Refused, Sitting, calls
 from fanthrig._library import LIBRARY, InstructionStruct
+from fanthrig.certifying import Certificate, certificate_of
 from fanthrig.command.messages import end_line
 from fanthrig.formats import is_swapped, is_text, other_format
 
@@ -166,6 +167,32 @@ def put_monitor(out: Out, count: int) -> None:
         out.put("vectors", **asked, refusal=refusal, output=digest(output))
 
 
+def put_claims(out: Out, count: int) -> None:
+    """Claims about the ready-made monitor: one that holds, and others with something else in it."""
+    memory = array("H", bytes(131072))
+    calls.monitor(memory)
+    made = certificate_of([("monitor.obj", calls.save(memory, 0, fanthrig.MONITOR_WORDS))])
+    put_claim(out, made)
+    for _ in range(count):
+        part = RNG.choice(["kinds", "words", "watched", "ends", "table"])
+        numbers = list(getattr(made, part))
+        most = {"kinds": 3, "words": 65536, "watched": 65536}.get(part, 1 << 20)
+        numbers[RNG.randrange(len(numbers))] = RNG.randrange(most)
+        if RNG.random() < 0.2:
+            del numbers[RNG.randrange(len(numbers)) :]
+        other = bytes(numbers) if part == "kinds" else tuple(numbers)
+        put_claim(out, replace(made, **{part: other}, lowest=made.lowest - RNG.randrange(2)))
+
+
+def put_claim(out: Out, made: Certificate) -> None:
+    """A claim, and what the test answers."""
+    answer = made.tested()
+    names = ("kinds", "words", "watched", "ends", "table")
+    parts = {name: list(getattr(made, name)) for name in names}
+    found = [int(answer.finding), answer.address, answer.state]
+    out.put("certify", **parts, lowest=made.lowest, found=found)
+
+
 def put_formats(out: Out) -> None:
     """Files that may be of another format."""
     files = [path.read_bytes() for path in sorted(EXAMPLES.iterdir()) if path.is_file()]
@@ -310,6 +337,7 @@ def write(path: str, sittings: int) -> None:
         put_starts(out, memory, 500)
         put_pages(out, memory, 500)
         put_monitor(out, 200)
+        put_claims(out, 200)
         put_formats(out)
         put_places(out, 500)
         for number in range(sittings):
