@@ -321,6 +321,16 @@ def interrupted(shown: OnTerminal, count: int) -> None:
     return prompted(shown, count)
 
 
+def answered(shown: OnTerminal, line: bytes, answer: bytes) -> None:
+    """Types a line until it is answered: a Ctrl-C that is noticed late throws it away."""
+    for _ in range(40):
+        shown.press(line)
+        with contextlib.suppress(AssertionError):
+            shown.see(answer, 0.5)
+            return
+    shown.see(answer)
+
+
 def ended_by(process: subprocess.Popen[bytes], number: int) -> int:
     """The exit status of a process that is sent a signal until it ends, for the same reason."""
     for _ in range(40):
@@ -368,8 +378,7 @@ class OnPrompt(Folder):
             prompted(shown, 2)
             shown.press(b"abc")
             interrupted(shown, 3)
-            shown.press(b"bogus\n")
-            shown.see(b"is no command")
+            answered(shown, b"bogus\n", b"is no command")
             shown.press(b"\x04")
             self.assertEqual(shown.process.wait(20), 0)
             self.assertEqual(shown.attributes(), shown.before)
@@ -382,13 +391,7 @@ class OnPrompt(Folder):
                 shown.press(b"\x03")
                 time.sleep(0.0005 * (number % 5))
             self.assertIsNone(shown.process.poll(), shown.seen)
-            # One that has come at last may throw away what is typed meanwhile.
-            for _ in range(40):
-                shown.press(b"where\n")
-                with contextlib.suppress(AssertionError):
-                    shown.see(b"where\r\nstep 0: ", 0.5)
-                    break
-            shown.see(b"where\r\nstep 0: ")
+            answered(shown, b"where\n", b"where\r\nstep 0: ")
             shown.press(b"quit\n")
             self.assertEqual(shown.process.wait(20), 0)
             self.assertNotIn(b"Traceback", shown.seen)
