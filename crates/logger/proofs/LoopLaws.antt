@@ -22,7 +22,8 @@ use Rattle.run.specs.declared.Ending.{Ending}
 use Rattle.run.specs.declared.Ending.the-variants.{Done, Halted, OutputFull, Refused}
 use Rattle.run.specs.Run.{Start, End, begin, stepMadeBy, stepMade, isHalted}
 use Rattle.run.specs.Call.{startOf}
-use Rattle.runner.specs.Stepping.{isFullDisplay, shownCount, Moved, movedTo, movesOf, standing}
+use Rattle.stretches.specs.Standing.{standing}
+use Rattle.runner.specs.Stepping.{isFullDisplay, shownCount, Moved, movedTo, movesOf}
 use Rattle.runner.proofs.LoopLaws.{Turned, was-full, was-made, each-turn-of-loop, full-has-no-byte, rule-of-turn}
 use Rattle.runner.proofs.LoopLaws.{word-of-turn}
 use Rattle.logging.specs.Log.{nextRule, entryOf, lacksRoom}

@@ -1,4 +1,2 @@
--- The laws of the loop over the steps, of its quiet stretches, and of those that show bytes.
+-- The laws of the loop over the steps.
 pub mod LoopLaws
-pub mod QuietLaws
-pub mod ShowLaws

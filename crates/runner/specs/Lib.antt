@@ -1,3 +1,2 @@
 -- What the functions of the loop answer and leave.
 pub mod Stepping
-pub mod Stretches
