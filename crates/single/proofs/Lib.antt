@@ -1,0 +1,2 @@
+-- The laws of a step that is made by itself.
+pub mod SingleLaws
