@@ -15,8 +15,8 @@
 # make mutants    alters the definitions one point at a time: would a wrong rule be noticed? (no part of make test)
 # make release-test   a release, made twice, and installed without the kit: wheel, packages in a fresh Debian, archive
 
-EXPORTS = lc3_machine lc3_logging lc3_long lc3_second lc3_words lc3_lines lc3_objects lc3_monitor lc3_certify \
-    lc3_version
+EXPORTS = lc3_machine lc3_step lc3_step_second lc3_logging lc3_long lc3_second lc3_words lc3_lines lc3_objects \
+    lc3_monitor lc3_certify lc3_version
 ARCHIVES = $(EXPORTS:%=target/staticlib/lib%.a)
 # The crates that they rest on.
 BELOW := $(sort $(foreach name,$(EXPORTS),$(shell sed -n 's/^$(name)://p' crates.txt)))
@@ -100,10 +100,12 @@ host: host-c host-counts host-rust host-python
 
 host-c: lib
 	host/c/run.sh
-	host/bench/symbols.sh lc3_run '*::run' '*::go' '*::run_accepted' '*::quiet_steps'
+	host/bench/symbols.sh lc3_run '*::go' '*::run_accepted' '*::quiet_steps'
 	host/bench/symbols.sh lc3_run_logged '*::run_logged' '*::go' '*::run_accepted'
 	host/bench/symbols.sh lc3_run_long '*::run' '*::go' '*::run_accepted' '*::visit' '*::read_in'
-	host/bench/symbols.sh lc3_run_second '*::call' '*::run_by' '*::go' '*::run_accepted'
+	host/bench/symbols.sh lc3_run_second '*::go' '*::run_accepted'
+	host/bench/symbols.sh lc3_step
+	host/bench/symbols.sh lc3_step_second
 
 host-counts: lib
 	host/bench/count.sh

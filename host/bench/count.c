@@ -1,6 +1,7 @@
 /*
  * count ENGINE PROGRAM STEPS CALLS: so many calls of that many steps each, one going on from the
- * other, for an exact count of instructions. A program that takes keys is called once.
+ * other, for an exact count of instructions. A program that takes keys is called once. A single
+ * step takes no number of steps, and no keys.
  */
 #include "interpreters.h"
 #include "programs.h"
@@ -28,8 +29,17 @@ static const struct {
 } engines[] = {{"library", lc3_run},
                {"long", lc3_run_long},
                {"logged", logged_run},
+               {"second", lc3_run_second},
                {"plain", plain_run},
                {"tuned", tuned_run}};
+
+typedef lc3_report step_function(lc3_record *, uint16_t *, size_t, const uint64_t *, size_t,
+                                 const uint8_t *, size_t, uint8_t *, size_t);
+
+static const struct {
+    const char *name;
+    step_function *step;
+} single_steps[] = {{"step", lc3_step}, {"step_second", lc3_step_second}};
 
 /* Whether every call made all its steps. */
 static bool makes_all(run_function *run, const program *p, uint64_t steps, unsigned long calls) {
@@ -42,18 +52,35 @@ static bool makes_all(run_function *run, const program *p, uint64_t steps, unsig
     return a.steps == steps;
 }
 
+/* Whether every single step was made, on one record that is lent. */
+static bool makes_each(step_function *step, const program *p, unsigned long calls) {
+    lc3_record record = start_program(memory, p);
+    lc3_report r = {.steps = 1};
+    while (calls-- && r.steps == 1) {
+        r = step(&record, memory, LC3_MEMORY_WORDS, times, 0, bytes, 0, output, sizeof output);
+    }
+    return r.steps == 1;
+}
+
 int main(int argc, char **argv) {
     run_function *run = NULL;
+    step_function *step = NULL;
     const program *p = NULL;
     for (size_t e = 0; argc == 5 && e < sizeof engines / sizeof *engines; e++) {
         if (!strcmp(argv[1], engines[e].name)) run = engines[e].run;
     }
+    for (size_t e = 0; argc == 5 && e < sizeof single_steps / sizeof *single_steps; e++) {
+        if (!strcmp(argv[1], single_steps[e].name)) step = single_steps[e].step;
+    }
     for (size_t i = 0; argc == 5 && i < PROGRAMS; i++) {
         if (!strcmp(argv[2], programs[i].name)) p = &programs[i];
     }
-    if (!run || !p) {
-        fprintf(stderr, "usage: count library|long|logged|plain|tuned PROGRAM STEPS CALLS\n");
+    if ((!run && !step) || !p) {
+        fprintf(stderr, "usage: count ENGINE PROGRAM STEPS CALLS, the engine being one of library,\n"
+                        "long, logged, second, plain, tuned, step, step_second\n");
         return 2;
     }
-    return !makes_all(run, p, strtoull(argv[3], NULL, 10), strtoul(argv[4], NULL, 10));
+    const unsigned long calls = strtoul(argv[4], NULL, 10);
+    if (step) return !makes_each(step, p, calls);
+    return !makes_all(run, p, strtoull(argv[3], NULL, 10), calls);
 }

@@ -5,6 +5,10 @@
 # ordinary ones. `last` stands among the device registers. `timer` is `count` with the timer on, at an interval of
 # 1000 steps.
 #
+# A call with n = 1 has a limit by lc3_run, which is what it took when that was set, and a lower one by lc3_step and
+# lc3_step_second: they make a single step with no loop, on a record that is lent. What the caller does for the call is
+# counted in both.
+#
 # The run for long sittings is held against the run. `count`, `timer`, `copy`, `sieve` and `last` are loops that fit its
 # window, and it must be faster there by far; elsewhere, and in a call with n = 1, it may be a little slower. Its polls
 # and shows are ordinary steps: for `poll`, `show`, `hello` and `echo` it has a limit, and no ratio.
@@ -21,6 +25,8 @@
 #   LOOP_RATIO    of the long run's to the run's, in hundredths   65
 #   OTHER_RATIO   for programs that are no loops in the window    125
 #   CALL_RATIO    for calls with n = 1                            130
+#   CALL_LIMIT    instructions of a call with n = 1               325
+#   STEP_LIMIT    instructions of a single step by itself         250
 set -eu
 cd "$(dirname "$0")/../.."
 
@@ -31,6 +37,8 @@ log_limit=${LOG_LIMIT:-110}
 loop_ratio=${LOOP_RATIO:-65}
 other_ratio=${OTHER_RATIO:-125}
 call_ratio=${CALL_RATIO:-130}
+call_limit=${CALL_LIMIT:-325}
+step_limit=${STEP_LIMIT:-250}
 steps=20000
 calls=1000
 lib=${FANTHRIG_LIB_DIR:-build}/libfanthrig.a
@@ -97,12 +105,25 @@ count_program() {
 
 count_calls() {
     library=$(per_call library)
+    second=$(per_call second)
     long=$(per_call long)
     longer=$(ratio "$long" "$library")
     verdict=
+    within $((call_limit * 100)) "$library" library
+    within $((call_limit * 100)) "$second" second
     within "$call_ratio" "$longer" long
-    printf 'instructions of a call with n = 1: library %s   long %s, ratio %s%s\n' \
-        "$(decimal "$library")" "$(decimal "$long")" "$(decimal "$longer")" "$verdict"
+    printf 'instructions of a call with n = 1, limit %s: library %s   second %s   long %s, ratio %s%s\n' "$call_limit" \
+        "$(decimal "$library")" "$(decimal "$second")" "$(decimal "$long")" "$(decimal "$longer")" "$verdict"
+}
+
+count_steps() {
+    step=$(per_call step)
+    step_second=$(per_call step_second)
+    verdict=
+    within $((step_limit * 100)) "$step" lc3_step
+    within $((step_limit * 100)) "$step_second" lc3_step_second
+    printf 'instructions of a single step, limit %s: lc3_step %s   lc3_step_second %s%s\n' "$step_limit" \
+        "$(decimal "$step")" "$(decimal "$step_second")" "$verdict"
 }
 
 status=0
@@ -115,4 +136,5 @@ for program in self calls outs wander; do count_program $program "$limit" "$othe
 for program in poll show hello; do count_program $program "$limit"; done
 count_program echo "$echo_limit"
 count_calls
+count_steps
 exit $status

@@ -4,7 +4,7 @@
 #
 # A run, logged or not, is fast because one step, and the reading of its word, are inlined into its
 # one loop. A second call of either anywhere in that object undoes this without any other sign than
-# a local function more.
+# a local function more. Beside a single step, for which no name is given, there must be none.
 #
 #   FANTHRIG_LIB_DIR   where libfanthrig.a is   build
 set -eu

@@ -717,11 +717,27 @@ static lc3_answer run_and_restore(const arguments *c) {
     return a;
 }
 
+/* Spoils one thing in random arguments, so that most of them are refused. */
+static void spoil(arguments *c) {
+    switch (any() % 8) {
+    case 0: c->memory_len = any() % 2 ? WORDS - 1 : 0; break;
+    case 1: c->record.psr ^= 1 << any() % 16; break;
+    case 2: c->record.kbsr ^= 1 << any() % 16; break;
+    case 3: c->record.busy = any(); break;
+    case 4: c->record.timer_count = any() % 8; break;
+    case 5: c->record.clock = LC3_MAX_CLOCK - 1 + any() % 3; break;
+    case 6: c->times_len = any() % 3; break;
+    case 7: c->times[any() % 3] = any() % 1000; break;
+    }
+}
+
+/* All fields of the answer, the record, memory and output; every other call is spoilt. */
 static void test_step_is_run(void) {
     part = "lc3_step against lc3_run with n = 1";
-    for (int i = 0; i < 1000; i++) {
+    for (int i = 0; i < 4000; i++) {
         if (i % 100 == 0) fill_memory();
         arguments c = any_arguments();
+        if (i % 2) spoil(&c);
         c.n = 1;
         lc3_answer by_run = run_and_restore(&c), by_step = step(&c);
         check_answer(&by_step, &by_run);

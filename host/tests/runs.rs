@@ -3,7 +3,7 @@
 mod reference;
 mod support;
 
-use fanthrig::ffi::{Answer, Report};
+use fanthrig::ffi::Answer;
 use fanthrig::{Error, Keys, Record};
 use reference::machine::{self, Cause, Entry, Event, CAUSES};
 use support::cases::{self, accepted, Case, Family};
@@ -61,23 +61,6 @@ fn single_steps_equal_a_run() {
         assert_eq!(Answer { record, steps, keys, shown, index: 0, refusal: 0, stop }, expected);
         stepped.check(case);
         assert_same_buffers(&stepped, &whole);
-    });
-}
-
-#[test]
-fn a_single_step_equals_a_run_of_one_refusals_included() {
-    let (mut run, mut stepped) = (Buffers::new(), Buffers::new());
-    for_cases(40_000, |_, case, template| {
-        run.set(case, template);
-        let Answer { record: expected, steps, keys, shown, index, refusal, stop } =
-            run.run(case.record, 0, 0, 1);
-        stepped.set(case, template);
-        let mut record = case.record;
-        let report = stepped.step(&mut record, 0, 0);
-        assert_eq!(report, Report { steps, keys, shown, index, refusal, stop });
-        assert_eq!(record, expected);
-        stepped.check(case);
-        assert_same_buffers(&stepped, &run);
     });
 }
 

@@ -20,16 +20,5 @@ pub extern "C" fn lc3_run_long(
         ≡ answerOf (callOf (startOf m (now (memory .entry)) (now (times .entry)) (now (bytes .entry))
         (now (output .entry))) n) ⌝ }
 {
-    let a = long::run(m, memory, times, bytes, output, n);
-    let machine = a.machine;
-    let r = lc3_machine::report_of(a.report);
-    Lc3Answer {
-        machine,
-        steps: r.steps,
-        keys: r.keys,
-        shown: r.shown,
-        index: r.index,
-        refusal: r.refusal,
-        stop: r.stop,
-    }
+    lc3_machine::answer_of(long::run(m, memory, times, bytes, output, n))
 }

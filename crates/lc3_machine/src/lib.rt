@@ -1,14 +1,20 @@
-// The machine for hosts in C and Rust: document 01's run and single step. They are those of `runner`, but for
-// refusals and stops, which are answered by their numbers, since an enum can't cross to C. Nothing is required of a
-// caller.
+// The machine for hosts in C and Rust: document 01's run, and what every call answers to C. Refusals and stops are
+// answered by their numbers, since an enum can't cross to C. Nothing is required of a caller.
 use machine::Machine;
+use run::Admission;
+use run::Answer;
 use run::Ending;
 use run::Refusal;
 use run::Report;
+use runner::stepping::run_accepted;
 ghost use mathlib.Core.Path.{_≡_};
-ghost use Rattle.run.specs.Call.{startOf, callOf};
+ghost use mathlib.Core.List.{List};
+ghost use Prim.Native.Nat.{ℕ};
+ghost use Rattle.run.specs.declared.Ending.the-variants.{Refused};
+ghost use Rattle.run.specs.Run.{begin, endedBy};
+ghost use Rattle.run.specs.Call.{startOf, endOf, callOf};
 ghost use Rattle.run.specs.Refusals.{refusalNumber, refusalIndex, endingRefusal, endingIndex, endingStop};
-ghost use Rattle.lc3_machine.specs.Answer.{answerOf, reportOf, reported, answered};
+ghost use Rattle.lc3_machine.specs.Answer.{answerOf, reportOf, answered};
 
 // What a run answers, 88 bytes: `refusal` is 0, or 11 to 15 or 19; `index` is the entry that offends under 15 and 19,
 // and else 0; `stop` is done 0, halted 1, output full 2, and 0 where refused.
@@ -113,6 +119,41 @@ pub fn report_of(report: Report) -> Lc3Report
     }
 }
 
+// What a run answers, in numbers alone.
+pub fn answer_of(a: Answer) -> Lc3Answer
+    ensures { λ r. ⌜ ((memory output : List ℕ) → answered r memory output ≡ answerOf (endOf a memory output)) ⌝ }
+{
+    let machine = a.machine;
+    let r = report_of(a.report);
+    Lc3Answer {
+        machine,
+        steps: r.steps,
+        keys: r.keys,
+        shown: r.shown,
+        index: r.index,
+        refusal: r.refusal,
+        stop: r.stop,
+    }
+}
+
+// What a call answers that is turned down: the record as handed in, and zero counts. It is made by itself, so that the
+// compiler need not bring it together with the answer of a run.
+pub fn refused(m: Machine, refusal: Refusal) -> Lc3Answer
+    ensures { λ r. ⌜ ((memory times bytes output : List ℕ) → answered r memory output
+        ≡ answerOf (endedBy (Refused refusal) (begin (startOf m memory times bytes output)))) ⌝ }
+{
+    let index = refusal_index(refusal);
+    Lc3Answer {
+        machine: m,
+        steps: 0,
+        keys: 0,
+        shown: 0,
+        index: index as u64,
+        refusal: refusal_number(refusal),
+        stop: 0,
+    }
+}
+
 // The run of n steps. A call that is turned down answers its number and leaves everything as it was handed in.
 #[no_mangle]
 pub extern "C" fn lc3_run(
@@ -127,59 +168,9 @@ pub extern "C" fn lc3_run(
         ≡ answerOf (callOf (startOf m (now (memory .entry)) (now (times .entry)) (now (bytes .entry))
         (now (output .entry))) n) ⌝ }
 {
-    let a = runner::run(m, memory, times, bytes, output, n);
-    let machine = a.machine;
-    let r = report_of(a.report);
-    Lc3Answer {
-        machine,
-        steps: r.steps,
-        keys: r.keys,
-        shown: r.shown,
-        index: r.index,
-        refusal: r.refusal,
-        stop: r.stop,
+    let admission = refusals::admission(m, memory, times, bytes, n);
+    match admission {
+        Admission::Accepted => answer_of(run_accepted(false, m, memory, times, bytes, output, n)),
+        Admission::Rejected(refusal) => refused(m, refusal),
     }
-}
-
-// What a call answers: the record, and the report in numbers.
-pub struct Called {
-    pub machine: Machine,
-    pub report: Lc3Report,
-}
-
-// The single step by value. It goes through `run` as `lc3_run` does, so that the archive has one loop, with the one
-// call of the step in it.
-fn one_step(
-    m: Machine,
-    memory: &mut [u16],
-    times: &[u64],
-    bytes: &[u8],
-    output: &mut [u8],
-) -> Called
-    ensures { λ r. ⌜ reported (r .machine) (r .report) (now (memory .exit)) (now (output .exit))
-        ≡ answerOf (callOf (startOf m (now (memory .entry)) (now (times .entry)) (now (bytes .entry))
-        (now (output .entry))) 1) ⌝ }
-{
-    let a = runner::one_step(m, memory, times, bytes, output);
-    let machine = a.machine;
-    let report = report_of(a.report);
-    Called { machine, report }
-}
-
-// The single step on a record that the host keeps: the record that it answers takes the place of the one handed in.
-#[no_mangle]
-pub extern "C" fn lc3_step(
-    m: &mut Machine,
-    memory: &mut [u16],
-    times: &[u64],
-    bytes: &[u8],
-    output: &mut [u8],
-) -> Lc3Report
-    ensures { λ r. ⌜ reported (now (m .exit)) r (now (memory .exit)) (now (output .exit))
-        ≡ answerOf (callOf (startOf (now (m .entry)) (now (memory .entry)) (now (times .entry)) (now (bytes .entry))
-        (now (output .entry))) 1) ⌝ }
-{
-    let a = one_step(*m, memory, times, bytes, output);
-    *m = a.machine;
-    a.report
 }

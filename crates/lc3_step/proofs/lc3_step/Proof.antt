@@ -4,14 +4,14 @@ use denote.Triple.Spec.{tripleOf}
 use denote.Triple.Table.{entered, cited}
 use Rattle.run.specs.Call.{callOf}
 use Rattle.run.specs.Run.{Start}
 use Rattle.lc3_machine.specs.Answer.{Answered, answerOf}
-use Rattle.lc3_machine.proofs.LentRecord.{Step, meets}
-use Rattle.lc3_machine.proofs.one_step.Symbol.{name as #one-step, routine as one-step-routine}
-use Rattle.lc3_machine.proofs.one_step.Met as one-step
-use Rattle.lc3_machine.proofs.lc3_step as f
-use Rattle.lc3_machine.proofs.lc3_step.Key.{name as #lc3-step}
-use Rattle.lc3_machine.proofs.lc3_step.Statement as stated
-use Rattle.lc3_machine.proofs.lc3_step.Code as code
+use Rattle.lc3_step.proofs.LentRecord.{Step, meets}
+use Rattle.lc3_step.proofs.one_step.Symbol.{name as #one-step, routine as one-step-routine}
+use Rattle.lc3_step.proofs.one_step.Met as one-step
+use Rattle.lc3_step.proofs.lc3_step as f
+use Rattle.lc3_step.proofs.lc3_step.Key.{name as #lc3-step}
+use Rattle.lc3_step.proofs.lc3_step.Statement as stated
+use Rattle.lc3_step.proofs.lc3_step.Code as code
 
 abbrev answer : Start → Answered
 answer s = answerOf (callOf s 1)
@@ -22,5 +22,5 @@ lc3-step-spec 𝓤 H 𝓜 𝓖 𝓡 =
     entered 𝓤 H (tripleOf 𝓤 H (𝓖 .A) f.signature (f.spec 𝓤 H (𝓖 .A) (𝓜 .mem) (𝓡 .run)))
     (tables 𝓤 H 𝓜 𝓡 code.env .C) (tables 𝓤 H 𝓜 𝓡 code.env .Λ) #lc3-step code.function (code.unfolded 𝓤 H 𝓜 𝓡)
     (meets 𝓤 H (𝓖 .A) (givenOf 𝓤 H 𝓜 𝓖) answer #one-step (tablesOf 𝓤 H 𝓜 (tables 𝓤 H 𝓜 𝓡 code.env))
-    (cited 𝓤 H (Step 𝓤 H (𝓖 .A) answer) 𝓜 𝓡 code.env #one-step one-step-routine code.calls-lc3-machine·one-step
+    (cited 𝓤 H (Step 𝓤 H (𝓖 .A) answer) 𝓜 𝓡 code.env #one-step one-step-routine code.calls-lc3-step·one-step
     (one-step.met 𝓤 H 𝓜 𝓖 𝓡)))

@@ -48,14 +48,14 @@ use Rattle.machine.proofs.Machine as T
 use Rattle.machine.proofs.Machine.Laws as T′
 use Rattle.run.specs.Run.{Start}
 use Rattle.run.specs.Call.{startOf}
 use Rattle.lc3_machine.specs.Answer.{Answered, reported}
-use Rattle.lc3_machine.specs.declared.Called.{Called}
+use Rattle.lc3_step.specs.declared.Called.{Called}
 use Rattle.lc3_machine.proofs.Lc3Report as P
 use Rattle.lc3_machine.proofs.Lc3Report.Laws as P′
-use Rattle.lc3_machine.proofs.Called as N
-use Rattle.lc3_machine.proofs.Called.Laws as N′
-use Rattle.lc3_machine.proofs.one_step as step
-use Rattle.lc3_machine.proofs.lc3_step as f
+use Rattle.lc3_step.proofs.Called as N
+use Rattle.lc3_step.proofs.Called.Laws as N′
+use Rattle.lc3_step.proofs.one_step as step
+use Rattle.lc3_step.proofs.lc3_step as f
 
 -- The code of `lc3_step`, for any by-value step that it calls: its locals, _0 to _11, and its statements.
 abbrev local-of : Ty → Local

@@ -1,0 +1,45 @@
+-- `lc3_run_second` meets its contract: the tests answer as the definition does, and the rest is a callee's, in numbers;
+-- an accepted call has what the run requires.
+use mathlib.Core.Path.{sym, ap, _∙_}
+use Rattle.run.specs.Call.{admittedBy, callBy, startOf}
+use Rattle.run.proofs.Acceptance.{accepted-is-acceptable}
+use Rattle.lc3_machine.specs.Answer.{answerOf}
+use borrow.Author.Needs.{needs}
+use Rattle.lc3_second.proofs.lc3_run_second.Statement.{statement}
+use Rattle.lc3_second.proofs.lc3_run_second.Tie as tie
+
+run-accepted-requires : tie.Need-run-accepted-requires
+run-accepted-requires c κs =
+    let a = c .before .before .before .before .before .before .before .before .before .before .args in
+    let k = accepted-is-acceptable (startOf (a .m) (a .memory .now) (a .times .now) (a .bytes .now) (a .output .now))
+    (a .n) (sym (c .before .before .before .before .admission .ensures (a .output .now))
+    ∙ c .before .before .enum-told .given .1) in
+    (k .size, (k .equal, k .clock))
+
+returns : tie.Need-returns
+unfolding callBy admittedBy
+returns c =
+    let went = c .before .before .before .before .before .run-accepted in
+    let told = c .before .before .before .before .before .before .before .before .enum-told in
+    let admission = c .before .before .before .before .before .before .before .before .before .before .admission in
+    let a = c .before .before .before .before .before .before .before .before .before .before .before .before .before
+    .before .before .before .args in
+    rw (← admission .ensures (a .output .now), told .given .1)
+    (c .answer-of .ensures (went .last .1 .1 .0) (went .last .1 .1 .1 .1 .1 .0) ∙ ap answerOf (went .ensures))
+
+returns-2 : tie.Need-returns-2
+unfolding callBy admittedBy
+returns-2 c =
+    let a = c .before .before .before .before .before .before .before .before .before .before .args in
+    rw (
+      ← c .before .before .before .before .admission .ensures (a .output .now),
+      c .before .before .admission2 .given .1,
+    )
+    (c .refused .ensures (a .memory .now) (a .times .now) (a .bytes .now) (a .output .now))
+
+pub lc3-run-second-spec : {M : Type 1} → statement M
+lc3-run-second-spec =
+    tie.close
+    (tie.spec (λ c κs. search needs) (λ c. search needs) run-accepted-requires (λ c κs. search needs)
+    (λ c. search needs) (λ c κs. search needs) (λ c. search needs) (λ c. search needs) returns (λ c. search needs)
+    returns-2)

@@ -1,0 +1,15 @@
+-- `lc3_step_second::one_step` meets its contract, by that of `single::step`, whose report `report_of` puts into numbers.
+use mathlib.Core.Path.{ap}
+use borrow.Author.Needs.{needs}
+use Rattle.lc3_machine.specs.Answer.{answerOf}
+use Rattle.lc3_step_second.proofs.one_step.Statement.{statement}
+use Rattle.lc3_step_second.proofs.one_step.Tie as tie
+
+returns : tie.Need-returns
+returns c =
+    rw (c .report-of .ensures) (ap answerOf (c .before .before .before .before .before .before .step .ensures))
+
+pub one-step-spec : {M : Type 1} → statement M
+one-step-spec =
+    tie.close
+    (tie.spec (λ c κs. search needs) (λ c κs. search needs) (λ c. search needs) (λ c. search needs) returns)
