@@ -14,7 +14,8 @@ use Rattle.step.specs.declared.Stepped.{Stepped}
 use Rattle.run.specs.declared.Ending.the-variants.{Done, Halted, OutputFull}
 use Rattle.run.specs.Run.{Start, End, begin, endedBy, isHalted, runBy}
 use Rattle.run.proofs.RunLaws.{one-more-makes-a-step, one-more-halts, one-more-fills}
-use Rattle.runner.specs.Stepping.{isFullDisplay, shownCount, movedTo, movesOf, standing}
+use Rattle.runner.specs.Stepping.{isFullDisplay, shownCount, movedTo, movesOf}
+use Rattle.stretches.specs.Standing.{standing}
 use Rattle.runner.proofs.LoopLaws.{Turned, was-full, was-made, each-turn-of-loop}
 
 module _ (edition : Edition) (s : Start) where
