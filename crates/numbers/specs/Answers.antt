@@ -63,7 +63,7 @@ pub record RunsInPlace (m : Machine) : Type 0 where
       answered (record { machine = m; steps = 1; keys = 2; shown = 3; index = 4; refusal = 5; stop = 6 }) (8 ∷ [])
       (9 ∷ [])
       ≡ placed m 4 5 6
-  -- the run and the step of crate `runner`
+  -- the run of crate `runner`, and the step of crate `single`
   pub run : endOf (record { machine = m; report = report Halted }) (8 ∷ []) (9 ∷ []) ≡ ended m Halted
 
 -- ---- a logged run

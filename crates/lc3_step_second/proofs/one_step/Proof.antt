@@ -1,4 +1,5 @@
--- `lc3_step_second::one_step` meets its contract, by that of `single::step`, whose report `report_of` puts into numbers.
+-- `lc3_step_second::one_step` meets its contract, by that of `single::step`, whose report `report_of` puts into
+-- numbers.
 use mathlib.Core.Path.{ap}
 use borrow.Author.Needs.{needs}
 use Rattle.lc3_machine.specs.Answer.{answerOf}

@@ -1,5 +1,5 @@
 -- `single::step_accepted` meets its contract: it stops where a run of one step does, or makes that step.
-use Prim.Native.Nat.{_+_}
+use Prim.Native.Nat.{_+_, _≤_}
 use native.Mathlib.Omega.{arith}
 use mathlib.Core.Path.{_≡_, sym, ap, _∙_}
 use Rattle.machine.specs.declared.Machine.{Machine}
@@ -25,6 +25,10 @@ advanced c = c .before .before .before .before
 abbrev handed : tie.Start → Start
 handed c =
     startOf (c .args .m) (c .args .memory .now) (c .args .times .now) (c .args .bytes .now) (c .args .output .now)
+
+-- The machine is not halted.
+clock-on : (c : tie.After-advance) → 0x8000 ≤ start-of c .args .m .devices .mcr
+clock-on c = c .before .before .before .before .before .before .if1 .left
 
 -- The step that was made is the one from the record as it was handed in.
 moved : (c : tie.After-advance)
@@ -58,8 +62,8 @@ returns-2 c =
     let memory′ = went .advance .last .1 .1 .1 .1 .0 in
     let output′ = went .advance .last .1 .1 .1 .1 .1 .1 .1 .1 .0 in
     c .stopped2 .ensures memory′ (a .times .now) (a .bytes .now) output′
-    ∙ single-fills (editionOf (a .second)) (handed (start-of went)) (went .before .before .before .before .before .before
-    .if1 .left) (went .advance .result) (went .advance .last .1 .1 .1 .0) memory′ output′ (moved went)
+    ∙ single-fills (editionOf (a .second)) (handed (start-of went)) (clock-on went) (went .advance .result)
+    (went .advance .last .1 .1 .1 .0) memory′ output′ (moved went)
     (sym (c .before .before .is-full .ensures) ∙ c .before .if2 .taken)
 
 add-machine-of : tie.Need-add-machine-of
@@ -70,8 +74,8 @@ returns-3 c =
     let went = advanced (c .before .before .before .before .before) in
     let a = start-of went .args in
     rw (c .before .machine-of .ensures, c .shown-count .ensures)
-    (single-makes (editionOf (a .second)) (handed (start-of went)) (went .before .before .before .before .before .before
-    .if1 .left) (went .advance .result) (went .advance .last .1 .1 .1 .0) (went .advance .last .1 .1 .1 .1 .0)
+    (single-makes (editionOf (a .second)) (handed (start-of went)) (clock-on went) (went .advance .result)
+    (went .advance .last .1 .1 .1 .0) (went .advance .last .1 .1 .1 .1 .0)
     (went .advance .last .1 .1 .1 .1 .1 .1 .1 .1 .0) (moved went)
     (sym (c .before .before .before .before .is-full .ensures) ∙ c .before .before .before .if2 .left))
 
