@@ -4,7 +4,6 @@ use native.Mathlib.Omega.{arith}
 use mathlib.Core.Path.{_≡_, refl, sym, ap, subst, _∙_}
 use mathlib.Core.Bool.{Bool, true, false, cond, _||_, true≢false}
 use mathlib.Core.List.{List, []}
-use borrow.Author.Tests.{le-leb, lt-ltb, eq-eqb, ne-eqb}
 use lib.Dec.{ltb}
 use lib.ListN.{length, getD, set, take}
 use lib.Seq.{set-set, set-getD, getD-set-same}
@@ -12,7 +11,7 @@ use Rattle.word.specs.Reading.{readOf}
 use Rattle.machine.specs.declared.Machine.{Machine}
 use Rattle.machine.specs.declared.Devices.{Devices}
 use Rattle.machine.specs.declared.Plan.the-variants.{Return}
-use Rattle.machine.specs.Words.{next, before}
+use Rattle.machine.specs.Words.{next}
 use Rattle.machine.specs.Record.{Timer, timerOf}
 use Rattle.machine.specs.Psr.{inUserMode, priorityOf}
 use Rattle.machine.specs.Keys.{readyAfter, lastKey, afterKeys}
@@ -36,14 +35,14 @@ use Rattle.monitor.specs.Vectors.{vectorWord, ours}
 use Rattle.monitor.specs.Routines.{routineWords}
 use Rattle.monitor.specs.Uses.{HasWords, backUses}
 use Rattle.monitor.specs.Keys.{arrivedBy}
-use Rattle.monitor.specs.Back.{stackOf}
+use Rattle.monitor.specs.Calls.{stackOf, StackApart}
 use Rattle.monitor.proofs.VectorLaws.{interrupt-word}
 use Rattle.monitor.proofs.Execution.{Frame, View, machineAt, At}
 use Rattle.monitor.proofs.Execution.{statusIn, started, advance-with, same-keyboard, QuietStep, here, kbsr-is}
-use Rattle.monitor.proofs.Intact.{Intact, cellsFine, wordAt, wordWith, low-word, routine-word}
-use Rattle.monitor.proofs.Instructions.{Sound, planAt, word-is}
+use Rattle.monitor.proofs.Intact.{Intact, wordAt, wordWith}
+use Rattle.monitor.proofs.Instructions.{Sound, planAt, slot-is}
 use Rattle.monitor.proofs.Entries.{startFrame, startView, at-start, psr-parts, enteredFrame, enteredView}
-use Rattle.monitor.proofs.Entries.{entry-gives, entry-silent, returnedFrame, returnedView, return-once}
+use Rattle.monitor.proofs.Entries.{up-one, up-two, entry-gives, entry-silent, returnedFrame, returnedView, return-once}
 use Rattle.monitor.proofs.Calls.{call-stands, unread}
 use Rattle.monitor.proofs.Again.{Due, tick-keeps, tick-fits, keys-fit, no-fewer, more-keys, still-due}
 
@@ -112,32 +111,19 @@ module _ (s : Start) (n : ℕ) (c : FirstInterrupted s n) where
   ok : Intact backUses (s .memory)
   ok = record { words = c .intact; size = accepted-is-acceptable s n (c .accepted) .size }
 
-  one-below : before sp ≡ sp - 1
-  one-below = omega (arith, c .above-monitor, c .below-devices)
-
-  two-below : before (before sp) ≡ sp - 2
-  two-below = omega (arith, c .above-monitor, c .below-devices)
+  apart : StackApart 2 sp
+  apart = record { above-monitor = c .above-monitor; below-devices = c .below-devices }
 
   abbrev entered : View
-  entered = enteredView s sp 0x027F (s .machine .pc)
-
-  fine : cellsFine (entered .cells) ≡ true
-  fine =
-      rw (two-below, one-below)
-      (rw (
-        le-leb 0x02A5 (sp - 2) (omega (arith, c .above-monitor)),
-        lt-ltb (sp - 2) 0xFE00 (omega (arith, c .above-monitor, c .below-devices)),
-        le-leb 0x02A5 (sp - 1) (omega (arith, c .above-monitor)),
-        lt-ltb (sp - 1) 0xFE00 (omega (arith, c .above-monitor, c .below-devices)),
-      ))
+  entered = enteredView s 0x027F (s .machine .pc)
 
   -- ---- the entry
 
   abbrev f₀ : Frame
-  f₀ = startFrame backUses s
+  f₀ = startFrame backUses 2 0 s
 
   a₀ : At s 1 0 f₀ (startView s)
-  a₀ = at-start backUses s n (c .accepted) 1
+  a₀ = at-start backUses 2 0 s n (c .accepted) 1
 
   interrupted-here : takesInterrupt (nextStep s (here a₀) .cause) ≡ true
   unfolding causeAt
@@ -151,63 +137,52 @@ module _ (s : Start) (n : ℕ) (c : FirstInterrupted s n) where
   enters : (vector priority : ℕ) → 0x0103 ≤ vector → vector < 0x0200 → backUses vector ≡ true
       → stepOf (arriving s (here a₀)) (here a₀ .machine) (s .memory)
       ≡ ended (interrupted vector priority (afterStart (arriving s (here a₀)) (here a₀ .machine)) (s .memory))
-      → At s 1 1 (enteredFrame backUses s user (highOf priority)) entered
+      → At s 1 1 (enteredFrame backUses 2 s user (highOf priority)) entered
   unfolding interrupted nextStepBy
   enters vector priority least most used e =
-      let g = entry-gives backUses s ok user refl sp refl (interrupt vector) (s .machine .pc) (highOf priority) most
-      used fine in
+      let g = entry-gives backUses 2 s ok user refl apart (omega arith) (interrupt vector) (s .machine .pc)
+      (highOf priority) most used in
       let leads : vectorWord ours vector ≡ 0x027F = sym (interrupt-word ours vector least) in
-      let view : View = enteredView s sp (vectorWord ours vector) (s .machine .pc) in
+      let view : View = enteredView s (vectorWord ours vector) (s .machine .pc) in
       let p : (d : Devices) (t : ℕ)
       → machineAt f₀ (startView s) d t .psr % 256 + priority % 8 * 256
       ≡ highOf priority * 8 + s .machine .psr % 8 =
       λ d t. rw (← (psr-parts (s .machine .psr))) (interrupt-psr (s .machine .psr) priority) in
       rw leads at (advance-with a₀ (interrupted vector priority) (λ l. absurd (omega arith)) (c .mcr)
       (e ∙ ap (λ (m : Machine). ended (interrupted vector priority m (s .memory))) (started a₀))
-      (enteredFrame backUses s user (highOf priority)) view [] (statusIn s 0 (startView s))
+      (enteredFrame backUses 2 s user (highOf priority)) view [] (statusIn s 0 (startView s))
       (λ d t same kbsr kbdr. rw (← kbsr) (g (machineAt f₀ (startView s) d t .psr % 256 + priority % 8 * 256)
-      (p d t) d t))
-      (entry-silent backUses s user (highOf priority) sp (vectorWord ours vector) (s .machine .pc))
+      (p d t) 0 d t))
+      (entry-silent backUses 2 0 s user (highOf priority) (vectorWord ours vector) (s .machine .pc))
       (same-keyboard a₀ view refl refl))
 
   -- ---- RTI
 
   module _ (priority : ℕ) where
     abbrev f : Frame
-    f = enteredFrame backUses s user (highOf priority)
+    f = enteredFrame backUses 2 s user (highOf priority)
 
     sound : Sound f
-    sound = record { above = omega arith; intact = ok }
+    sound = record { above = omega arith; intact = ok; stack = apart }
 
     word : wordAt f entered 0x027F ≡ 0x8000
-    unfolding routineWords
-    word =
-        sym (word-is f sound entered fine 0x027F)
-        ∙ low-word (s .memory) (entered .cells) fine 0x027F (omega arith)
-        ∙ routine-word ok 0x027F (omega arith) refl
+    unfolding wordWith routineWords
+    word = refl
 
     lone : planAt f entered ≡ Return
     unfolding planAt readOf planBy
     lone = rw word
 
-    six : getD (entered .regs) 6 0 ≡ before (before sp)
-    six = getD-set-same (s .machine .regs) 6 (before (before sp)) 0 (omega (arith, c .registers))
+    six : getD (entered .regs) 6 0 ≡ sp - 2
+    six = getD-set-same (s .machine .regs) 6 (sp - 2) 0 (omega (arith, c .registers))
 
-    above-it : next (before (before sp)) ≡ before sp
-    above-it = omega (arith, c .above-monitor, c .below-devices)
+    pc-there : wordAt f entered (sp - 2) ≡ s .machine .pc
+    pc-there = slot-is f sound entered refl 2 (omega arith) (omega arith)
 
-    pc-there : wordAt f entered (before (before sp)) ≡ s .machine .pc
-    unfolding wordWith
-    pc-there = rw (eq-eqb (before (before sp)) (before (before sp)) refl)
-
-    psr-there : wordAt f entered (next (before (before sp))) ≡ s .machine .psr
-    unfolding wordWith
+    psr-there : wordAt f entered (next (sp - 2)) ≡ s .machine .psr
     psr-there =
-        rw above-it
-        (rw (
-          ne-eqb (before sp) (before (before sp)) (λ e. absurd (omega (arith, c .above-monitor, c .below-devices))),
-          eq-eqb (before sp) (before sp) refl,
-        ))
+        ap (λ (x : ℕ). wordAt f entered x) (up-one apart (omega arith))
+        ∙ slot-is f sound entered refl 1 (omega arith) (omega arith)
 
     quiet : QuietStep s 1
     unfolding causeAt
@@ -216,25 +191,25 @@ module _ (s : Start) (n : ℕ) (c : FirstInterrupted s n) where
         (call-is-run stepOf s n 1 (c .accepted) (omega (arith, c .steps))) (c .no-other)
 
     at-end : At s 1 1 f entered
-        → At s 1 2 (returnedFrame f user (before (before sp)) (s .machine .psr))
-        (returnedView f entered user (before (before sp)) (s .machine .psr) (s .machine .pc))
+        → At s 1 2 (returnedFrame f user (sp - 2) (s .machine .psr))
+        (returnedView f entered user (sp - 2) (s .machine .psr) (s .machine .pc))
     at-end a =
-        return-once f sound entered (c .mcr) fine lone (before (before sp)) (s .machine .pc) (s .machine .psr) six
+        return-once f sound entered (c .mcr) refl lone (sp - 2) (s .machine .pc) (s .machine .psr) six
         pc-there psr-there (accepted-is-acceptable s n (c .accepted) .defined .psr) user refl a quiet
 
   -- ---- both
 
-  up-again : next (next (before (before sp))) ≡ sp
-  up-again = omega (arith, c .above-monitor, c .below-devices)
+  up-again : next (next (sp - 2)) ≡ sp
+  up-again = up-two apart (omega arith)
 
   restored : (b : Bool) → user ≡ b
-      → set (set (s .machine .regs) 6 (before (before sp))) 6
+      → set (set (s .machine .regs) 6 (sp - 2)) 6
       (cond b (cond b (getD (s .machine .regs) 6 0) (s .machine .«saved_usp»)) sp)
       ≡ s .machine .regs
-  restored true e = set-set (s .machine .regs) 6 (before (before sp)) _ ∙ set-getD (s .machine .regs) 6 0
+  restored true e = set-set (s .machine .regs) 6 (sp - 2) _ ∙ set-getD (s .machine .regs) 6 0
   restored false e =
       let z : sp ≡ getD (s .machine .regs) 6 0 = rw e in
-      set-set (s .machine .regs) 6 (before (before sp)) sp
+      set-set (s .machine .regs) 6 (sp - 2) sp
       ∙ ap (λ (x : ℕ). set (s .machine .regs) 6 x) z
       ∙ set-getD (s .machine .regs) 6 0
 
@@ -262,7 +237,7 @@ module _ (s : Start) (n : ℕ) (c : FirstInterrupted s n) where
         mcr = rw q (c .mcr);
         busy = rw q;
         clock = rw q (a .ticks);
-        memory = rw (q, two-below, one-below);
+        memory = rw q;
       }
 
   -- ---- and again
@@ -288,8 +263,8 @@ module _ (s : Start) (n : ℕ) (c : FirstInterrupted s n) where
       rw (kbsr-is a₀) (keys-fit (take (arrivedBy s 1 - 0) (s .bytes)) (s .machine .devices .kbsr) word)
 
   module _ (priority : ℕ)
-      (a : At s 1 2 (returnedFrame (f priority) user (before (before sp)) (s .machine .psr))
-      (returnedView (f priority) entered user (before (before sp)) (s .machine .psr) (s .machine .pc))) where
+      (a : At s 1 2 (returnedFrame (f priority) user (sp - 2) (s .machine .psr))
+      (returnedView (f priority) entered user (sp - 2) (s .machine .psr) (s .machine .pc))) where
     timer-still : Due (ticked timer₀ .status) → Due (ticked (timerOf (a .devices)) .status)
     unfolding tickedBy
     timer-still d =

@@ -1,12 +1,12 @@
 -- The ways into a routine and out of it: where a call stands before its first step, the entry, the wait for the
 -- display, and RTI.
-use Prim.Native.Nat.{ℕ, zero, suc, _+_, _-_, _*_, _/_, _%_, _<_}
+use Prim.Native.Nat.{ℕ, zero, suc, _+_, _-_, _*_, _/_, _%_, _≤_, _<_}
 use native.Mathlib.Nat.{add-zero}
 use native.Mathlib.Omega.{arith}
 use mathlib.Core.Path.{_≡_, refl, sym, ap, _∙_}
 use mathlib.Core.Bool.{Bool, true, false, cond, _&&_}
 use mathlib.Core.List.{List, [], _∷_}
-use borrow.Author.Tests.{ne-eqb}
+use borrow.Author.Tests.{le-leb, ne-eqb}
 use lib.Dec.{eqb}
 use lib.IntN.{negsuc}
 use lib.ListN.{length, getD, set}
@@ -38,6 +38,7 @@ use Rattle.run.proofs.Acceptance.{accepted-is-acceptable, call-is-run}
 use Rattle.monitor.specs.Vectors.{vectorWord, ours}
 use Rattle.monitor.specs.Keys.{keysBefore}
 use Rattle.monitor.specs.Out.{waitSteps}
+use Rattle.monitor.specs.Calls.{stackOf, StackApart}
 use Rattle.monitor.proofs.KeyLaws.{none-before}
 use Rattle.monitor.proofs.Modes.{supervisor-mode}
 use Rattle.monitor.proofs.Execution.{Frame, Known, these, from, codesNumber, cell, View, psrAt, memoryAt}
@@ -50,9 +51,12 @@ use Rattle.monitor.proofs.Instructions.{in-supervisor-mode, all-allowed
 
 -- ---- before the first step
 
-abbrev pub startFrame : (ℕ → Bool) → Start → Frame
-startFrame uses s = record {
+-- The stack is of no account yet.
+abbrev pub startFrame : (ℕ → Bool) → ℕ → ℕ → Start → Frame
+startFrame uses words sp s = record {
   uses = uses;
+  words = words;
+  sp = sp;
   high = s .machine .psr / 8;
   ssp = s .machine .«saved_ssp»;
   usp = s .machine .«saved_usp»;
@@ -66,6 +70,7 @@ startViewWith codes s = record {
   pc = s .machine .pc;
   codes = codes;
   cells = [];
+  depth = 0;
   bytes = [];
   busy = s .machine .devices .busy;
   mcr = s .machine .devices .mcr;
@@ -79,10 +84,11 @@ startView s = startViewWith (these (s .machine .psr)) s
 pub psr-parts : (psr : ℕ) → psr ≡ psr / 8 * 8 + psr % 8
 psr-parts psr = omega arith
 
-pub at-start-with : (uses : ℕ → Bool) (s : Start) (n : ℕ) → admissionOf s n ≡ Accepted → (since : ℕ) (codes : Known)
-    → codesNumber codes ≡ s .machine .psr % 8 → At s since 0 (startFrame uses s) (startViewWith codes s)
+pub at-start-with : (uses : ℕ → Bool) (words sp : ℕ) (s : Start) (n : ℕ) → admissionOf s n ≡ Accepted
+    → (since : ℕ) (codes : Known) → codesNumber codes ≡ s .machine .psr % 8
+    → At s since 0 (startFrame uses words sp s) (startViewWith codes s)
 unfolding begin
-at-start-with uses s n accepted since codes same =
+at-start-with uses words sp s n accepted since codes same =
     let ok = accepted-is-acceptable s n accepted in
     let none : keysBefore (s .machine .clock + 0) (s .times) ≡ 0 =
     rw (add-zero (s .machine .clock)) (none-before (s .machine .clock) (s .times) (ok .order)) in
@@ -121,16 +127,19 @@ at-start-with uses s n accepted since codes same =
       quiet = λ j l h. absurd (omega arith);
     }
 
-pub at-start : (uses : ℕ → Bool) (s : Start) (n : ℕ) → admissionOf s n ≡ Accepted → (since : ℕ)
-    → At s since 0 (startFrame uses s) (startView s)
-at-start uses s n accepted since = at-start-with uses s n accepted since (these (s .machine .psr)) refl
+pub at-start : (uses : ℕ → Bool) (words sp : ℕ) (s : Start) (n : ℕ) → admissionOf s n ≡ Accepted → (since : ℕ)
+    → At s since 0 (startFrame uses words sp s) (startView s)
+at-start uses words sp s n accepted since =
+    at-start-with uses words sp s n accepted since (these (s .machine .psr)) refl
 
 -- ---- the entry
 
 -- What an entry leaves: the mode and priority of the PSR that it leaves; in User mode R6 is saved.
-abbrev pub enteredFrame : (ℕ → Bool) → Start → Bool → ℕ → Frame
-enteredFrame uses s user high = record {
+abbrev pub enteredFrame : (ℕ → Bool) → ℕ → Start → Bool → ℕ → Frame
+enteredFrame uses words s user high = record {
   uses = uses;
+  words = words;
+  sp = stackOf (s .machine);
   high = high;
   ssp = s .machine .«saved_ssp»;
   usp = cond user (getD (s .machine .regs) 6 0) (s .machine .«saved_usp»);
@@ -138,13 +147,14 @@ enteredFrame uses s user high = record {
   output = s .output;
 }
 
--- PSR and this PC are on the stack that began at sp.
-abbrev pub enteredView : Start → ℕ → ℕ → ℕ → View
-enteredView s sp to pc = record {
-  regs = set (s .machine .regs) 6 (before (before sp));
+-- PSR and this PC are on the stack.
+abbrev pub enteredView : Start → ℕ → ℕ → View
+enteredView s to pc = record {
+  regs = set (s .machine .regs) 6 (stackOf (s .machine) - 2);
   pc = to;
   codes = these (s .machine .psr);
-  cells = cell (before (before sp)) pc ∷ cell (before sp) (s .machine .psr) ∷ [];
+  cells = cell 2 pc ∷ cell 1 (s .machine .psr) ∷ [];
+  depth = 2;
   bytes = [];
   busy = s .machine .devices .busy - 1;
   mcr = s .machine .devices .mcr;
@@ -152,31 +162,55 @@ enteredView s sp to pc = record {
   status = s .machine .devices .kbsr;
 }
 
-module _ (uses : ℕ → Bool) (s : Start) (i : Intact uses (s .memory)) (user : Bool)
-    (mode : inUserMode (s .machine .psr) ≡ user) (sp : ℕ)
-    (stack : cond user (s .machine .«saved_ssp») (getD (s .machine .regs) 6 0) ≡ sp) (reason : Reason) (pc high : ℕ)
-    (vector : vectorOf reason < 0x0200) (used : uses (vectorOf reason) ≡ true)
-    (fine : cellsFine (enteredView s sp 0 pc .cells) ≡ true) where
-  pub entry-gives : (psr : ℕ) → psr ≡ high * 8 + s .machine .psr % 8 → (d : Devices) (t : ℕ)
-      → Gives (entry reason pc psr (machineAt (startFrame uses s) (startView s) d t) (s .memory)) []
-      (s .machine .devices .busy) (enteredFrame uses s user high)
-      (enteredView s sp (vectorWord ours (vectorOf reason)) pc) d t
+-- A push is one word lower, and another two.
+module _ {words sp : ℕ} (apart : StackApart words sp) (two : 2 ≤ words) where
+  pub one-below : before sp ≡ sp - 1
+  one-below = omega (arith, apart .above-monitor, apart .below-devices)
+
+  pub two-below : before (before sp) ≡ sp - 2
+  two-below = omega (arith, apart .above-monitor, apart .below-devices)
+
+  pub up-one : next (sp - 2) ≡ sp - 1
+  up-one = omega (arith, apart .above-monitor, apart .below-devices)
+
+  pub up-two : next (next (sp - 2)) ≡ sp
+  up-two = omega (arith, apart .above-monitor, apart .below-devices)
+
+pub entered-fine : (words : ℕ) → 2 ≤ words → (s : Start) (to pc : ℕ)
+    → cellsFine words (enteredView s to pc .cells) ≡ true
+entered-fine words two s to pc = rw (le-leb 2 words two, le-leb 1 words (omega arith))
+
+module _ (uses : ℕ → Bool) (words : ℕ) (s : Start) (i : Intact uses (s .memory)) (user : Bool)
+    (mode : inUserMode (s .machine .psr) ≡ user) (apart : StackApart words (stackOf (s .machine))) (two : 2 ≤ words)
+    (reason : Reason) (pc high : ℕ) (vector : vectorOf reason < 0x0200) (used : uses (vectorOf reason) ≡ true) where
+  pub entry-gives : (psr : ℕ) → psr ≡ high * 8 + s .machine .psr % 8 → (sp : ℕ) (d : Devices) (t : ℕ)
+      → Gives (entry reason pc psr (machineAt (startFrame uses words sp s) (startView s) d t) (s .memory)) []
+      (s .machine .devices .busy) (enteredFrame uses words s user high)
+      (enteredView s (vectorWord ours (vectorOf reason)) pc) d t
   unfolding entry pushed afterEntry stackPointerOnEntry userStackOnEntry
-  entry-gives psr p d t =
-      let to : getD (memoryAt (enteredFrame uses s user high) (enteredView s sp 0 pc)) (vectorOf reason) 0
+  entry-gives psr p sp d t =
+      let to : getD (memoryAt (enteredFrame uses words s user high) (enteredView s 0 pc)) (vectorOf reason) 0
       ≡ vectorWord ours (vectorOf reason) =
-      low-word (s .memory) (enteredView s sp 0 pc .cells) fine (vectorOf reason) (omega arith)
+      low-word apart (s .memory) (enteredView s 0 pc .cells) (entered-fine words two s 0 pc) (vectorOf reason)
+      (omega arith)
       ∙ vector-word i (vectorOf reason) vector used in
       record {
-        machine = rw (← (psr-parts (s .machine .psr)), mode, stack, to, p);
-        memory = rw (← (psr-parts (s .machine .psr)), mode, stack);
+        machine = rw (
+          ← (psr-parts (s .machine .psr)),
+          two-below apart two,
+          one-below apart two,
+          to,
+          p,
+          mode,
+        );
+        memory = rw (← (psr-parts (s .machine .psr)), two-below apart two, one-below apart two);
         shown = refl;
       }
 
-pub entry-silent : (uses : ℕ → Bool) (s : Start) (user : Bool) (high sp to pc : ℕ)
-    → Shows [] (startFrame uses s) (enteredFrame uses s user high) (startView s) (enteredView s sp to pc)
+pub entry-silent : (uses : ℕ → Bool) (words sp : ℕ) (s : Start) (user : Bool) (high to pc : ℕ)
+    → Shows [] (startFrame uses words sp s) (enteredFrame uses words s user high) (startView s) (enteredView s to pc)
 unfolding busyAfter showsByte withShown
-entry-silent uses s user high sp to pc = record { counts = refl; free = refl; output = refl; shown = refl }
+entry-silent uses words sp s user high to pc = record { counts = refl; free = refl; output = refl; shown = refl }
 
 -- The PSR that a trap or an exception leaves.
 pub trap-psr : (psr : ℕ) → psr % 0x8000 ≡ psr / 8 % 4096 * 8 + psr % 8
@@ -184,79 +218,76 @@ trap-psr psr = omega arith
 
 -- ---- TRAP, and a reserved word
 
--- Where a routine stands that a program called by a TRAP, or an exception led to, with the supervisor stack at x3000.
-abbrev pub calledFrame : (ℕ → Bool) → Bool → Start → Frame
-calledFrame uses user s = enteredFrame uses s user (s .machine .psr / 8 % 4096)
+-- Where a routine stands that a program called by a TRAP, or an exception led to.
+abbrev pub calledFrame : (ℕ → Bool) → ℕ → Bool → Start → Frame
+calledFrame uses words user s = enteredFrame uses words s user (s .machine .psr / 8 % 4096)
 
-abbrev pub calledView : Start → ℕ → ℕ → View
-calledView s to pc = enteredView s 0x3000 to pc
-
-pub called-sound : (uses : ℕ → Bool) (user : Bool) (s : Start) → Intact uses (s .memory)
-    → Sound (calledFrame uses user s)
-called-sound uses user s i = record { above = omega arith; intact = i }
+pub called-sound : (uses : ℕ → Bool) (words : ℕ) (user : Bool) (s : Start) → Intact uses (s .memory)
+    → StackApart words (stackOf (s .machine)) → Sound (calledFrame uses words user s)
+called-sound uses words user s i apart = record { above = omega arith; intact = i; stack = apart }
 
 -- The plan of the word at PC is this entry: TRAP's, or that of a reserved word.
-pub plan-enters : (uses : ℕ → Bool) (user : Bool) (s : Start) (n bound : ℕ) → admissionOf s n ≡ Accepted
+pub plan-enters : (uses : ℕ → Bool) (words : ℕ) (user : Bool) (s : Start) (n bound : ℕ) → admissionOf s n ≡ Accepted
     → Quiet s 0 bound → 0 < bound → Intact uses (s .memory) → inUserMode (s .machine .psr) ≡ user
-    → denied (s .machine .psr) (s .machine .pc) ≡ false
-    → cond user (s .machine .«saved_ssp») (getD (s .machine .regs) 6 0) ≡ 0x3000
+    → denied (s .machine .psr) (s .machine .pc) ≡ false → StackApart words (stackOf (s .machine)) → 2 ≤ words
     → s .machine .devices .mcr ≡ 0x8000 → (reason : Reason) (pc : ℕ) → vectorOf reason < 0x0200
     → uses (vectorOf reason) ≡ true
     → ((m : Machine) → m .pc ≡ s .machine .pc
     → perform (planOf (m .regs) (m .pc) (m .psr) (readOf (getD (s .memory) (s .machine .pc) 0))) m (s .memory)
     ≡ raised reason pc m (s .memory))
-    → At s 0 1 (calledFrame uses user s) (calledView s (vectorWord ours (vectorOf reason)) pc)
+    → At s 0 1 (calledFrame uses words user s) (enteredView s (vectorWord ours (vectorOf reason)) pc)
 unfolding obeyedBy withReads raised
-plan-enters uses user s n bound accepted quiet some i mode may-fetch stack going reason pc below used raises =
-    let a = at-start uses s n accepted 0 in
-    let psr : ℕ = psrAt (startFrame uses s) (startView s) in
-    let g = entry-gives uses s i user mode 0x3000 stack reason pc (s .machine .psr / 8 % 4096) below used refl in
+plan-enters uses words user s n bound accepted quiet some i mode may-fetch apart two going reason pc below used raises =
+    let a = at-start uses words 0 s n accepted 0 in
+    let psr : ℕ = psrAt (startFrame uses words 0 s) (startView s) in
+    let g = entry-gives uses words s i user mode apart two reason pc (s .machine .psr / 8 % 4096) below used in
     let p : psr % 0x8000 ≡ s .machine .psr / 8 % 4096 * 8 + s .machine .psr % 8 =
     rw (← (psr-parts (s .machine .psr))) (trap-psr (s .machine .psr)) in
     let allowed : denied psr (s .machine .pc) ≡ false = rw (← (psr-parts (s .machine .psr))) may-fetch in
-    advance a (quiet .at a some) going (calledFrame uses user s)
-    (calledView s (vectorWord ours (vectorOf reason)) pc) []
+    advance a (quiet .at a some) going (calledFrame uses words user s)
+    (enteredView s (vectorWord ours (vectorOf reason)) pc) []
     (λ d t.
-    let is = raises (machineAt (startFrame uses s) (startView s) d t) refl in
+    let is = raises (machineAt (startFrame uses words 0 s) (startView s) d t) refl in
     record {
-      machine = rw (allowed, is) (g (psr % 0x8000) p d t .machine);
-      memory = rw (allowed, is) (g (psr % 0x8000) p d t .memory);
-      shown = rw (allowed, is) (g (psr % 0x8000) p d t .shown);
+      machine = rw (allowed, is) (g (psr % 0x8000) p 0 d t .machine);
+      memory = rw (allowed, is) (g (psr % 0x8000) p 0 d t .memory);
+      shown = rw (allowed, is) (g (psr % 0x8000) p 0 d t .shown);
     })
-    (entry-silent uses s user (s .machine .psr / 8 % 4096) 0x3000 (vectorWord ours (vectorOf reason)) pc)
+    (entry-silent uses words 0 s user (s .machine .psr / 8 % 4096) (vectorWord ours (vectorOf reason)) pc)
     refl refl
 
 -- ---- an exception, or a trap, in User mode
 
-pub exception-enters : (uses : ℕ → Bool) (s : Start) (n bound : ℕ) → admissionOf s n ≡ Accepted → Quiet s 0 bound
-    → 0 < bound → Intact uses (s .memory) → inUserMode (s .machine .psr) ≡ true → s .machine .«saved_ssp» ≡ 0x3000
-    → s .machine .devices .mcr ≡ 0x8000 → (reason : Reason) → vectorOf reason < 0x0200
-    → uses (vectorOf reason) ≡ true → (psr pc : ℕ) → causeAt s 0 ≡ entered reason psr pc
-    → At s 0 1 (calledFrame uses true s) (calledView s (vectorWord ours (vectorOf reason)) pc)
+pub exception-enters : (uses : ℕ → Bool) (words : ℕ) (s : Start) (n bound : ℕ) → admissionOf s n ≡ Accepted
+    → Quiet s 0 bound → 0 < bound → Intact uses (s .memory) → inUserMode (s .machine .psr) ≡ true
+    → StackApart words (stackOf (s .machine)) → 2 ≤ words → s .machine .devices .mcr ≡ 0x8000 → (reason : Reason)
+    → vectorOf reason < 0x0200 → uses (vectorOf reason) ≡ true → (psr pc : ℕ) → causeAt s 0 ≡ entered reason psr pc
+    → At s 0 1 (calledFrame uses words true s) (enteredView s (vectorWord ours (vectorOf reason)) pc)
 unfolding raised ended causeAt
-exception-enters uses s n bound accepted quiet some i user stack going reason below used psr pc cause =
-    let a = at-start uses s n accepted 0 in
-    let g = entry-gives uses s i true user 0x3000 stack reason pc (s .machine .psr / 8 % 4096) below used refl in
-    let p : psrAt (startFrame uses s) (startView s) % 0x8000 ≡ s .machine .psr / 8 % 4096 * 8 + s .machine .psr % 8 =
+exception-enters uses words s n bound accepted quiet some i user apart two going reason below used psr pc cause =
+    let a = at-start uses words 0 s n accepted 0 in
+    let g = entry-gives uses words s i true user apart two reason pc (s .machine .psr / 8 % 4096) below used in
+    let p : psrAt (startFrame uses words 0 s) (startView s) % 0x8000
+    ≡ s .machine .psr / 8 % 4096 * 8 + s .machine .psr % 8 =
     rw (← (psr-parts (s .machine .psr))) (trap-psr (s .machine .psr)) in
-    let mode : inUserMode (psrAt (startFrame uses s) (startView s)) ≡ true =
+    let mode : inUserMode (psrAt (startFrame uses words 0 s) (startView s)) ≡ true =
     rw (← (psr-parts (s .machine .psr))) user in
     let same : callOf s 0 ≡ runOf s 0 = call-is-run stepOf s n 0 accepted (omega arith) in
-    advance-by a (quiet .at a some) going (calledFrame uses true s)
-    (calledView s (vectorWord ours (vectorOf reason)) pc) []
+    advance-by a (quiet .at a some) going (calledFrame uses words true s)
+    (enteredView s (vectorWord ours (vectorOf reason)) pc) []
     (statusIn s 0 (startView s))
     (λ d t e kbsr kbdr.
-    let r = user-raises (machineAt (startFrame uses s) (startView s) d t) (s .memory) mode reason psr pc
+    let r = user-raises (machineAt (startFrame uses words 0 s) (startView s) d t) (s .memory) mode reason psr pc
     (ap (λ (o : Outcome). o .cause) (sym e) ∙ ap (λ (x : End). nextStep s x .cause) (sym same) ∙ cause) in
-    let h = g (psrAt (startFrame uses s) (startView s) % 0x8000) p d t in
+    let h = g (psrAt (startFrame uses words 0 s) (startView s) % 0x8000) p 0 d t in
     rw (← kbsr)
     (record {
       machine = r .machine ∙ h .machine;
       memory = r .memory ∙ h .memory;
       shown = r .shown ∙ h .shown;
     }))
-    (entry-silent uses s true (s .machine .psr / 8 % 4096) 0x3000 (vectorWord ours (vectorOf reason)) pc)
-    (same-keyboard a (calledView s (vectorWord ours (vectorOf reason)) pc) refl refl)
+    (entry-silent uses words 0 s true (s .machine .psr / 8 % 4096) (vectorWord ours (vectorOf reason)) pc)
+    (same-keyboard a (enteredView s (vectorWord ours (vectorOf reason)) pc) refl refl)
 
 -- ---- the wait for the display
 
@@ -267,6 +298,7 @@ within v regs pc codes busy = record {
   pc = pc;
   codes = codes;
   cells = v .cells;
+  depth = v .depth;
   bytes = v .bytes;
   busy = busy;
   mcr = v .mcr;
@@ -284,7 +316,7 @@ pub record Polls (f : Frame) (v : View) (r pc : ℕ) : Type 0 where
       ≡ Jump (cond (isTaken 3 (codesFor c (Br 3 (negsuc 1)))) pc (next (next pc)))
 
 module _ {s : Start} {since bound : ℕ} (quiet : Quiet s since bound) (f : Frame) (sound : Sound f) (v : View)
-    (going : v .mcr ≡ 0x8000) (fine : cellsFine (v .cells) ≡ true) (r pc : ℕ) (p : Polls f v r pc) where
+    (going : v .mcr ≡ 0x8000) (fine : cellsFine (f .words) (v .cells) ≡ true) (r pc : ℕ) (p : Polls f v r pc) where
   -- LDI finds this, and BRzp goes there.
   turn : (regs : List ℕ) (c : Known) (busy x to : ℕ) → cond (eqb busy 0) 0x8000 0 ≡ x
       → cond (isTaken 3 (codesFor (from x) (Br 3 (negsuc 1)))) pc (next (next pc)) ≡ to
@@ -344,6 +376,8 @@ module _ {s : Start} {since bound : ℕ} (quiet : Quiet s since bound) (f : Fram
 abbrev pub returnedFrame : Frame → Bool → ℕ → ℕ → Frame
 returnedFrame f user sp psr = record {
   uses = f .uses;
+  words = f .words;
+  sp = f .sp;
   high = psr / 8;
   ssp = cond user (next (next sp)) (f .ssp);
   usp = f .usp;
@@ -357,6 +391,7 @@ returnedView f v user sp psr pc = record {
   pc = pc;
   codes = these psr;
   cells = v .cells;
+  depth = 0;
   bytes = v .bytes;
   busy = v .busy - 1;
   mcr = v .mcr;
@@ -375,7 +410,7 @@ return-silent f v user sp psr pc = record {
 }
 
 pub return-once : {s : Start} {since k : ℕ} (f : Frame) → Sound f → (v : View) → v .mcr ≡ 0x8000
-    → cellsFine (v .cells) ≡ true → planAt f v ≡ Return → (sp pc psr : ℕ) → getD (v .regs) 6 0 ≡ sp
+    → cellsFine (f .words) (v .cells) ≡ true → planAt f v ≡ Return → (sp pc psr : ℕ) → getD (v .regs) 6 0 ≡ sp
     → wordAt f v sp ≡ pc → wordAt f v (next sp) ≡ psr → definedPsr psr ≡ psr → (user : Bool) → inUserMode psr ≡ user
     → At s since k f v → QuietStep s k
     → At s since (suc k) (returnedFrame f user sp psr) (returnedView f v user sp psr pc)
@@ -403,8 +438,8 @@ return-once f sound v going fine plan sp pc psr six at-sp at-next defined user m
     (return-silent f v user sp psr pc) refl refl
 
 pub returns : {s : Start} {since bound : ℕ} → Quiet s since bound → (f : Frame) → Sound f → (v : View)
-    → v .mcr ≡ 0x8000 → cellsFine (v .cells) ≡ true → planAt f v ≡ Return → (sp pc psr : ℕ) → getD (v .regs) 6 0 ≡ sp
-    → wordAt f v sp ≡ pc → wordAt f v (next sp) ≡ psr → definedPsr psr ≡ psr → (user : Bool) → inUserMode psr ≡ user
+    → v .mcr ≡ 0x8000 → cellsFine (f .words) (v .cells) ≡ true → planAt f v ≡ Return → (sp pc psr : ℕ)
+    → getD (v .regs) 6 0 ≡ sp → wordAt f v sp ≡ pc → wordAt f v (next sp) ≡ psr → definedPsr psr ≡ psr → (user : Bool) → inUserMode psr ≡ user
     → Leads s since bound f v 1 (returnedFrame f user sp psr) (returnedView f v user sp psr pc)
 returns quiet f sound v going fine plan sp pc psr six at-sp at-next defined user mode =
     leads-by-one quiet

@@ -32,10 +32,13 @@ use Rattle.monitor.proofs.KeyLaws.{arrived, all-arrived, ready-after-bo
 
 -- ---- where a run stands
 
--- What no instruction of a routine alters: which of the monitor's words it may rely on, mode and priority (the PSR is
--- high * 8 + codes), both saved stack pointers, and the memory and the output that the routine found.
+-- What no instruction of a routine alters: which of the monitor's words it may rely on, where its stack begins and how
+-- many words of it there are, mode and priority (the PSR is high * 8 + codes), both saved stack pointers, and the memory
+-- and the output that the routine found.
 pub record Frame : Type 0 where
   pub uses : ℕ → Bool
+  pub words : ℕ
+  pub sp : ℕ
   pub high : ℕ
   pub ssp : ℕ
   pub usp : ℕ
@@ -51,21 +54,23 @@ abbrev pub codesNumber : Known → ℕ
 codesNumber (these c) = c % 8
 codesNumber (from x) = codesOf x
 
--- A word that was stored.
+-- A word of the stack that was stored: that one which is so far below the stack's beginning.
 pub record Cell : Type 0 where
-  pub address : ℕ
+  pub slot : ℕ
   pub value : ℕ
 
 abbrev pub cell : ℕ → ℕ → Cell
-cell a x = record { address = a; value = x }
+cell i x = record { slot = i; value = x }
 
--- What can be foretold without the keys. The words stored stand last first; `bytes` were shown; `busy` is the display's
--- count; `read` is how many keys had arrived when KBDR was last loaded, and `status` what KBSR was then.
+-- What can be foretold without the keys. The words stored stand last first; R6 is `depth` below the stack's beginning,
+-- or `depth` is 0 and nothing is known of R6; `bytes` were shown; `busy` is the display's count; `read` is how many keys
+-- had arrived when KBDR was last loaded, and `status` what KBSR was then.
 pub record View : Type 0 where
   pub regs : List ℕ
   pub pc : ℕ
   pub codes : Known
   pub cells : List Cell
+  pub depth : ℕ
   pub bytes : List ℕ
   pub busy : ℕ
   pub mcr : ℕ
@@ -75,12 +80,12 @@ pub record View : Type 0 where
 abbrev pub psrAt : Frame → View → ℕ
 psrAt f v = f .high * 8 + codesNumber (v .codes)
 
-abbrev pub memoryWith : List ℕ → List Cell → List ℕ
-memoryWith mem [] = mem
-memoryWith mem (c ∷ cells) = set (memoryWith mem cells) (c .address) (c .value)
+abbrev pub memoryWith : ℕ → List ℕ → List Cell → List ℕ
+memoryWith sp mem [] = mem
+memoryWith sp mem (c ∷ cells) = set (memoryWith sp mem cells) (sp - c .slot) (c .value)
 
 abbrev pub memoryAt : Frame → View → List ℕ
-memoryAt f v = memoryWith (f .memory) (v .cells)
+memoryAt f v = memoryWith (f .sp) (f .memory) (v .cells)
 
 abbrev pub outputAt : Frame → View → List ℕ
 outputAt f v = writtenOver (v .bytes) (f .output)

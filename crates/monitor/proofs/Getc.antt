@@ -18,13 +18,13 @@ use Rattle.run.proofs.Acceptance.{accepted-is-acceptable}
 use Rattle.monitor.specs.Vectors.{vectorWord}
 use Rattle.monitor.specs.Keys.{keysBefore, arrivedBy, statusAt, keyAt}
 use Rattle.monitor.specs.Uses.{withVector, getcCode}
-use Rattle.monitor.specs.Calls.{Begins, Calls, NoInterrupt, readIn, Resumes}
+use Rattle.monitor.specs.Calls.{stackOf, Begins, Calls, NoInterrupt, readIn, Resumes}
 use Rattle.monitor.specs.Getc.{KeyComes, getcSteps, GetcReads}
 use Rattle.monitor.proofs.KeyLaws.{ready-leaves-rest}
 use Rattle.monitor.proofs.Execution.{Frame, View, from, At, Quiet, statusIn}
 use Rattle.monitor.proofs.Instructions.{Sound, computing}
-use Rattle.monitor.proofs.Entries.{calledFrame, called-sound, within}
-use Rattle.monitor.proofs.Calls.{is-intact, quiet-steps, Eight, eight, begun, routine-begins, AtReturn}
+use Rattle.monitor.proofs.Entries.{calledFrame, within}
+use Rattle.monitor.proofs.Calls.{begins-sound, quiet-steps, Eight, eight, begun, routine-begins, AtReturn}
 use Rattle.monitor.proofs.Calls.{comes-back}
 use Rattle.monitor.proofs.Keyboard.{keyRead, Keys, Turned, turns, takes-key}
 
@@ -37,15 +37,15 @@ four-less left busy t e =
     at-once : (left : ℕ) → left - 1 - 1 - 1 - 1 ≡ left - 4
     at-once left = omega arith
 
-module _ (user : Bool) (s : Start) (n t : ℕ) (c : Calls 0x20 getcCode user s n) (key : KeyComes s 1 t)
+module _ (user : Bool) (s : Start) (n t : ℕ) (c : Calls 0x20 getcCode 2 user s n) (key : KeyComes s 1 t)
     (le : getcSteps t ≤ n) (none : NoInterrupt s (getcSteps t)) (x : Eight (s .machine .regs)) where
   abbrev uses : ℕ → Bool
   uses = withVector 0x20 getcCode
 
   abbrev f : Frame
-  f = calledFrame uses user s
+  f = calledFrame uses 2 user s
 
-  abbrev b : Begins uses user s n
+  abbrev b : Begins uses 2 user s n
   b = c .begins
 
   abbrev j : ℕ
@@ -58,7 +58,7 @@ module _ (user : Bool) (s : Start) (n t : ℕ) (c : Calls 0x20 getcCode user s n
   quiet = rw all-steps (quiet-steps s n (getcSteps t) 0 (b .accepted) le none)
 
   sound : Sound f
-  sound = called-sound uses user s (is-intact s n b)
+  sound = begins-sound s n b
 
   abbrev view : View
   view = begun s x 0x0200 (next (s .machine .pc))
@@ -81,7 +81,7 @@ module _ (user : Bool) (s : Start) (n t : ℕ) (c : Calls 0x20 getcCode user s n
   unfolding vectorWord
   waited =
       turns quiet f sound view refl refl refl refl 0 0x0200 keys 1 (view .regs) (view .codes) (view .busy)
-      (routine-begins getcCode user s n (j + 1) x 0x20 0x0200 c quiet (omega arith) (omega arith) refl) t (omega arith)
+      (routine-begins getcCode 2 user s n (j + 1) x 0x20 0x0200 c (omega arith) quiet (omega arith) (omega arith) refl) t (omega arith)
       (key .none)
 
   abbrev polled : View
@@ -97,12 +97,12 @@ module _ (user : Bool) (s : Start) (n t : ℕ) (c : Calls 0x20 getcCode user s n
       (waited .codes) (waited .busy-now) (waited .at) (key .comes)
 
   regs-are : returning .regs
-      ≡ keyAt s (1 + 2 * t + 2) ∷ x .r₁ ∷ x .r₂ ∷ x .r₃ ∷ x .r₄ ∷ x .r₅ ∷ 0x2FFE ∷ x .r₇ ∷ []
+      ≡ keyAt s (1 + 2 * t + 2) ∷ x .r₁ ∷ x .r₂ ∷ x .r₃ ∷ x .r₄ ∷ x .r₅ ∷ (stackOf (s .machine) - 2) ∷ x .r₇ ∷ []
   regs-are =
       set-set (waited .regs-now) 0 (statusAt s (1 + 2 * t)) (keyAt s (1 + 2 * t + 2))
       ∙ waited .same (keyAt s (1 + 2 * t + 2))
 
-  at-return : AtReturn uses user s returning
+  at-return : AtReturn uses 2 user s returning
   unfolding computing
   at-return = record { plan = refl; six = rw regs-are; pc = refl; psr = refl; fine = refl; going = refl }
 
@@ -123,10 +123,10 @@ module _ (user : Bool) (s : Start) (n t : ℕ) (c : Calls 0x20 getcCode user s n
   counted = four-less (waited .busy-now) (s .machine .devices .busy) t (waited .count)
 
   getc-resumes :
-      Resumes s n (j + 1) [] (s .machine .devices .busy - (j + 1)) 0x2FFE
+      Resumes s n (j + 1) [] (s .machine .devices .busy - (j + 1)) 2
       (set (s .machine .regs) 0 (keyAt s (1 + 2 * t + 2))) (readIn (1 + 2 * t + 2) s)
   getc-resumes =
-      comes-back uses user s n j returning b quiet at-rti at-return (rw all-steps le) 0x2FFE refl
+      comes-back uses 2 user s n j returning b (omega arith) quiet at-rti at-return (rw all-steps le)
       (set (s .machine .regs) 0 (keyAt s (1 + 2 * t + 2))) same-registers
       (s .machine .devices .busy - (j + 1)) counted (readIn (1 + 2 * t + 2) s) cleared
 

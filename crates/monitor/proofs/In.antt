@@ -13,14 +13,14 @@ use Rattle.monitor.specs.Vectors.{vectorWord}
 use Rattle.monitor.specs.Out.{waitSteps}
 use Rattle.monitor.specs.Keys.{arrivedBy, statusAt, keyAt}
 use Rattle.monitor.specs.Uses.{withVector, inCode}
-use Rattle.monitor.specs.Calls.{Begins, Calls, NoInterrupt, readIn, Resumes}
+use Rattle.monitor.specs.Calls.{stackOf, Begins, Calls, NoInterrupt, readIn, Resumes}
 use Rattle.monitor.specs.Getc.{KeyComes}
 use Rattle.monitor.specs.In.{prompt, firstPoll, keyStep, echoWait, inSteps, shownByIn, InReads}
 use Rattle.monitor.proofs.KeyLaws.{ready-leaves-rest}
 use Rattle.monitor.proofs.Execution.{Frame, Known, View, from, cell, At, Quiet, Leads, then, statusIn}
-use Rattle.monitor.proofs.Instructions.{Sound, steppedBy, runs, computing}
-use Rattle.monitor.proofs.Entries.{calledFrame, called-sound, within, Polls, waits}
-use Rattle.monitor.proofs.Calls.{is-intact, quiet-steps, Eight, eight, begun, routine-begins, AtReturn}
+use Rattle.monitor.proofs.Instructions.{Sound, kept, steppedBy, runs, computing}
+use Rattle.monitor.proofs.Entries.{calledFrame, within, Polls, waits}
+use Rattle.monitor.proofs.Calls.{begins-sound, quiet-steps, Eight, eight, begun, routine-begins, AtReturn}
 use Rattle.monitor.proofs.Calls.{comes-back}
 use Rattle.monitor.proofs.Keyboard.{keyRead, Keys, Turned, turns, takes-key}
 
@@ -29,19 +29,20 @@ uses = withVector 0x23 inCode
 
 module _ (user : Bool) (s : Start) (x : Eight (s .machine .regs)) where
   abbrev f : Frame
-  f = calledFrame uses user s
+  f = calledFrame uses 4 user s
 
   -- R0, R1, R2, PC, codes, bytes, busy count and what is known of the keyboard are all that changes.
   abbrev W : ℕ → ℕ → ℕ → ℕ → Known → List ℕ → ℕ → ℕ → ℕ → View
   W r₀ r₁ r₂ pc c bytes busy read status = record {
-    regs = r₀ ∷ r₁ ∷ r₂ ∷ x .r₃ ∷ x .r₄ ∷ x .r₅ ∷ 0x2FFC ∷ x .r₇ ∷ [];
+    regs = r₀ ∷ r₁ ∷ r₂ ∷ x .r₃ ∷ x .r₄ ∷ x .r₅ ∷ (stackOf (s .machine) - 4) ∷ x .r₇ ∷ [];
     pc = pc;
     codes = c;
-    cells = cell 0x2FFD (x .r₂)
-        ∷ cell 0x2FFC (x .r₁)
-        ∷ cell 0x2FFE (next (s .machine .pc))
-        ∷ cell 0x2FFF (s .machine .psr)
+    cells = cell 3 (x .r₂)
+        ∷ cell 4 (x .r₁)
+        ∷ cell 2 (next (s .machine .pc))
+        ∷ cell 1 (s .machine .psr)
         ∷ [];
+    depth = 4;
     bytes = bytes;
     busy = busy;
     mcr = 0x8000;
@@ -83,7 +84,7 @@ module _ (user : Bool) (s : Start) (x : Eight (s .machine .regs)) where
   module _ (bound : ℕ) (quiet : Quiet s 0 bound) (sound : Sound f) (room : 20 ≤ length (s .output)) where
     to-poll : Leads s 0 bound f (begun s x 0x0228 (next (s .machine .pc))) 6 f (polling left)
     unfolding computing
-    to-poll = runs quiet f sound 0 (omega arith) 6 (begun s x 0x0228 (next (s .machine .pc))) refl
+    to-poll = runs quiet f sound 0 (omega arith) 6 (begun s x 0x0228 (next (s .machine .pc))) (kept refl refl) refl
 
     to-ready : Leads s 0 bound f (polling left) (waitSteps left) f
         (W 0x0289 0x0049 0x8000 0x0230 (from 0x8000) [] 0 0 kbsr)
@@ -92,7 +93,7 @@ module _ (user : Bool) (s : Start) (x : Eight (s .machine .regs)) where
 
     to-key : Leads s 0 bound f (W 0x0289 0x0049 0x8000 0x0230 (from 0x8000) [] 0 0 kbsr) 203 f waiting
     unfolding computing
-    to-key = runs quiet f sound 20 room 203 (W 0x0289 0x0049 0x8000 0x0230 (from 0x8000) [] 0 0 kbsr) refl
+    to-key = runs quiet f sound 20 room 203 (W 0x0289 0x0049 0x8000 0x0230 (from 0x8000) [] 0 0 kbsr) (kept refl refl) refl
 
     -- the echo, from the poll of DSR on
     module _ (key read status : ℕ) (c : Known) (busy : ℕ) where
@@ -110,7 +111,7 @@ module _ (user : Bool) (s : Start) (x : Eight (s .machine .regs)) where
           (steppedBy 4 f (W key 0x8000 0x8000 0x0238 (from 0x8000) prompt 0 read status))
       unfolding computing
       to-return =
-          runs quiet f sound 20 room 4 (W key 0x8000 0x8000 0x0238 (from 0x8000) prompt 0 read status) refl
+          runs quiet f sound 20 room 4 (W key 0x8000 0x8000 0x0238 (from 0x8000) prompt 0 read status) (kept refl refl) refl
 
 seven-less : (b : ℕ) → b - 1 - 1 - 1 - 1 - 1 - 1 - 1 ≡ b - 7
 seven-less b = ap (λ (n : ℕ). n - 1 - 1 - 1 - 1) (three b) ∙ four b
@@ -121,17 +122,17 @@ seven-less b = ap (λ (n : ℕ). n - 1 - 1 - 1 - 1) (three b) ∙ four b
     four : (b : ℕ) → b - 3 - 1 - 1 - 1 - 1 ≡ b - 7
     four b = omega arith
 
-module _ (user : Bool) (s : Start) (n t : ℕ) (c : Calls 0x23 inCode user s n) (key : KeyComes s (firstPoll s) t)
+module _ (user : Bool) (s : Start) (n t : ℕ) (c : Calls 0x23 inCode 4 user s n) (key : KeyComes s (firstPoll s) t)
     (room : length (shownByIn s t) ≤ length (s .output)) (le : inSteps s t ≤ n) (none : NoInterrupt s (inSteps s t))
     (x : Eight (s .machine .regs)) where
-  abbrev b : Begins uses user s n
+  abbrev b : Begins uses 4 user s n
   b = c .begins
 
   quiet : Quiet s 0 (inSteps s t)
   quiet = quiet-steps s n (inSteps s t) 0 (b .accepted) le none
 
   sound : Sound (f user s x)
-  sound = called-sound uses user s (is-intact s n b)
+  sound = begins-sound s n b
 
   at-waiting : At s 0 (firstPoll s) (f user s x) (waiting user s x)
   unfolding vectorWord
@@ -140,7 +141,7 @@ module _ (user : Bool) (s : Start) (n t : ℕ) (c : Calls 0x23 inCode user s n) 
       let l = rw (seven-less (s .machine .devices .busy)) at (then (to-poll user s x (inSteps s t) quiet sound room)
       (then (to-ready user s x (inSteps s t) quiet sound room) (to-key user s x (inSteps s t) quiet sound room))) in
       rw z at (l .on (omega arith)
-      (routine-begins inCode user s n (inSteps s t) x 0x23 0x0228 c quiet (omega arith) (omega arith) refl))
+      (routine-begins inCode 4 user s n (inSteps s t) x 0x23 0x0228 c (omega arith) quiet (omega arith) (omega arith) refl))
 
   waited : Turned s (firstPoll s + 2 * t) (f user s x) (waiting user s x) (waiting user s x .regs) 0 0x0233 t 4
   waited =
@@ -176,6 +177,7 @@ module _ (user : Bool) (s : Start) (n t : ℕ) (c : Calls 0x23 inCode user s n) 
         pc = 0x0236;
         codes = from byte;
         cells = waiting user s x .cells;
+        depth = 4;
         bytes = prompt;
         busy = waited .count i - 1 - 1 - 1;
         mcr = 0x8000;
@@ -198,7 +200,7 @@ module _ (user : Bool) (s : Start) (n t : ℕ) (c : Calls 0x23 inCode user s n) 
       (to-return user s x (inSteps s t) quiet sound room byte read status (from byte) (4 - 2 * t - 1 - 1 - 1))
       .on (omega arith) at-echo
 
-  at-return : AtReturn uses user s returning
+  at-return : AtReturn uses 4 user s returning
   unfolding returning computing
   at-return = record { plan = refl; six = refl; pc = refl; psr = refl; fine = refl; going = refl }
 
@@ -210,11 +212,11 @@ module _ (user : Bool) (s : Start) (n t : ℕ) (c : Calls 0x23 inCode user s n) 
   cleared : (keys : ℕ) → readyAfter (take (keys - read) (drop read (s .bytes))) status ≡ readIn (keyStep s t) s keys
   cleared keys = let z : status ≡ kbsr user s x % 0x8000 = ready-leaves-rest _ (kbsr user s x) in rw z
 
-  in-resumes : Resumes s n (inSteps s t) (shownByIn s t) 4 0x2FFC (set (s .machine .regs) 0 byte)
+  in-resumes : Resumes s n (inSteps s t) (shownByIn s t) 4 4 (set (s .machine .regs) 0 byte)
       (readIn (keyStep s t) s)
   unfolding returning computing
   in-resumes =
-      comes-back uses user s n j returning b quiet at-rti at-return le 0x2FFC refl (set (s .machine .regs) 0 byte)
+      comes-back uses 4 user s n j returning b (omega arith) quiet at-rti at-return le (set (s .machine .regs) 0 byte)
       same-registers 4 refl (readIn (keyStep s t) s) cleared
 
 pub in-reads : InReads

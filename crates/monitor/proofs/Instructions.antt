@@ -4,13 +4,14 @@ use Prim.Native.Nat.{ℕ, zero, suc, _+_, _-_, _*_, _/_, _%_, _≤_, _<_}
 use native.Mathlib.Nat.{add-zero}
 use native.Mathlib.Numerals.{add-one}
 use native.Mathlib.Omega.{arith}
-use mathlib.Core.Path.{_≡_, refl, sym, _∙_}
-use mathlib.Core.Bool.{Bool, true, false, cond, _&&_, _||_, true≢false}
+use mathlib.Core.Path.{_≡_, refl, sym, ap, subst, _∙_}
+use mathlib.Core.Bool.{Bool, true, false, cond, not, _&&_, _||_, true≢false}
 use mathlib.Core.List.{List, [], _∷_, _++_}
-use borrow.Author.Tests.{lt-leb, ltb-true, eqb-true, eq-eqb}
-use lib.Dec.{eqb, ltb}
-use lib.ListN.{length, getD, set, drop, length-append, length-drop}
-use lib.Seq.{drop-cons, set-append-seam, append-snoc}
+use borrow.Author.Tests.{lt-leb, leb-true, ltb-true, eqb-true, eqb-false, eq-eqb}
+use lib.Dec.{eqb, leb, ltb}
+use lib.IntN.{ℤ, pos, negsuc}
+use lib.ListN.{length, getD, set, drop, length-append, length-drop, length-set}
+use lib.Seq.{drop-cons, set-append-seam, append-snoc, getD-set-same, getD-set-other}
 use Rattle.word.specs.Reading.{readOf}
 use Rattle.word.specs.declared.Instruction.{Instruction}
 use Rattle.word.specs.declared.Instruction.the-variants.{Br, AddRegister, AddImmediate, Ld, St, Jsr, Jsrr, AndRegister}
@@ -21,7 +22,7 @@ use Rattle.machine.specs.declared.Devices.{Devices}
 use Rattle.machine.specs.declared.Plan.{Plan}
 use Rattle.machine.specs.declared.Plan.the-variants.{Move, Put, Jump, Load, LoadBy, Store, StoreBy, Call, Illegal}
 use Rattle.machine.specs.declared.Plan.the-variants.{Return}
-use Rattle.machine.specs.Words.{next, withRegister, andBits}
+use Rattle.machine.specs.Words.{next, plus, register, withRegister, andBits}
 use Rattle.machine.specs.Psr.{codesOf, recoded, isTaken}
 use Rattle.machine.specs.Outcome.{Outcome, withReads, afterInstruction}
 use Rattle.machine.specs.Protection.{denied}
@@ -36,12 +37,13 @@ use Rattle.machine.proofs.Tests.{both-true}
 use Rattle.run.specs.Run.{Start, withShown, showsByte}
 use Rattle.monitor.specs.Install.{writtenOver}
 use Rattle.monitor.specs.Routines.{routineWords}
+use Rattle.monitor.specs.Calls.{StackApart}
 use Rattle.monitor.proofs.Modes.{plain-word, after-plain-load, always-taken, allowed-in-supervisor-mode}
 use Rattle.monitor.proofs.Modes.{by-plain-pointer}
 use Rattle.monitor.proofs.Execution.{Frame, Known, these, from, codesNumber, Cell, cell, View, psrAt, memoryAt}
 use Rattle.monitor.proofs.Execution.{machineAt, Gives, Shows, advance, Quiet, Leads}
 use Rattle.monitor.proofs.Execution.{leads-by-one, then, no-step}
-use Rattle.monitor.proofs.Intact.{Intact, cellsFine, wordAt, wordWith, word-with}
+use Rattle.monitor.proofs.Intact.{Intact, cellsFine, wordAt, wordWith, word-with, slotAt, slot-with}
 
 -- ---- the plan
 
@@ -134,6 +136,7 @@ changed v regs pc codes cells = record {
   pc = pc;
   codes = codes;
   cells = cells;
+  depth = v .depth;
   bytes = v .bytes;
   busy = v .busy - 1;
   mcr = v .mcr;
@@ -148,6 +151,7 @@ showing v b = record {
   pc = next (v .pc);
   codes = v .codes;
   cells = v .cells;
+  depth = v .depth;
   bytes = v .bytes ++ b ∷ [];
   busy = 8;
   mcr = v .mcr;
@@ -162,6 +166,7 @@ clocked v x = record {
   pc = next (v .pc);
   codes = v .codes;
   cells = v .cells;
+  depth = v .depth;
   bytes = v .bytes;
   busy = v .busy - 1;
   mcr = x / 0x8000 * 0x8000;
@@ -182,25 +187,24 @@ performed f v (Put r x pc) = changed v (withRegister (v .regs) r x) pc (v .codes
 performed f v (Jump pc) = changed v (v .regs) pc (v .codes) (v .cells)
 performed f v (Load r a) = valued v r (wordAt f v a) (next (v .pc))
 performed f v (LoadBy r a) = valued v r (displayAt v) (next (v .pc))
-performed f v (Store x a) = changed v (v .regs) (next (v .pc)) (v .codes) (cell a x ∷ v .cells)
+performed f v (Store x a) = v
 performed f v (StoreBy x a) = cond (eqb (wordAt f v a) MCR) (clocked v x) (showing v (x % 256))
 performed f v (Call vector) = v
 performed f v Illegal = v
 performed f v Return = v
 
--- A plain word above the monitor's.
+-- A plain word.
 abbrev pub isPlain : ℕ → Bool
 isPlain a = ltb a 0xFE00
 
--- It loads plain words and DSR, and stores to plain words above the monitor's, to MCR, and to DDR where the display is
--- ready and the output has this room.
+-- It loads plain words and DSR, and stores to MCR, and to DDR where the display is ready and the output has this room.
 abbrev pub mayPerform : Frame → View → ℕ → Plan → Bool
 mayPerform f v room (Move r x pc) = true
 mayPerform f v room (Put r x pc) = true
 mayPerform f v room (Jump pc) = true
 mayPerform f v room (Load r a) = isPlain a
 mayPerform f v room (LoadBy r a) = isPlain a && eqb (wordAt f v a) DSR
-mayPerform f v room (Store x a) = isPlain a
+mayPerform f v room (Store x a) = false
 mayPerform f v room (StoreBy x a) =
     isPlain a
     && (eqb (wordAt f v a) MCR
@@ -209,23 +213,184 @@ mayPerform f v room (Call vector) = false
 mayPerform f v room Illegal = false
 mayPerform f v room Return = false
 
+-- ---- the stack
+
+-- What an instruction does with the stack: it loads register r from the word at R6 plus n, or stores r there; it adds n
+-- to R6; it loads R6 from the word at Next plus n; or none of these.
+pub data Use : Type 0 where
+  loadsSlot : ℕ → ℤ → Use
+  storesSlot : ℕ → ℤ → Use
+  movesStack : ℤ → Use
+  leavesStack : ℤ → Use
+  elsewhere : Use
+
+abbrev pub useOf : Instruction → Use
+useOf (Br mask n) = elsewhere
+useOf (AddRegister d a b) = elsewhere
+useOf (AddImmediate d a n) = cond (eqb d 6 && eqb a 6) (movesStack n) elsewhere
+useOf (Ld d n) = cond (eqb d 6) (leavesStack n) elsewhere
+useOf (St s n) = elsewhere
+useOf (Jsr n) = elsewhere
+useOf (Jsrr b) = elsewhere
+useOf (AndRegister d a b) = elsewhere
+useOf (AndImmediate d a n) = elsewhere
+useOf (Ldr d b n) = cond (eqb b 6) (loadsSlot d n) elsewhere
+useOf (Str s b n) = cond (eqb b 6) (storesSlot s n) elsewhere
+useOf Rti = elsewhere
+useOf (Not d a) = elsewhere
+useOf (Ldi d n) = elsewhere
+useOf (Sti s n) = elsewhere
+useOf (Jmp b) = elsewhere
+useOf (Reserved low) = elsewhere
+useOf (Lea d n) = elsewhere
+useOf (Trap vector) = elsewhere
+
+-- How far below the stack's beginning the word at R6 plus n is.
+abbrev pub slotOf : ℕ → ℤ → ℕ
+slotOf depth (pos n) = depth - n
+slotOf depth (negsuc n) = depth + suc n
+
+-- R6 is this, and so far below the stack's beginning.
+abbrev pub deeper : View → ℕ → View
+deeper v depth = record {
+  regs = v .regs;
+  pc = v .pc;
+  codes = v .codes;
+  cells = v .cells;
+  depth = depth;
+  bytes = v .bytes;
+  busy = v .busy;
+  mcr = v .mcr;
+  read = v .read;
+  status = v .status;
+}
+
+abbrev pub used : Frame → View → Use → View
+used f v (loadsSlot r n) = valued v r (slotAt f v (slotOf (v .depth) n)) (next (v .pc))
+used f v (storesSlot r n) =
+    changed v (v .regs) (next (v .pc)) (v .codes) (cell (slotOf (v .depth) n) (register (v .regs) r) ∷ v .cells)
+used f v (movesStack n) =
+    deeper (valued v 6 (f .sp - slotOf (v .depth) n) (next (v .pc))) (slotOf (v .depth) n)
+used f v (leavesStack n) = deeper (valued v 6 (wordAt f v (plus (next (v .pc)) n)) (next (v .pc))) 0
+used f v elsewhere = performed f v (planAt f v)
+
+-- The words of the stack that are in use, and that one, are among those that there are.
+abbrev pub onStack : Frame → View → ℤ → Bool
+onStack f v n =
+    (leb 1 (v .depth) && leb (v .depth) (f .words))
+    && (leb 1 (slotOf (v .depth) n) && leb (slotOf (v .depth) n) (f .words))
+
+-- R6 stays.
+abbrev pub isOther : ℕ → Bool
+isOther r = not (eqb (r % 8) 6)
+
+abbrev pub keepsSix : Plan → Bool
+keepsSix (Move r x pc) = isOther r
+keepsSix (Put r x pc) = isOther r
+keepsSix (Jump pc) = true
+keepsSix (Load r a) = isOther r
+keepsSix (LoadBy r a) = isOther r
+keepsSix (Store x a) = true
+keepsSix (StoreBy x a) = true
+keepsSix (Call vector) = true
+keepsSix Illegal = true
+keepsSix Return = true
+
+abbrev pub mayUse : Frame → View → ℕ → Use → Bool
+mayUse f v room (loadsSlot r n) = isOther r && onStack f v n
+mayUse f v room (storesSlot r n) = onStack f v n
+mayUse f v room (movesStack n) = onStack f v n
+mayUse f v room (leavesStack n) = isPlain (plus (next (v .pc)) n)
+mayUse f v room elsewhere = keepsSix (planAt f v) && mayPerform f v room (planAt f v)
+
+abbrev pub useAt : Frame → View → Use
+useAt f v = useOf (readOf (wordAt f v (v .pc)))
+
 unfoldable pub stepped : Frame → View → View
 unfolding planAt
-stepped f v = performed f v (planAt f v)
+stepped f v = used f v (useAt f v)
 
 unfoldable pub mayStep : Frame → ℕ → View → Bool
 unfolding planAt
-mayStep f room v = eqb (v .mcr) 0x8000 && (cellsFine (v .cells) && mayPerform f v room (planAt f v))
+mayStep f room v = eqb (v .mcr) 0x8000 && (cellsFine (f .words) (v .cells) && mayUse f v room (useAt f v))
+
+-- The plan of an instruction that uses the stack.
+abbrev PlanIs : Use → List ℕ → ℕ → Plan → Type 0
+PlanIs (loadsSlot r n) regs pc plan = plan ≡ Load r (plus (register regs 6) n)
+PlanIs (storesSlot r n) regs pc plan = plan ≡ Store (register regs r) (plus (register regs 6) n)
+PlanIs (movesStack n) regs pc plan = plan ≡ Move 6 (plus (register regs 6) n) (next pc)
+PlanIs (leavesStack n) regs pc plan = plan ≡ Load 6 (plus (next pc) n)
+PlanIs elsewhere regs pc plan = Unit {0}
+
+plan-by-use : (regs : List ℕ) (pc c : ℕ) (i : Instruction) → PlanIs (useOf i) regs pc (planOf regs pc c i)
+unfolding planBy
+plan-by-use regs pc c (Br mask n) = tt
+plan-by-use regs pc c (AddRegister d a b) = tt
+plan-by-use regs pc c (AddImmediate d a n) = go (eqb d 6 && eqb a 6) refl
+  where
+    go : (t : Bool) → (eqb d 6 && eqb a 6) ≡ t
+        → PlanIs (cond t (movesStack n) elsewhere) regs pc (Move d (plus (register regs a) n) (next pc))
+    go true e =
+        let both = both-true (eqb d 6) (eqb a 6) e in
+        let y : d ≡ 6 = eqb-true d 6 (both .0) in
+        let z : a ≡ 6 = eqb-true a 6 (both .1) in
+        rw (y, z)
+    go false e = tt
+plan-by-use regs pc c (Ld d n) = go (eqb d 6) refl
+  where
+    go : (t : Bool) → eqb d 6 ≡ t → PlanIs (cond t (leavesStack n) elsewhere) regs pc (Load d (plus (next pc) n))
+    go true e = let z : d ≡ 6 = eqb-true d 6 e in rw z
+    go false e = tt
+plan-by-use regs pc c (St s n) = tt
+plan-by-use regs pc c (Jsr n) = tt
+plan-by-use regs pc c (Jsrr b) = tt
+plan-by-use regs pc c (AndRegister d a b) = tt
+plan-by-use regs pc c (AndImmediate d a n) = tt
+plan-by-use regs pc c (Ldr d b n) = go (eqb b 6) refl
+  where
+    go : (t : Bool) → eqb b 6 ≡ t
+        → PlanIs (cond t (loadsSlot d n) elsewhere) regs pc (Load d (plus (register regs b) n))
+    go true e = let z : b ≡ 6 = eqb-true b 6 e in rw z
+    go false e = tt
+plan-by-use regs pc c (Str s b n) = go (eqb b 6) refl
+  where
+    go : (t : Bool) → eqb b 6 ≡ t
+        → PlanIs (cond t (storesSlot s n) elsewhere) regs pc (Store (register regs s) (plus (register regs b) n))
+    go true e = let z : b ≡ 6 = eqb-true b 6 e in rw z
+    go false e = tt
+plan-by-use regs pc c Rti = tt
+plan-by-use regs pc c (Not d a) = tt
+plan-by-use regs pc c (Ldi d n) = tt
+plan-by-use regs pc c (Sti s n) = tt
+plan-by-use regs pc c (Jmp b) = tt
+plan-by-use regs pc c (Reserved low) = tt
+plan-by-use regs pc c (Lea d n) = tt
+plan-by-use regs pc c (Trap vector) = tt
+
+-- The address is that word's.
+slot-address : {words sp : ℕ} → StackApart words sp → (depth : ℕ) (n : ℤ) → depth ≤ words → 1 ≤ slotOf depth n
+    → slotOf depth n ≤ words → plus (sp - depth) n ≡ sp - slotOf depth n
+slot-address apart depth (pos n) few least most = omega (arith, apart .above-monitor, apart .below-devices)
+slot-address apart depth (negsuc n) few least most = omega (arith, apart .above-monitor, apart .below-devices)
+
+-- There are eight registers, and R6 is where the view says.
+pub record Kept (f : Frame) (v : View) : Type 0 where
+  pub eight : length (v .regs) ≡ 8
+  pub six : 0 < v .depth → getD (v .regs) 6 0 ≡ f .sp - v .depth
+
+pub kept : {f : Frame} {v : View} → length (v .regs) ≡ 8 → getD (v .regs) 6 0 ≡ f .sp - v .depth → Kept f v
+kept eight six = record { eight = eight; six = λ h. six }
 
 -- ---- it is what the run does
 
 recodes : (q c x : ℕ) → c < 8 → (q * 8 + c) / 8 * 8 + x ≡ q * 8 + x
 recodes q c x h = omega arith
 
--- A routine runs in Supervisor mode, and the words that it uses are in the memory that it found.
+-- A routine runs in Supervisor mode, the words that it uses are in the memory that it found, and its stack is apart.
 pub record Sound (f : Frame) : Type 0 where
   pub above : f .high < 4096
   pub intact : Intact (f .uses) (f .memory)
+  pub stack : StackApart (f .words) (f .sp)
 
 -- One more byte is written behind those written.
 pub one-more-byte : (bytes output : List ℕ) (b : ℕ) → length bytes < length output
@@ -259,7 +424,7 @@ loud f v b l = record {
   shown = length-append (v .bytes) (b ∷ []);
 }
 
-module _ (f : Frame) (sound : Sound f) (v : View) (fine : cellsFine (v .cells) ≡ true) where
+module _ (f : Frame) (sound : Sound f) (v : View) (fine : cellsFine (f .words) (v .cells) ≡ true) where
   pub in-supervisor-mode : psrAt f v < 0x8000
   in-supervisor-mode = omega (arith, sound .above, codes-below (v .codes))
 
@@ -268,7 +433,12 @@ module _ (f : Frame) (sound : Sound f) (v : View) (fine : cellsFine (v .cells) �
   all-allowed a = allowed-in-supervisor-mode (psrAt f v) in-supervisor-mode a
 
   pub word-is : (a : ℕ) → getD (memoryAt f v) a 0 ≡ wordAt f v a
-  word-is a = word-with (sound .intact) (v .cells) fine a
+  word-is a = word-with (sound .intact) (sound .stack) (v .cells) fine a
+
+  pub slot-is : (i : ℕ) → 1 ≤ i → i ≤ f .words → wordAt f v (f .sp - i) ≡ slotAt f v i
+  slot-is i least most =
+      sym (word-is (f .sp - i))
+      ∙ slot-with (sound .stack) (f .memory) (sound .intact .size) (v .cells) fine i least most
 
   pub plan-is : planOf (v .regs) (v .pc) (psrAt f v) (readOf (getD (memoryAt f v) (v .pc) 0)) ≡ planAt f v
   unfolding planAt
@@ -323,13 +493,21 @@ module _ (f : Frame) (sound : Sound f) (v : View) (fine : cellsFine (v .cells) �
     shown = rw (all-allowed b);
   }
 
-  stores : (x b : ℕ) → b < 0xFE00
-      → Performs (Store x b) [] (changed v (v .regs) (next (v .pc)) (v .codes) (cell b x ∷ v .cells))
+  stores : (x i : ℕ) → f .sp - i < 0xFE00
+      → Performs (Store x (f .sp - i)) [] (changed v (v .regs) (next (v .pc)) (v .codes) (cell i x ∷ v .cells))
   unfolding performBy storeAtBy afterInstruction recoded storedBy
-  stores x b plain d t = record {
-    machine = rw (all-allowed b, plain-word b plain);
-    memory = rw (all-allowed b, plain-word b plain);
-    shown = rw (all-allowed b, plain-word b plain);
+  stores x i plain d t = record {
+    machine = rw (all-allowed (f .sp - i), plain-word (f .sp - i) plain);
+    memory = rw (all-allowed (f .sp - i), plain-word (f .sp - i) plain);
+    shown = rw (all-allowed (f .sp - i), plain-word (f .sp - i) plain);
+  }
+
+  -- What a view says of R6's place is no part of the machine.
+  elsewhere-below : (plan : Plan) (v′ : View) (depth : ℕ) → Performs plan [] v′ → Performs plan [] (deeper v′ depth)
+  elsewhere-below plan v′ depth g d t = record {
+    machine = g d t .machine;
+    memory = g d t .memory;
+    shown = g d t .shown;
   }
 
   -- A pointer that is a plain word.
@@ -376,25 +554,60 @@ module _ (f : Frame) (sound : Sound f) (v : View) (fine : cellsFine (v .cells) �
 
 -- ---- one step, and several
 
+-- A test of the stack, taken apart.
+record OnStack (f : Frame) (v : View) (n : ℤ) : Type 0 where
+  some : 0 < v .depth
+  few : v .depth ≤ f .words
+  least : 1 ≤ slotOf (v .depth) n
+  most : slotOf (v .depth) n ≤ f .words
+
+on-stack : (f : Frame) (v : View) (n : ℤ) → onStack f v n ≡ true → OnStack f v n
+on-stack f v n h =
+    let i : ℕ = slotOf (v .depth) n in
+    let outer = both-true (leb 1 (v .depth) && leb (v .depth) (f .words)) (leb 1 i && leb i (f .words)) h in
+    let first = both-true (leb 1 (v .depth)) (leb (v .depth) (f .words)) (outer .0) in
+    let second = both-true (leb 1 i) (leb i (f .words)) (outer .1) in
+    record {
+      some = leb-true 1 (v .depth) (first .0);
+      few = leb-true (v .depth) (f .words) (first .1);
+      least = leb-true 1 i (second .0);
+      most = leb-true i (f .words) (second .1);
+    }
+
+-- Another register than R6 changes.
+record Other (f : Frame) (v : View) (regs : List ℕ) : Type 0 where
+  eight : length regs ≡ 8
+  six : 0 < v .depth → getD regs 6 0 ≡ f .sp - v .depth
+
+not-six : (r : ℕ) → isOther r ≡ true → (6 ≡ r % 8 → ⊥)
+not-six r h e =
+    true≢false (sym h ∙ ap (λ (b : Bool). not b) (eq-eqb (r % 8) 6 (sym e)))
+
+other : (f : Frame) (v : View) → Kept f v → (r x : ℕ) → isOther r ≡ true → Other f v (withRegister (v .regs) r x)
+other f v k r x h = record {
+  eight = length-set (v .regs) (r % 8) x ∙ k .eight;
+  six = λ some. getD-set-other (v .regs) (r % 8) 6 x 0 (not-six r h) ∙ k .six some;
+}
+
 module _ {s : Start} {since bound : ℕ} (quiet : Quiet s since bound) (f : Frame) (sound : Sound f) (room : ℕ)
     (has-room : room ≤ length (f .output)) where
-  pub by-plan : (v : View) → v .mcr ≡ 0x8000 → cellsFine (v .cells) ≡ true → (plan : Plan) → planAt f v ≡ plan
-      → mayPerform f v room plan ≡ true → Leads s since bound f v 1 f (performed f v plan)
+  silently : (v : View) → v .mcr ≡ 0x8000 → (fine : cellsFine (f .words) (v .cells) ≡ true) → (plan : Plan) (v′ : View)
+      → planAt f v ≡ plan → v′ .bytes ≡ v .bytes → v′ .busy ≡ v .busy - 1 → v′ .read ≡ v .read
+      → v′ .status ≡ v .status → Performs f sound v fine plan [] v′ → Leads s since bound f v 1 f v′
+  silently v going fine plan v′ is p q r w h =
+      leads-by-one quiet
+      (λ k a still.
+      advance a still going f v′ [] (obeys-plan f sound v fine [] v′ (rw is h)) (silent f v v′ p q) r w)
+
+  pub by-plan : (v : View) → v .mcr ≡ 0x8000 → cellsFine (f .words) (v .cells) ≡ true → (plan : Plan)
+      → planAt f v ≡ plan → mayPerform f v room plan ≡ true → Leads s since bound f v 1 f (performed f v plan)
   by-plan v going fine plan is may = go plan is may
     where
-      silently : (plan : Plan) (v′ : View) → planAt f v ≡ plan → v′ .bytes ≡ v .bytes → v′ .busy ≡ v .busy - 1
-          → v′ .read ≡ v .read → v′ .status ≡ v .status → Performs f sound v fine plan [] v′
-          → Leads s since bound f v 1 f v′
-      silently plan v′ is p q r w h =
-          leads-by-one quiet
-          (λ k a still.
-          advance a still going f v′ [] (obeys-plan f sound v fine [] v′ (rw is h)) (silent f v v′ p q) r w)
-
       by-pointer : (x b : ℕ) → planAt f v ≡ StoreBy x b → b < 0xFE00 → (m : Bool) → eqb (wordAt f v b) MCR ≡ m
           → (m || eqb (wordAt f v b) DDR && (eqb (v .busy) 0 && ltb (length (v .bytes)) room)) ≡ true
           → Leads s since bound f v 1 f (cond m (clocked v x) (showing v (x % 256)))
       by-pointer x b is plain true e may =
-          silently (StoreBy x b) (clocked v x) is refl refl refl refl
+          silently v going fine (StoreBy x b) (clocked v x) is refl refl refl refl
           (clocks f sound v fine x b plain (eqb-true (wordAt f v b) MCR e))
       by-pointer x b is plain false e may =
           let outer = both-true (eqb (wordAt f v b) DDR) (eqb (v .busy) 0 && ltb (length (v .bytes)) room) may in
@@ -412,24 +625,21 @@ module _ {s : Start} {since bound : ℕ} (quiet : Quiet s since bound) (f : Fram
       go : (plan : Plan) → planAt f v ≡ plan → mayPerform f v room plan ≡ true
           → Leads s since bound f v 1 f (performed f v plan)
       go (Move r x pc) is may =
-          silently (Move r x pc) (valued v r x pc) is refl refl refl refl (moves f sound v fine r x pc)
+          silently v going fine (Move r x pc) (valued v r x pc) is refl refl refl refl (moves f sound v fine r x pc)
       go (Put r x pc) is may =
-          silently (Put r x pc) (changed v (withRegister (v .regs) r x) pc (v .codes) (v .cells)) is refl refl refl refl
-          (puts f sound v fine r x pc)
+          silently v going fine (Put r x pc) (changed v (withRegister (v .regs) r x) pc (v .codes) (v .cells)) is refl
+          refl refl refl (puts f sound v fine r x pc)
       go (Jump pc) is may =
-          silently (Jump pc) (changed v (v .regs) pc (v .codes) (v .cells)) is refl refl refl refl
+          silently v going fine (Jump pc) (changed v (v .regs) pc (v .codes) (v .cells)) is refl refl refl refl
           (jumps f sound v fine pc)
       go (Load r a) is may =
-          silently (Load r a) (valued v r (wordAt f v a) (next (v .pc))) is refl refl refl refl
+          silently v going fine (Load r a) (valued v r (wordAt f v a) (next (v .pc))) is refl refl refl refl
           (loads f sound v fine r a (ltb-true a 0xFE00 may))
       go (LoadBy r a) is may =
           let both = both-true (isPlain a) (eqb (wordAt f v a) DSR) may in
-          silently (LoadBy r a) (valued v r (displayAt v) (next (v .pc))) is refl refl refl refl
+          silently v going fine (LoadBy r a) (valued v r (displayAt v) (next (v .pc))) is refl refl refl refl
           (polls f sound v fine r a (ltb-true a 0xFE00 (both .0)) (eqb-true (wordAt f v a) DSR (both .1)))
-      go (Store x a) is may =
-          silently (Store x a) (changed v (v .regs) (next (v .pc)) (v .codes) (cell a x ∷ v .cells)) is refl refl refl
-          refl
-          (stores f sound v fine x a (ltb-true a 0xFE00 may))
+      go (Store x a) is may = absurd (true≢false (sym may))
       go (StoreBy x a) is may =
           let both = both-true (isPlain a)
           (eqb (wordAt f v a) MCR || eqb (wordAt f v a) DDR && (eqb (v .busy) 0 && ltb (length (v .bytes)) room)) may in
@@ -438,13 +648,104 @@ module _ {s : Start} {since bound : ℕ} (quiet : Quiet s since bound) (f : Fram
       go Illegal is may = absurd (true≢false (sym may))
       go Return is may = absurd (true≢false (sym may))
 
+  -- A step that uses the stack, or one that does not.
+  module _ (v : View) (going : v .mcr ≡ 0x8000) (fine : cellsFine (f .words) (v .cells) ≡ true) (k : Kept f v) where
+    abbrev slot : ℤ → ℕ
+    slot n = slotOf (v .depth) n
+
+    address : (n : ℤ) → OnStack f v n → plus (register (v .regs) 6) n ≡ f .sp - slot n
+    address n o =
+        ap (λ (x : ℕ). plus x n) (k .six (o .some))
+        ∙ slot-address (sound .stack) (v .depth) n (o .few) (o .least) (o .most)
+
+    plain : (n : ℤ) → OnStack f v n → f .sp - slot n < 0xFE00
+    plain n o = omega (arith, sound .stack .above-monitor, sound .stack .below-devices, o .least, o .most)
+
+    by-use : (u : Use) → PlanIs u (v .regs) (v .pc) (planAt f v) → mayUse f v room u ≡ true
+        → Leads s since bound f v 1 f (used f v u)
+    by-use (loadsSlot r n) is may =
+        let o = on-stack f v n (both-true (isOther r) (onStack f v n) may .1) in
+        silently v going fine (Load r (f .sp - slot n)) (valued v r (slotAt f v (slot n)) (next (v .pc)))
+        (is ∙ ap (λ (a : ℕ). Load r a) (address n o)) refl refl refl refl
+        (subst (λ (x : ℕ). Performs f sound v fine (Load r (f .sp - slot n)) [] (valued v r x (next (v .pc))))
+        (slot-is f sound v fine (slot n) (o .least) (o .most)) (loads f sound v fine r (f .sp - slot n) (plain n o)))
+    by-use (storesSlot r n) is may =
+        let o = on-stack f v n may in
+        silently v going fine (Store (register (v .regs) r) (f .sp - slot n)) (used f v (storesSlot r n))
+        (is ∙ ap (λ (a : ℕ). Store (register (v .regs) r) a) (address n o)) refl refl refl refl
+        (stores f sound v fine (register (v .regs) r) (slot n) (plain n o))
+    by-use (movesStack n) is may =
+        let o = on-stack f v n may in
+        let x : ℕ = f .sp - slot n in
+        silently v going fine (Move 6 x (next (v .pc))) (used f v (movesStack n))
+        (is ∙ ap (λ (y : ℕ). Move 6 y (next (v .pc))) (address n o)) refl refl refl refl
+        (elsewhere-below f sound v fine (Move 6 x (next (v .pc))) (valued v 6 x (next (v .pc))) (slot n)
+        (moves f sound v fine 6 x (next (v .pc))))
+    by-use (leavesStack n) is may =
+        let a : ℕ = plus (next (v .pc)) n in
+        silently v going fine (Load 6 a) (used f v (leavesStack n)) is refl refl refl refl
+        (elsewhere-below f sound v fine (Load 6 a) (valued v 6 (wordAt f v a) (next (v .pc))) 0
+        (loads f sound v fine 6 a (ltb-true a 0xFE00 may)))
+    by-use elsewhere is may =
+        by-plan v going fine (planAt f v) refl
+        (both-true (keepsSix (planAt f v)) (mayPerform f v room (planAt f v)) may .1)
+
+    by-plan-keeps : (plan : Plan) → keepsSix plan ≡ true → Kept f (performed f v plan)
+    by-plan-keeps (Move r x pc) h =
+        let o = other f v k r x h in
+        record { eight = o .eight; six = o .six }
+    by-plan-keeps (Put r x pc) h =
+        let o = other f v k r x h in
+        record { eight = o .eight; six = o .six }
+    by-plan-keeps (Jump pc) h = record { eight = k .eight; six = k .six }
+    by-plan-keeps (Load r a) h =
+        let o = other f v k r (wordAt f v a) h in
+        record { eight = o .eight; six = o .six }
+    by-plan-keeps (LoadBy r a) h =
+        let o = other f v k r (displayAt v) h in
+        record { eight = o .eight; six = o .six }
+    by-plan-keeps (Store x a) h = k
+    by-plan-keeps (StoreBy x a) h = go (eqb (wordAt f v a) MCR)
+      where
+        go : (b : Bool) → Kept f (cond b (clocked v x) (showing v (x % 256)))
+        go true = record { eight = k .eight; six = k .six }
+        go false = record { eight = k .eight; six = k .six }
+    by-plan-keeps (Call vector) h = k
+    by-plan-keeps Illegal h = k
+    by-plan-keeps Return h = k
+
+    by-use-keeps : (u : Use) → mayUse f v room u ≡ true → Kept f (used f v u)
+    by-use-keeps (loadsSlot r n) may =
+        let o = other f v k r (slotAt f v (slot n)) (both-true (isOther r) (onStack f v n) may .0) in
+        record { eight = o .eight; six = o .six }
+    by-use-keeps (storesSlot r n) may = record { eight = k .eight; six = k .six }
+    by-use-keeps (movesStack n) may = record {
+      eight = length-set (v .regs) 6 (f .sp - slot n) ∙ k .eight;
+      six = λ h. getD-set-same (v .regs) 6 (f .sp - slot n) 0 (omega (arith, k .eight));
+    }
+    by-use-keeps (leavesStack n) may = record {
+      eight = length-set (v .regs) 6 (wordAt f v (plus (next (v .pc)) n)) ∙ k .eight;
+      six = λ h. absurd (omega arith);
+    }
+    by-use-keeps elsewhere may =
+        by-plan-keeps (planAt f v) (both-true (keepsSix (planAt f v)) (mayPerform f v room (planAt f v)) may .0)
+
   -- One step.
-  pub steps-once : (v : View) → mayStep f room v ≡ true → Leads s since bound f v 1 f (stepped f v)
-  unfolding stepped mayStep
-  steps-once v may =
-      let outer = both-true (eqb (v .mcr) 0x8000) (cellsFine (v .cells) && mayPerform f v room (planAt f v)) may in
-      let inner = both-true (cellsFine (v .cells)) (mayPerform f v room (planAt f v)) (outer .1) in
-      by-plan v (eqb-true (v .mcr) 0x8000 (outer .0)) (inner .0) (planAt f v) refl (inner .1)
+  pub steps-once : (v : View) → Kept f v → mayStep f room v ≡ true
+      → Leads s since bound f v 1 f (stepped f v) × Kept f (stepped f v)
+  unfolding stepped mayStep planAt
+  steps-once v k may =
+      let outer = both-true (eqb (v .mcr) 0x8000) (cellsFine (f .words) (v .cells) && mayUse f v room (useAt f v)) may
+      in
+      let inner = both-true (cellsFine (f .words) (v .cells)) (mayUse f v room (useAt f v)) (outer .1) in
+      let going : v .mcr ≡ 0x8000 = eqb-true (v .mcr) 0x8000 (outer .0) in
+      (
+        by-use v going (inner .0) k (useAt f v)
+            (plan-by-use (v .regs) (v .pc) (codesFor (v .codes) (readOf (wordAt f v (v .pc))))
+            (readOf (wordAt f v (v .pc))))
+            (inner .1),
+        by-use-keeps v going (inner .0) k (useAt f v) (inner .1),
+      )
 
 -- n steps, and whether they may be made.
 unfoldable pub steppedBy : ℕ → Frame → View → View
@@ -458,18 +759,19 @@ maySteps (suc n) f room v = mayStep f room v && maySteps n f room (stepped f v)
 module _ {s : Start} {since bound : ℕ} (quiet : Quiet s since bound) (f : Frame) (sound : Sound f) (room : ℕ)
     (has-room : room ≤ length (f .output)) where
   abbrev Runs : ℕ → Type 0
-  Runs n = (v : View) → maySteps n f room v ≡ true → Leads s since bound f v n f (steppedBy n f v)
+  Runs n = (v : View) → Kept f v → maySteps n f room v ≡ true → Leads s since bound f v n f (steppedBy n f v)
 
   one-more-step : (n : ℕ) → Runs n → Runs (suc n)
   unfolding steppedBy maySteps
-  one-more-step n rest v may =
+  one-more-step n rest v k may =
       let both = both-true (mayStep f room v) (maySteps n f room (stepped f v)) may in
       let z : 1 + n ≡ suc n = omega arith in
-      rw z at (then (steps-once quiet f sound room has-room v (both .0)) (rest (stepped f v) (both .1)))
+      let first = steps-once quiet f sound room has-room v k (both .0) in
+      rw z at (then (first .0) (rest (stepped f v) (first .1) (both .1)))
 
   none : Runs zero
   unfolding steppedBy
-  none v may = no-step f v
+  none v k may = no-step f v
 
   pub runs : (n : ℕ) → Runs n
   runs zero = none

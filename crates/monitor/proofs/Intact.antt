@@ -1,5 +1,5 @@
--- A memory that holds the monitor's words which a routine uses, and the words of a view: those stored last, the
--- routine's, and all others.
+-- A memory that holds the monitor's words which a routine uses, and the words of a view: the routine's, those of the
+-- stack, and all others.
 use Prim.Native.Nat.{ℕ, _+_, _-_, _≤_, _<_}
 use native.Mathlib.Omega.{arith}
 use mathlib.Core.Path.{_≡_, refl, sym, ap, _∙_}
@@ -13,8 +13,9 @@ use Rattle.machine.proofs.Tests.{both-true}
 use Rattle.monitor.specs.Vectors.{vectorWord, vectorsFrom, vectorTable, ours}
 use Rattle.monitor.specs.Routines.{routineWords, monitorWords}
 use Rattle.monitor.specs.Uses.{HasWords}
+use Rattle.monitor.specs.Calls.{StackApart}
 use Rattle.monitor.proofs.VectorLaws.{table-holds}
-use Rattle.monitor.proofs.Execution.{Frame, Cell, View, memoryWith}
+use Rattle.monitor.proofs.Execution.{Frame, Cell, View, memoryWith, memoryAt}
 
 -- The words x0000 to x02A4.
 pub monitor-length : length monitorWords ≡ 0x02A5
@@ -55,59 +56,86 @@ vector-word i a h used = i .words a used ∙ monitor-vector a h
 
 -- ---- the words of a view
 
--- The words stored since are plain words above the monitor's.
-abbrev pub cellsFine : List Cell → Bool
-cellsFine [] = true
-cellsFine (c ∷ cells) = leb 0x02A5 (c .address) && ltb (c .address) 0xFE00 && cellsFine cells
+-- The words stored since are words of the stack.
+abbrev pub cellsFine : ℕ → List Cell → Bool
+cellsFine words [] = true
+cellsFine words (c ∷ cells) = leb 1 (c .slot) && leb (c .slot) words && cellsFine words cells
 
--- The word at a.
-unfoldable pub wordWith : (ℕ → Bool) → List ℕ → List Cell → ℕ → ℕ
+pub cells-fine : (words : ℕ) (c : Cell) (cells : List Cell) → cellsFine words (c ∷ cells) ≡ true
+    → (1 ≤ c .slot) × (c .slot ≤ words) × (cellsFine words cells ≡ true)
+cells-fine words c cells h =
+    let outer = both-true (leb 1 (c .slot) && leb (c .slot) words) (cellsFine words cells) h in
+    let inner = both-true (leb 1 (c .slot)) (leb (c .slot) words) (outer .0) in
+    (leb-true 1 (c .slot) (inner .0), leb-true (c .slot) words (inner .1), outer .1)
+
+pub size-with : (sp : ℕ) (mem : List ℕ) (cells : List Cell) → length (memoryWith sp mem cells) ≡ length mem
+size-with sp mem [] = refl
+size-with sp mem (c ∷ cells) =
+    length-set (memoryWith sp mem cells) (sp - c .slot) (c .value) ∙ size-with sp mem cells
+
+-- The monitor's own words are none of the stack's.
+pub low-word : {words sp : ℕ} → StackApart words sp → (mem : List ℕ) (cells : List Cell) → cellsFine words cells ≡ true
+    → (a : ℕ) → a < 0x02A5 → getD (memoryWith sp mem cells) a 0 ≡ getD mem a 0
+low-word apart mem [] fine a h = refl
+low-word {words} {sp} apart mem (c ∷ cells) fine a h =
+    let w = cells-fine words c cells fine in
+    let most : c .slot ≤ words = w .1 in
+    let above : 0x02A5 + words ≤ sp = apart .above-monitor in
+    getD-set-other (memoryWith sp mem cells) (sp - c .slot) a (c .value) 0 (λ e. omega arith)
+    ∙ low-word apart mem cells (w .2) a h
+
+-- The word at a: one that the routine uses, or whatever memory has.
+unfoldable pub wordWith : (ℕ → Bool) → List ℕ → ℕ → ℕ
 unfolding routineWords
-wordWith uses mem [] a = cond (leb 0x0200 a && uses a) (getD routineWords (a - 0x0200) 0) (getD mem a 0)
-wordWith uses mem (c ∷ cells) a = cond (eqb a (c .address)) (c .value) (wordWith uses mem cells a)
+wordWith uses mem a =
+    cond (leb 0x0200 a && (ltb a 0x02A5 && uses a)) (getD routineWords (a - 0x0200) 0) (getD mem a 0)
 
 abbrev pub wordAt : Frame → View → ℕ → ℕ
-wordAt f v a = wordWith (f .uses) (f .memory) (v .cells) a
+wordAt f v a = wordWith (f .uses) (memoryAt f v) a
 
-pub size-with : (mem : List ℕ) (cells : List Cell) → length (memoryWith mem cells) ≡ length mem
-size-with mem [] = refl
-size-with mem (c ∷ cells) = length-set (memoryWith mem cells) (c .address) (c .value) ∙ size-with mem cells
-
-pub word-with : {uses : ℕ → Bool} {mem : List ℕ} → Intact uses mem → (cells : List Cell) → cellsFine cells ≡ true
-    → (a : ℕ) → getD (memoryWith mem cells) a 0 ≡ wordWith uses mem cells a
+pub word-with : {uses : ℕ → Bool} {mem : List ℕ} → Intact uses mem → {words sp : ℕ} → StackApart words sp
+    → (cells : List Cell) → cellsFine words cells ≡ true → (a : ℕ)
+    → getD (memoryWith sp mem cells) a 0 ≡ wordWith uses (memoryWith sp mem cells) a
 unfolding wordWith
-word-with {uses} {mem} i [] fine a = go (leb 0x0200 a && uses a) refl
+word-with {uses} {mem} i {words} {sp} apart cells fine a = go (leb 0x0200 a && (ltb a 0x02A5 && uses a)) refl
   where
-    go : (b : Bool) → (leb 0x0200 a && uses a) ≡ b
-        → getD mem a 0 ≡ cond b (getD routineWords (a - 0x0200) 0) (getD mem a 0)
+    go : (b : Bool) → (leb 0x0200 a && (ltb a 0x02A5 && uses a)) ≡ b
+        → getD (memoryWith sp mem cells) a 0
+        ≡ cond b (getD routineWords (a - 0x0200) 0) (getD (memoryWith sp mem cells) a 0)
     go true e =
-        let both = both-true (leb 0x0200 a) (uses a) e in
-        routine-word i a (leb-true 0x0200 a (both .0)) (both .1)
+        let outer = both-true (leb 0x0200 a) (ltb a 0x02A5 && uses a) e in
+        let inner = both-true (ltb a 0x02A5) (uses a) (outer .1) in
+        low-word apart mem cells fine a (ltb-true a 0x02A5 (inner .0))
+        ∙ routine-word i a (leb-true 0x0200 a (outer .0)) (inner .1)
     go false e = refl
-word-with {uses} {mem} i (c ∷ cells) fine a =
-    let outer = both-true (leb 0x02A5 (c .address) && ltb (c .address) 0xFE00) (cellsFine cells) fine in
-    let inner = both-true (leb 0x02A5 (c .address)) (ltb (c .address) 0xFE00) (outer .0) in
-    go (eqb a (c .address)) refl (ltb-true (c .address) 0xFE00 (inner .1)) (word-with i cells (outer .1) a)
-  where
-    go : (b : Bool) → eqb a (c .address) ≡ b → c .address < 0xFE00
-        → getD (memoryWith mem cells) a 0 ≡ wordWith uses mem cells a
-        → getD (set (memoryWith mem cells) (c .address) (c .value)) a 0
-        ≡ cond b (c .value) (wordWith uses mem cells a)
-    go true e l ih =
-        let z : a ≡ c .address = eqb-true a (c .address) e in
-        rw z
-        (getD-set-same (memoryWith mem cells) (c .address) (c .value) 0
-        (omega (arith, l, size-with mem cells, i .size)))
-    go false e l ih =
-        getD-set-other (memoryWith mem cells) (c .address) a (c .value) 0 (eqb-false a (c .address) e) ∙ ih
 
--- The monitor's own words are none of them.
-pub low-word : (mem : List ℕ) (cells : List Cell) → cellsFine cells ≡ true → (a : ℕ) → a < 0x02A5
-    → getD (memoryWith mem cells) a 0 ≡ getD mem a 0
-low-word mem [] fine a h = refl
-low-word mem (c ∷ cells) fine a h =
-    let outer = both-true (leb 0x02A5 (c .address) && ltb (c .address) 0xFE00) (cellsFine cells) fine in
-    let inner = both-true (leb 0x02A5 (c .address)) (ltb (c .address) 0xFE00) (outer .0) in
-    let l : 0x02A5 ≤ c .address = leb-true 0x02A5 (c .address) (inner .0) in
-    getD-set-other (memoryWith mem cells) (c .address) a (c .value) 0 (λ e. omega arith)
-    ∙ low-word mem cells (outer .1) a h
+-- The word of the stack that is i below its beginning.
+abbrev pub slotWith : ℕ → List ℕ → List Cell → ℕ → ℕ
+slotWith sp mem [] i = getD mem (sp - i) 0
+slotWith sp mem (c ∷ cells) i = cond (eqb i (c .slot)) (c .value) (slotWith sp mem cells i)
+
+abbrev pub slotAt : Frame → View → ℕ → ℕ
+slotAt f v i = slotWith (f .sp) (f .memory) (v .cells) i
+
+pub slot-with : {words sp : ℕ} → StackApart words sp → (mem : List ℕ) → length mem ≡ 65536 → (cells : List Cell)
+    → cellsFine words cells ≡ true → (i : ℕ) → 1 ≤ i → i ≤ words
+    → getD (memoryWith sp mem cells) (sp - i) 0 ≡ slotWith sp mem cells i
+slot-with apart mem size [] fine i least most = refl
+slot-with {words} {sp} apart mem size (c ∷ cells) fine i least most =
+    let w = cells-fine words c cells fine in
+    go (eqb i (c .slot)) refl (w .0) (w .1) (apart .above-monitor) (apart .below-devices)
+    (slot-with apart mem size cells (w .2) i least most)
+  where
+    go : (b : Bool) → eqb i (c .slot) ≡ b → 1 ≤ c .slot → c .slot ≤ words → 0x02A5 + words ≤ sp → sp ≤ 0xFE00
+        → getD (memoryWith sp mem cells) (sp - i) 0 ≡ slotWith sp mem cells i
+        → getD (set (memoryWith sp mem cells) (sp - c .slot) (c .value)) (sp - i) 0
+        ≡ cond b (c .value) (slotWith sp mem cells i)
+    go true e l m above below ih =
+        let z : i ≡ c .slot = eqb-true i (c .slot) e in
+        rw z
+        (getD-set-same (memoryWith sp mem cells) (sp - c .slot) (c .value) 0
+        (omega (arith, size-with sp mem cells, size)))
+    go false e l m above below ih =
+        getD-set-other (memoryWith sp mem cells) (sp - c .slot) (sp - i) (c .value) 0
+        (λ q. eqb-false i (c .slot) e (omega arith))
+        ∙ ih

@@ -39,6 +39,7 @@ keyRead s k v r = record {
   pc = next (v .pc);
   codes = from (keyIn s k);
   cells = v .cells;
+  depth = v .depth;
   bytes = v .bytes;
   busy = v .busy - 1;
   mcr = v .mcr;
@@ -47,7 +48,7 @@ keyRead s k v r = record {
 }
 
 module _ {s : Start} {since k : ℕ} (f : Frame) (sound : Sound f) (v : View) (going : v .mcr ≡ 0x8000)
-    (fine : cellsFine (v .cells) ≡ true) (r b : ℕ) (plan : planAt f v ≡ LoadBy r b) (plain : b < 0xFE00)
+    (fine : cellsFine (f .words) (v .cells) ≡ true) (r b : ℕ) (plan : planAt f v ≡ LoadBy r b) (plain : b < 0xFE00)
     (a : At s since k f v) (still : QuietStep s k) where
   status-given : wordAt f v b ≡ KBSR → (d : Devices) (t x : ℕ) → d .kbsr ≡ x
       → Gives (perform (LoadBy r b) (machineAt f v d t) (memoryAt f v)) [] (v .busy) f (valued v r x (next (v .pc))) d t
@@ -148,7 +149,7 @@ pub record Turned (s : Start) (k : ℕ) (f : Frame) (v : View) (regs : List ℕ)
   pub at : At s 0 k f (within v regs-now p codes busy-now)
 
 module _ {s : Start} {bound : ℕ} (quiet : Quiet s 0 bound) (f : Frame) (sound : Sound f) (v : View)
-    (going : v .mcr ≡ 0x8000) (fine : cellsFine (v .cells) ≡ true) (unread : v .read ≡ 0)
+    (going : v .mcr ≡ 0x8000) (fine : cellsFine (f .words) (v .cells) ≡ true) (unread : v .read ≡ 0)
     (status : v .status ≡ s .machine .devices .kbsr) (r p : ℕ) (q : Keys f v r p) where
   -- LDI finds KBSR so.
   polls : (k : ℕ) → k < bound → (regs : List ℕ) (c : Known) (busy : ℕ) → At s 0 k f (within v regs p c busy)

@@ -14,15 +14,15 @@ use Rattle.run.proofs.Acceptance.{accepted-is-acceptable}
 use Rattle.monitor.specs.Vectors.{vectorWord}
 use Rattle.monitor.specs.Uses.{withVector, outCode}
 use Rattle.monitor.specs.Out.{CallsOut, Uninterrupted, Resumed, waitSteps, outSteps, outStepsOf, OutShows}
-use Rattle.monitor.specs.Calls.{Calls, NoInterrupt, takes-none, none-enabled, notRead, Resumes}
+use Rattle.monitor.specs.Calls.{stackOf, Calls, NoInterrupt, takes-none, none-enabled, notRead, Resumes}
 use Rattle.monitor.specs.OutBothModes.{OutResumes}
 use Rattle.monitor.proofs.Execution.{Frame, View, from, At, Quiet, Leads, then}
 use Rattle.monitor.proofs.Intact.{monitor-word}
 use Rattle.monitor.proofs.UseLaws.{with-vector-below, out-below}
-use Rattle.monitor.proofs.Instructions.{Sound, steppedBy, runs, one-more-byte, computing}
-use Rattle.monitor.proofs.Entries.{calledFrame, called-sound, Polls, within, waits}
-use Rattle.monitor.proofs.Calls.{is-intact, quiet-steps, was-uninterrupted, Eight, eight, begun}
-use Rattle.monitor.proofs.Calls.{routine-begins, AtReturn, cellsWithin, backFrame, backView, at-back}
+use Rattle.monitor.proofs.Instructions.{Sound, kept, steppedBy, runs, one-more-byte, computing}
+use Rattle.monitor.proofs.Entries.{calledFrame, Polls, within, waits}
+use Rattle.monitor.proofs.Calls.{begins-sound, quiet-steps, was-uninterrupted, Eight, eight, begun}
+use Rattle.monitor.proofs.Calls.{routine-begins, AtReturn, backFrame, backView, at-back}
 use Rattle.monitor.proofs.Calls.{comes-back, none-read}
 
 abbrev uses : ℕ → Bool
@@ -30,7 +30,7 @@ uses = withVector 0x21 outCode
 
 module _ (user : Bool) (s : Start) (x : Eight (s .machine .regs)) where
   abbrev f : Frame
-  f = calledFrame uses user s
+  f = calledFrame uses 3 user s
 
   abbrev busy : ℕ
   busy = s .machine .devices .busy
@@ -52,7 +52,7 @@ module _ (user : Bool) (s : Start) (x : Eight (s .machine .regs)) where
   module _ (bound : ℕ) (quiet : Quiet s 0 bound) (sound : Sound f) (free : 1 ≤ length (s .output)) where
     to-poll : Leads s 0 bound f (begun s x 0x0204 (next (s .machine .pc))) 2 f polling
     unfolding polling computing
-    to-poll = runs quiet f sound 0 (omega arith) 2 (begun s x 0x0204 (next (s .machine .pc))) refl
+    to-poll = runs quiet f sound 0 (omega arith) 2 (begun s x 0x0204 (next (s .machine .pc))) (kept refl refl) refl
 
     to-ready : Leads s 0 bound f polling (waitSteps (busy - 1 - 1 - 1)) f ready
     unfolding polling ready computing
@@ -61,13 +61,13 @@ module _ (user : Bool) (s : Start) (x : Eight (s .machine .regs)) where
 
     to-return : Leads s 0 bound f ready 3 f returning
     unfolding polling ready returning computing
-    to-return = runs quiet f sound 1 free 3 ready refl
+    to-return = runs quiet f sound 1 free 3 ready (kept refl refl) refl
 
     routine : Leads s 0 bound f (begun s x 0x0204 (next (s .machine .pc))) (2 + (waitSteps (busy - 1 - 1 - 1) + 3)) f
         returning
     routine = then to-poll (then to-ready to-return)
 
-  at-return : AtReturn uses user s returning
+  at-return : AtReturn uses 3 user s returning
   unfolding returning ready polling computing
   at-return = record { plan = refl; six = refl; pc = refl; psr = refl; fine = refl; going = refl }
 
@@ -82,7 +82,7 @@ few-steps busy h = omega (arith, wait-at-most (busy - 1 - 1 - 1))
 
 -- ---- a call from either mode
 
-module _ (user : Bool) (s : Start) (n : ℕ) (c : Calls 0x21 outCode user s n) (free : 0 < length (s .output))
+module _ (user : Bool) (s : Start) (n : ℕ) (c : Calls 0x21 outCode 3 user s n) (free : 0 < length (s .output))
     (le : outStepsOf s ≤ n) (none : NoInterrupt s (outStepsOf s)) (x : Eight (s .machine .regs)) where
   -- the steps before RTI
   abbrev j : ℕ
@@ -100,16 +100,12 @@ module _ (user : Bool) (s : Start) (n : ℕ) (c : Calls 0x21 outCode user s n) (
   at-rti : At s 0 j (f user s x) (returning user s x)
   unfolding vectorWord
   at-rti =
-      routine user s x (j + 1) quiet (called-sound uses user s (is-intact s n (c .begins))) free .on (omega arith)
-      (routine-begins outCode user s n (j + 1) x 0x21 0x0204 c quiet (omega arith) (omega arith) refl)
+      routine user s x (j + 1) quiet (begins-sound s n (c .begins)) free .on (omega arith)
+      (routine-begins outCode 3 user s n (j + 1) x 0x21 0x0204 c (omega arith) quiet (omega arith) (omega arith) refl)
 
   restored : set (returning user s x .regs) 6 (getD (s .machine .regs) 6 0) ≡ s .machine .regs
   unfolding returning ready polling computing
   restored = rw (x .are)
-
-  stack-only : cellsWithin 0x2FFD (returning user s x .cells) ≡ true
-  unfolding returning ready polling computing
-  stack-only = refl
 
   the-byte : returning user s x .bytes ≡ (getD (s .machine .regs) 0 0 % 256) ∷ []
   unfolding returning ready polling computing
@@ -123,16 +119,15 @@ module _ (user : Bool) (s : Start) (n : ℕ) (c : Calls 0x21 outCode user s n) (
   unfolding returning ready polling computing
   untouched = (refl, refl)
 
-  at-end : At s 0 (j + 1) (backFrame uses user s) (backView uses user s (returning user s x))
+  at-end : At s 0 (j + 1) (backFrame uses 3 user s) (backView uses 3 user s (returning user s x))
   at-end =
-      at-back uses user s n j (returning user s x) (c .begins) quiet at-rti (at-return user s x) enough 0x2FFD
-      stack-only (s .machine .regs) restored 5 five
+      at-back uses 3 user s n j (returning user s x) (c .begins) (omega arith) quiet at-rti (at-return user s x) enough
 
-  resumed : Resumes s n (j + 1) ((getD (s .machine .regs) 0 0 % 256) ∷ []) 5 0x2FFD (s .machine .regs) (notRead s)
+  resumed : Resumes s n (j + 1) ((getD (s .machine .regs) 0 0 % 256) ∷ []) 5 3 (s .machine .regs) (notRead s)
   resumed =
-      subst (λ (bytes : List ℕ). Resumes s n (j + 1) bytes 5 0x2FFD (s .machine .regs) (notRead s)) the-byte
-      (comes-back uses user s n j (returning user s x) (c .begins) quiet at-rti (at-return user s x) enough 0x2FFD
-      stack-only (s .machine .regs) restored 5 five (notRead s)
+      subst (λ (bytes : List ℕ). Resumes s n (j + 1) bytes 5 3 (s .machine .regs) (notRead s)) the-byte
+      (comes-back uses 3 user s n j (returning user s x) (c .begins) (omega arith) quiet at-rti (at-return user s x)
+      enough (s .machine .regs) restored 5 five (notRead s)
       (none-read s (returning user s x) (untouched .0) (untouched .1)))
 
 pub out-resumes : OutResumes
@@ -142,7 +137,11 @@ out-resumes user s n c free le none =
 
 -- ---- a call from User mode with all of the monitor's words intact
 
-calls : (s : Start) (n : ℕ) → CallsOut s n → Calls 0x21 outCode true s n
+-- The stack is at x3000.
+at-3000 : (s : Start) (n : ℕ) → CallsOut s n → stackOf (s .machine) ≡ 0x3000
+at-3000 s n c = rw (c .user-mode) (c .stack)
+
+calls : (s : Start) (n : ℕ) → CallsOut s n → Calls 0x21 outCode 3 true s n
 unfolding deniedBy
 calls s n c = record {
   begins = record {
@@ -151,7 +150,10 @@ calls s n c = record {
     mode = c .user-mode;
     intact = λ a used. monitor-word (s .memory) (c .intact) a
         (with-vector-below 0x21 outCode (omega arith) out-below a used);
-    stack = c .stack;
+    stack = record {
+      above-monitor = omega (arith, at-3000 s n c);
+      below-devices = omega (arith, at-3000 s n c);
+    };
     mcr = c .mcr;
   };
   may-fetch = rw (c .user-mode) (c .user-address);
@@ -203,8 +205,9 @@ module _ (s : Start) (n : ℕ) (c : CallsOut s n) (none : NoInterrupt s (outStep
         busy = l .display;
         timer = l .timer;
         clock = l .clock;
-        words-below = shorter (callOf s (outStepsOf s) .memory) (s .memory) (l .words-below);
-        words-above = l .words-above;
+        words-below = shorter (callOf s (outStepsOf s) .memory) (s .memory)
+            (rw (at-3000 s n c) at (l .words-below));
+        words-above = rw (at-3000 s n c) at (l .words-above);
       }
 
 pub out-shows : OutShows

@@ -18,15 +18,15 @@ use Rattle.run.specs.Run.{Start}
 use Rattle.run.proofs.Acceptance.{accepted-is-acceptable}
 use Rattle.monitor.specs.Vectors.{vectorWord}
 use Rattle.monitor.specs.Uses.{withVector, putspCode}
-use Rattle.monitor.specs.Calls.{Calls, notRead, Resumes, Halts}
-use Rattle.monitor.specs.Puts.{mayRead, StringFrom, lookSteps, r0}
+use Rattle.monitor.specs.Calls.{stackOf, Calls, notRead, Resumes, Halts}
+use Rattle.monitor.specs.Puts.{mayReadOf, StringFrom, lookSteps, r0}
 use Rattle.monitor.specs.Putsp.{AreWords, unlessZero, pairBytes, shiftSteps, byteSteps, pairSteps, pairsSteps}
 use Rattle.monitor.specs.Putsp.{putspSteps, refusedPairSteps, PutspShows}
 use Rattle.monitor.proofs.Execution.{Frame, Known, from, codesNumber, cell, View, At, Quiet, Leads}
 use Rattle.monitor.proofs.Execution.{then, no-step}
-use Rattle.monitor.proofs.Instructions.{Sound, steppedBy, runs, computing}
-use Rattle.monitor.proofs.Entries.{calledFrame, called-sound, recoded}
-use Rattle.monitor.proofs.Calls.{is-intact, quiet-steps, Eight, eight, begun, routine-begins, halts}
+use Rattle.monitor.proofs.Instructions.{Sound, kept, steppedBy, runs, computing}
+use Rattle.monitor.proofs.Entries.{calledFrame, recoded}
+use Rattle.monitor.proofs.Calls.{begins-sound, quiet-steps, Eight, eight, begun, routine-begins, halts}
 use Rattle.monitor.proofs.Calls.{as-before, AtReturn, comes-back, none-read}
 use Rattle.monitor.proofs.Strings.{readable, negative, positive, Looks, Comes, look-at, look-refused}
 use Rattle.monitor.proofs.Strings.{below-two, gets-word}
@@ -73,7 +73,7 @@ uses = withVector 0x24 putspCode
 
 module _ (user : Bool) (s : Start) (x : Eight (s .machine .regs)) where
   abbrev f : Frame
-  f = calledFrame uses user s
+  f = calledFrame uses 6 user s
 
   abbrev psr : ℕ
   psr = s .machine .psr
@@ -81,16 +81,17 @@ module _ (user : Bool) (s : Start) (x : Eight (s .machine .regs)) where
   -- R0 to R3, PC, codes, bytes shown and busy count are all that changes.
   abbrev W : ℕ → ℕ → ℕ → ℕ → ℕ → Known → List ℕ → ℕ → View
   W r₃ a r₁ r₂ pc c bytes busy = record {
-    regs = a ∷ r₁ ∷ r₂ ∷ r₃ ∷ x .r₄ ∷ x .r₅ ∷ 0x2FFA ∷ x .r₇ ∷ [];
+    regs = a ∷ r₁ ∷ r₂ ∷ r₃ ∷ x .r₄ ∷ x .r₅ ∷ (stackOf (s .machine) - 6) ∷ x .r₇ ∷ [];
     pc = pc;
     codes = c;
-    cells = cell 0x2FFD (x .r₃)
-        ∷ cell 0x2FFC (x .r₂)
-        ∷ cell 0x2FFB (x .r₁)
-        ∷ cell 0x2FFA (x .r₀)
-        ∷ cell 0x2FFE (next (s .machine .pc))
-        ∷ cell 0x2FFF psr
+    cells = cell 3 (x .r₃)
+        ∷ cell 4 (x .r₂)
+        ∷ cell 5 (x .r₁)
+        ∷ cell 6 (x .r₀)
+        ∷ cell 2 (next (s .machine .pc))
+        ∷ cell 1 psr
         ∷ [];
+    depth = 6;
     bytes = bytes;
     busy = busy;
     mcr = 0x8000;
@@ -100,10 +101,10 @@ module _ (user : Bool) (s : Start) (x : Eight (s .machine .regs)) where
 
   module _ (bound : ℕ) (quiet : Quiet s 0 bound) (sound : Sound f) where
     begins : Leads s 0 bound f (begun s x 0x023D (next (s .machine .pc))) 5 f
-        (W (x .r₃) (x .r₀) (x .r₁) (x .r₂) 0x0242 (from 0x2FFA) []
+        (W (x .r₃) (x .r₀) (x .r₁) (x .r₂) 0x0242 (from (stackOf (s .machine) - 6)) []
         (s .machine .devices .busy - 1 - 1 - 1 - 1 - 1 - 1))
     unfolding computing
-    begins = runs quiet f sound 0 (omega arith) 5 (begun s x 0x023D (next (s .machine .pc))) refl
+    begins = runs quiet f sound 0 (omega arith) 5 (begun s x 0x023D (next (s .machine .pc))) (kept refl refl) refl
 
     known : (r₃ a r₁ r₂ pc : ℕ) (c c′ : Known) (bytes : List ℕ) (busy : ℕ) → codesNumber c ≡ codesNumber c′
         → Leads s 0 bound f (W r₃ a r₁ r₂ pc c bytes busy) 0 f (W r₃ a r₁ r₂ pc c′ bytes busy)
@@ -112,42 +113,42 @@ module _ (user : Bool) (s : Start) (x : Eight (s .machine .regs)) where
     looks : (r₃ : ℕ) → Looks s bound f (W r₃) psr 0x0242 0x0243 0x0246 0x0249 0x024A 0x0268
     unfolding computing
     looks r₃ = record {
-      loads-psr = λ a r₁ r₂ c bytes busy. runs quiet f sound 0 (omega arith) 1 (W r₃ a r₁ r₂ 0x0242 c bytes busy) refl;
+      loads-psr = λ a r₁ r₂ c bytes busy. runs quiet f sound 0 (omega arith) 1 (W r₃ a r₁ r₂ 0x0242 c bytes busy) (kept refl refl) refl;
       skips = λ a r₁ r₂ x l bytes busy.
           below-two
           (λ (x : ℕ). Leads s 0 bound f (W r₃ a r₁ r₂ 0x0243 (from x) bytes busy) 1 f
           (W r₃ a r₁ r₂ 0x024A (from x) bytes (busy - 1)))
-          (runs quiet f sound 0 (omega arith) 1 (W r₃ a r₁ r₂ 0x0243 (from 0) bytes busy) refl)
-          (runs quiet f sound 0 (omega arith) 1 (W r₃ a r₁ r₂ 0x0243 (from 1) bytes busy) refl) x l;
+          (runs quiet f sound 0 (omega arith) 1 (W r₃ a r₁ r₂ 0x0243 (from 0) bytes busy) (kept refl refl) refl)
+          (runs quiet f sound 0 (omega arith) 1 (W r₃ a r₁ r₂ 0x0243 (from 1) bytes busy) (kept refl refl) refl) x l;
       adds-above = λ a r₁ r₂ bytes busy.
-          runs quiet f sound 0 (omega arith) 3 (W r₃ a r₁ r₂ 0x0243 (from 0x8000) bytes busy) refl;
+          runs quiet f sound 0 (omega arith) 3 (W r₃ a r₁ r₂ 0x0243 (from 0x8000) bytes busy) (kept refl refl) refl;
       goes-on = λ a r₁ r₂ bytes busy.
-          runs quiet f sound 0 (omega arith) 1 (W r₃ a r₁ r₂ 0x0246 (from 0x8000) bytes busy) refl;
+          runs quiet f sound 0 (omega arith) 1 (W r₃ a r₁ r₂ 0x0246 (from 0x8000) bytes busy) (kept refl refl) refl;
       adds-below = λ a r₁ r₂ x l bytes busy.
           below-two
           (λ (x : ℕ). Leads s 0 bound f (W r₃ a r₁ r₂ 0x0246 (from x) bytes busy) 3 f
           (W r₃ a (wrap (r₁ + 0xCE00)) 0xCE00 0x0249 (from (wrap (r₁ + 0xCE00))) bytes (busy - 1 - 1 - 1)))
-          (runs quiet f sound 0 (omega arith) 3 (W r₃ a r₁ r₂ 0x0246 (from 0) bytes busy) refl)
-          (runs quiet f sound 0 (omega arith) 3 (W r₃ a r₁ r₂ 0x0246 (from 1) bytes busy) refl) x l;
+          (runs quiet f sound 0 (omega arith) 3 (W r₃ a r₁ r₂ 0x0246 (from 0) bytes busy) (kept refl refl) refl)
+          (runs quiet f sound 0 (omega arith) 3 (W r₃ a r₁ r₂ 0x0246 (from 1) bytes busy) (kept refl refl) refl) x l;
       gets = λ a r₁ r₂ x l bytes busy.
           below-two
           (λ (x : ℕ). Leads s 0 bound f (W r₃ a r₁ r₂ 0x0249 (from x) bytes busy) 1 f
           (W r₃ a r₁ r₂ 0x024A (from x) bytes (busy - 1)))
-          (runs quiet f sound 0 (omega arith) 1 (W r₃ a r₁ r₂ 0x0249 (from 0) bytes busy) refl)
-          (runs quiet f sound 0 (omega arith) 1 (W r₃ a r₁ r₂ 0x0249 (from 1) bytes busy) refl) x l;
+          (runs quiet f sound 0 (omega arith) 1 (W r₃ a r₁ r₂ 0x0249 (from 0) bytes busy) (kept refl refl) refl)
+          (runs quiet f sound 0 (omega arith) 1 (W r₃ a r₁ r₂ 0x0249 (from 1) bytes busy) (kept refl refl) refl) x l;
       refuses = λ a r₁ r₂ bytes busy.
-          runs quiet f sound 0 (omega arith) 1 (W r₃ a r₁ r₂ 0x0249 (from 0x8000) bytes busy) refl;
+          runs quiet f sound 0 (omega arith) 1 (W r₃ a r₁ r₂ 0x0249 (from 0x8000) bytes busy) (kept refl refl) refl;
       knows = known r₃;
     }
 
     -- From the look to the word.
-    gets : (r₃ a r₁ r₂ : ℕ) (c : Known) (bytes : List ℕ) (busy w : ℕ) → mayRead user 0x2FFA a ≡ true
+    gets : (r₃ a r₁ r₂ : ℕ) (c : Known) (bytes : List ℕ) (busy w : ℕ) → mayReadOf user 6 s a ≡ true
         → getD (s .memory) a 0 ≡ w
         → Leads s 0 bound f (W r₃ a r₁ r₂ 0x024A c bytes busy) 1 f (W r₃ a w r₂ 0x024B (from w) bytes (busy - 1))
     unfolding computing
     gets r₃ a r₁ r₂ c bytes busy w may is =
-        let r = readable user 0x2FFA a may in
-        gets-word quiet f sound (W r₃ a r₁ r₂ 0x024A c bytes busy) refl refl 0x2FFA refl a w (r .0) (r .1) refl is
+        let r = readable user 6 (stackOf (s .machine)) a may in
+        gets-word quiet f sound (W r₃ a r₁ r₂ 0x024A c bytes busy) refl refl a w r refl is
 
     -- Codes of a value that is not zero: positive or negative.
     not-zero : (r₃ a r₁ r₂ pc w n : ℕ) (bytes : List ℕ) (busy : ℕ) (v : View) → 0 < w
@@ -170,8 +171,8 @@ module _ (user : Bool) (s : Start) (x : Eight (s .machine .regs)) where
         let z : busy - 1 - 1 - 1 ≡ 0 = omega arith in
         let l = not-zero r₃ a w r₂ 0x024B w 3 bytes busy
         (W r₃ a w (wordAnd w 0x00FF) 0x024E (from (wordAnd w 0x00FF)) bytes (busy - 1 - 1 - 1)) some
-        (unfold computing in runs quiet f sound 0 (omega arith) 3 (W r₃ a w r₂ 0x024B (from 1) bytes busy) refl)
-        (unfold computing in runs quiet f sound 0 (omega arith) 3 (W r₃ a w r₂ 0x024B (from 0x8000) bytes busy) refl)
+        (unfold computing in runs quiet f sound 0 (omega arith) 3 (W r₃ a w r₂ 0x024B (from 1) bytes busy) (kept refl refl) refl)
+        (unfold computing in runs quiet f sound 0 (omega arith) 3 (W r₃ a w r₂ 0x024B (from 0x8000) bytes busy) (kept refl refl) refl)
         in
         rw (← (low-byte w below)) (rw z at l)
 
@@ -225,8 +226,8 @@ module _ (user : Bool) (s : Start) (x : Eight (s .machine .regs)) where
     unfolding computing
     low-part r₃ a w y bytes below room =
         shows-if r₃ a w y 0x024E 0x0252 bytes below room
-        (runs quiet f sound 0 (omega arith) 1 (W r₃ a w 0 0x024E (from 0) bytes 0) refl)
-        (λ free. runs quiet f sound (length (s .output)) (omega arith) 4 (W r₃ a w y 0x024E (from 1) bytes 0)
+        (runs quiet f sound 0 (omega arith) 1 (W r₃ a w 0 0x024E (from 0) bytes 0) (kept refl refl) refl)
+        (λ free. runs quiet f sound (length (s .output)) (omega arith) 4 (W r₃ a w y 0x024E (from 1) bytes 0) (kept refl refl)
         (rw (lt-ltb (length bytes) (length (s .output)) free)))
 
     high-part : (r₃ a r₁ y : ℕ) (bytes : List ℕ) → y < 256 → length bytes + length (unlessZero y) ≤ length (s .output)
@@ -234,8 +235,8 @@ module _ (user : Bool) (s : Start) (x : Eight (s .machine .regs)) where
     unfolding computing
     high-part r₃ a r₁ y bytes below room =
         shows-if r₃ a r₁ y 0x025C 0x0260 bytes below room
-        (runs quiet f sound 0 (omega arith) 1 (W r₃ a r₁ 0 0x025C (from 0) bytes 0) refl)
-        (λ free. runs quiet f sound (length (s .output)) (omega arith) 4 (W r₃ a r₁ y 0x025C (from 1) bytes 0)
+        (runs quiet f sound 0 (omega arith) 1 (W r₃ a r₁ 0 0x025C (from 0) bytes 0) (kept refl refl) refl)
+        (λ free. runs quiet f sound (length (s .output)) (omega arith) 4 (W r₃ a r₁ y 0x025C (from 1) bytes 0) (kept refl refl)
         (rw (lt-ltb (length bytes) (length (s .output)) free)))
 
     -- ---- the shift
@@ -246,10 +247,10 @@ module _ (user : Bool) (s : Start) (x : Eight (s .machine .regs)) where
         let z : wordAnd y 0 ≡ 0 = sym (and-bits 16 y 0 (omega arith)) ∙ and-zero-r y in
         let first : Leads s 0 bound f (W r₃ a w y 0x0252 c bytes busy) 1 f
         (W r₃ a w (wordAnd y 0) 0x0253 (from (wordAnd y 0)) bytes (busy - 1)) =
-        unfold computing in runs quiet f sound 0 (omega arith) 1 (W r₃ a w y 0x0252 c bytes busy) refl in
+        unfold computing in runs quiet f sound 0 (omega arith) 1 (W r₃ a w y 0x0252 c bytes busy) (kept refl refl) refl in
         let second : Leads s 0 bound f (W r₃ a w 0 0x0253 (from 0) bytes (busy - 1)) 1 f
         (W 8 a w 0 0x0254 (from 8) bytes (busy - 1 - 1)) =
-        unfold computing in runs quiet f sound 0 (omega arith) 1 (W r₃ a w 0 0x0253 (from 0) bytes (busy - 1)) refl in
+        unfold computing in runs quiet f sound 0 (omega arith) 1 (W r₃ a w 0 0x0253 (from 0) bytes (busy - 1)) (kept refl refl) refl in
         then (rw z at first) second
 
     -- ADD R2, R2, R2 and ADD R1, R1, #0.
@@ -261,7 +262,7 @@ module _ (user : Bool) (s : Start) (x : Eight (s .machine .regs)) where
         let z : wrap (r₁ + 0) ≡ r₁ = omega arith in
         let l : Leads s 0 bound f (W r₃ a r₁ r₂ 0x0254 c bytes busy) 2 f
         (W r₃ a (wrap (r₁ + 0)) (wrap (r₂ + r₂)) 0x0256 (from (wrap (r₁ + 0))) bytes (busy - 1 - 1)) =
-        unfold computing in runs quiet f sound 0 (omega arith) 2 (W r₃ a r₁ r₂ 0x0254 c bytes busy) refl in
+        unfold computing in runs quiet f sound 0 (omega arith) 2 (W r₃ a r₁ r₂ 0x0254 c bytes busy) (kept refl refl) refl in
         rw (y, z) at l
 
     -- BRzp is taken: ADD R1, R1, R1; ADD R3, R3, #-1.
@@ -283,8 +284,8 @@ module _ (user : Bool) (s : Start) (x : Eight (s .machine .regs)) where
             below-two
             (λ (x : ℕ). Leads s 0 bound f (W r₃ a r₁ r₂ 0x0256 (from x) bytes busy) 3 f
             (W (wrap (r₃ + 65535)) a (wrap (r₁ + r₁)) r₂ 0x025A (from (wrap (r₃ + 65535))) bytes (busy - 1 - 1 - 1)))
-            (runs quiet f sound 0 (omega arith) 3 (W r₃ a r₁ r₂ 0x0256 (from 0) bytes busy) refl)
-            (runs quiet f sound 0 (omega arith) 3 (W r₃ a r₁ r₂ 0x0256 (from 1) bytes busy) refl)
+            (runs quiet f sound 0 (omega arith) 3 (W r₃ a r₁ r₂ 0x0256 (from 0) bytes busy) (kept refl refl) refl)
+            (runs quiet f sound 0 (omega arith) 3 (W r₃ a r₁ r₂ 0x0256 (from 1) bytes busy) (kept refl refl) refl)
 
     -- It is not: ADD R2, R2, #1 too.
     set-bit : (r₃ a r₁ r₂ : ℕ) (bytes : List ℕ) (busy : ℕ) → r₂ < 0x8000 → 0 < r₃ → r₃ < 65536
@@ -297,7 +298,7 @@ module _ (user : Bool) (s : Start) (x : Eight (s .machine .regs)) where
         let l : Leads s 0 bound f (W r₃ a r₁ r₂ 0x0256 (from 0x8000) bytes busy) 4 f
         (W (wrap (r₃ + 65535)) a (wrap (r₁ + r₁)) (wrap (r₂ + 1)) 0x025A (from (wrap (r₃ + 65535))) bytes
         (busy - 1 - 1 - 1 - 1)) =
-        unfold computing in runs quiet f sound 0 (omega arith) 4 (W r₃ a r₁ r₂ 0x0256 (from 0x8000) bytes busy) refl in
+        unfold computing in runs quiet f sound 0 (omega arith) 4 (W r₃ a r₁ r₂ 0x0256 (from 0x8000) bytes busy) (kept refl refl) refl in
         rw (y, z, u) at l
       where
         twice : (n : ℕ) → n + n ≡ n * 2
@@ -367,7 +368,7 @@ module _ (user : Bool) (s : Start) (x : Eight (s .machine .regs)) where
         (W 0 a (r₁ * 2 % 65536) (r₂ * 2 + r₁ / 0x8000) 0x025B (from 0) bytes (b .busy - 1)) =
         unfold computing in
         runs quiet f sound 0 (omega arith) 1
-        (W 0 a (r₁ * 2 % 65536) (r₂ * 2 + r₁ / 0x8000) 0x025A (from 0) bytes (b .busy)) refl in
+        (W 0 a (r₁ * 2 % 65536) (r₂ * 2 + r₁ / 0x8000) 0x025A (from 0) bytes (b .busy)) (kept refl refl) refl in
         (r₁ * 2 % 65536, rw z (then (b .leads) (rw n at branch)))
 
     more-bits : (i : ℕ) → Shifts i → Shifts (suc i)
@@ -384,7 +385,7 @@ module _ (user : Bool) (s : Start) (x : Eight (s .machine .regs)) where
         let branch : Leads s 0 bound f (W (suc i) a r₁′ r₂′ 0x025A (from 1) bytes (b .busy)) 1 f
         (W (suc i) a r₁′ r₂′ 0x0254 (from 1) bytes (b .busy - 1)) =
         unfold computing in
-        runs quiet f sound 0 (omega arith) 1 (W (suc i) a r₁′ r₂′ 0x025A (from 1) bytes (b .busy)) refl in
+        runs quiet f sound 0 (omega arith) 1 (W (suc i) a r₁′ r₂′ 0x025A (from 1) bytes (b .busy)) (kept refl refl) refl in
         let known-branch : Leads s 0 bound f (W (suc i) a r₁′ r₂′ 0x025A (from (suc i)) bytes (b .busy)) 1 f
         (W (suc i) a r₁′ r₂′ 0x0254 (from 1) bytes 0) =
         then (known (suc i) a r₁′ r₂′ 0x025A (from (suc i)) (from 1) bytes (b .busy)
@@ -405,7 +406,7 @@ module _ (user : Bool) (s : Start) (x : Eight (s .machine .regs)) where
         let z : wrap (y + 0) ≡ y = omega arith in
         let l : Leads s 0 bound f (W 0 a r y 0x025B (from 0) bytes 0) 1 f
         (W 0 a r (wrap (y + 0)) 0x025C (from (wrap (y + 0))) bytes 0) =
-        unfold computing in runs quiet f sound 0 (omega arith) 1 (W 0 a r y 0x025B (from 0) bytes 0) refl in
+        unfold computing in runs quiet f sound 0 (omega arith) 1 (W 0 a r y 0x025B (from 0) bytes 0) (kept refl refl) refl in
         rw z at l
 
     -- ADD R0, R0, #1 and BRnzp.
@@ -416,7 +417,7 @@ module _ (user : Bool) (s : Start) (x : Eight (s .machine .regs)) where
         let z : wrap (a + 1) ≡ suc a = omega arith in
         let l : Leads s 0 bound f (W r₃ a r₁ r₂ 0x0260 c bytes busy) 2 f
         (W r₃ (wrap (a + 1)) r₁ r₂ 0x0242 (from (wrap (a + 1))) bytes (busy - 1 - 1)) =
-        unfold computing in runs quiet f sound 0 (omega arith) 2 (W r₃ a r₁ r₂ 0x0260 c bytes busy) refl in
+        unfold computing in runs quiet f sound 0 (omega arith) 2 (W r₃ a r₁ r₂ 0x0260 c bytes busy) (kept refl refl) refl in
         rw z at l
 
     -- At the look, with these bytes shown.
@@ -431,7 +432,7 @@ module _ (user : Bool) (s : Start) (x : Eight (s .machine .regs)) where
 
     module _ (mode : inUserMode psr ≡ user) where
       shows-pair : (a w r₁ r₂ r₃ : ℕ) (c : Known) (bytes : List ℕ) (busy : ℕ) → busy ≤ 6
-          → mayRead user 0x2FFA a ≡ true → getD (s .memory) a 0 ≡ w → 0 < w → w < 65536
+          → mayReadOf user 6 s a ≡ true → getD (s .memory) a 0 ≡ w → 0 < w → w < 65536
           → length bytes + (length (unlessZero (w % 256)) + length (unlessZero (w / 256))) ≤ length (s .output)
           → Pairs (W r₃ a r₁ r₂ 0x0242 c bytes busy) (pairSteps user a w) (suc a)
           (bytes ++ unlessZero (w % 256) ++ unlessZero (w / 256))
@@ -439,7 +440,7 @@ module _ (user : Bool) (s : Start) (x : Eight (s .machine .regs)) where
           let bytes′ : List ℕ = bytes ++ unlessZero (w % 256) in
           let longer : length bytes′ ≡ length bytes + length (unlessZero (w % 256)) =
           length-append bytes (unlessZero (w % 256)) in
-          let l = look-at (looks r₃) a r₁ r₂ c bytes busy user mode few 0x2FFA may in
+          let l = look-at (looks r₃) a r₁ r₂ c bytes busy user mode few 6 (stackOf (s .machine)) may in
           let left : ℕ = busy - lookSteps user a in
           let ready : left - 1 ≤ 3 = soon user busy few in
           let low = low-part r₃ a w (w % 256) bytes (omega arith) (omega arith) in
@@ -466,7 +467,7 @@ module _ (user : Bool) (s : Start) (x : Eight (s .machine .regs)) where
                 (then (tests a (bits .0) (w / 256) bytes′ (omega arith))
                 (then (high .leads)
                 (goes-on (high .r₃) a (bits .0) (w / 256) (high .codes) (bytes′ ++ unlessZero (w / 256)) (high .busy)
-                (readable user 0x2FFA a may .0))))))))));
+                (readable user 6 (stackOf (s .machine)) a may .plain))))))))));
           }
         where
           -- The look takes two steps at least.
@@ -481,7 +482,7 @@ module _ (user : Bool) (s : Start) (x : Eight (s .machine .regs)) where
       -- All of them.
       abbrev ShowsAll : List ℕ → Type 0
       ShowsAll words = (a b r₁ r₂ r₃ : ℕ) (c : Known) (bytes : List ℕ) (busy : ℕ) → busy ≤ 6
-          → StringFrom (mayRead user 0x2FFA) (s .memory) a words b → AreWords words
+          → StringFrom (mayReadOf user 6 s) (s .memory) a words b → AreWords words
           → length bytes + length (pairBytes words) ≤ length (s .output)
           → Pairs (W r₃ a r₁ r₂ 0x0242 c bytes busy) (pairsSteps user a words) b (bytes ++ pairBytes words)
 
@@ -545,13 +546,13 @@ module _ (user : Bool) (s : Start) (x : Eight (s .machine .regs)) where
           (steppedBy 6 f (W r₃ b 0 r₂ 0x024B (from 0) bytes busy))
       unfolding computing
       restores r₃ b r₂ bytes busy =
-          runs quiet f sound 0 (omega arith) 6 (W r₃ b 0 r₂ 0x024B (from 0) bytes busy) refl
+          runs quiet f sound 0 (omega arith) 6 (W r₃ b 0 r₂ 0x024B (from 0) bytes busy) (kept refl refl) refl
 
       -- The refusal: the registers are restored, and STOP halts.
       stops : (r₃ b r₁ r₂ : ℕ) (c : Known) (bytes : List ℕ)
           → Leads s 0 bound f (W r₃ b r₁ r₂ 0x0268 c bytes 0) 7 f (steppedBy 7 f (W r₃ b r₁ r₂ 0x0268 c bytes 0))
       unfolding computing
-      stops r₃ b r₁ r₂ c bytes = runs quiet f sound 0 (omega arith) 7 (W r₃ b r₁ r₂ 0x0268 c bytes 0) refl
+      stops r₃ b r₁ r₂ c bytes = runs quiet f sound 0 (omega arith) 7 (W r₃ b r₁ r₂ 0x0268 c bytes 0) (kept refl refl) refl
 
 -- ---- the theorem
 
@@ -568,12 +569,12 @@ six-less busy h = five-less (busy - 1) (omega arith)
     five-less : (b : ℕ) → b ≤ 7 → b - 1 - 1 - 1 - 1 - 1 ≤ 6
     five-less b h = omega arith
 
-module _ (user : Bool) (s : Start) (n : ℕ) (c : Calls 0x24 putspCode user s n) (x : Eight (s .machine .regs))
-    (words : List ℕ) (b : ℕ) (string : StringFrom (mayRead user 0x2FFA) (s .memory) (r0 s) words b)
+module _ (user : Bool) (s : Start) (n : ℕ) (c : Calls 0x24 putspCode 6 user s n) (x : Eight (s .machine .regs))
+    (words : List ℕ) (b : ℕ) (string : StringFrom (mayReadOf user 6 s) (s .memory) (r0 s) words b)
     (fit : AreWords words) (room : length (pairBytes words) ≤ length (s .output)) (bound : ℕ) (some : 6 ≤ bound)
     (quiet : Quiet s 0 bound) where
   sound : Sound (f user s x)
-  sound = called-sound uses user s (is-intact s n (c .begins))
+  sound = begins-sound s n (c .begins)
 
   abbrev mode : inUserMode (s .machine .psr) ≡ user
   mode = c .begins .mode
@@ -585,11 +586,11 @@ module _ (user : Bool) (s : Start) (n : ℕ) (c : Calls 0x24 putspCode user s n)
   left = s .machine .devices .busy - 1 - 1 - 1 - 1 - 1 - 1
 
   all : Pairs user s x bound quiet sound
-      (W user s x (x .r₃) (x .r₀) (x .r₁) (x .r₂) 0x0242 (from 0x2FFA) [] left) (pairsSteps user (r0 s) words) b
+      (W user s x (x .r₃) (x .r₀) (x .r₁) (x .r₂) 0x0242 (from (stackOf (s .machine) - 6)) [] left) (pairsSteps user (r0 s) words) b
       (pairBytes words)
   all =
       rw first
-      (shows-all user s x bound quiet sound mode words (x .r₀) b (x .r₁) (x .r₂) (x .r₃) (from 0x2FFA) [] left
+      (shows-all user s x bound quiet sound mode words (x .r₀) b (x .r₁) (x .r₂) (x .r₃) (from (stackOf (s .machine) - 6)) [] left
       (six-less (s .machine .devices .busy)
       (accepted-is-acceptable s n (c .begins .accepted) .defined .devices .busy))
       (rw first at string) fit (omega arith))
@@ -602,34 +603,34 @@ module _ (user : Bool) (s : Start) (n : ℕ) (c : Calls 0x24 putspCode user s n)
   at-look le =
       let z : 1 + (5 + pairsSteps user (r0 s) words) ≡ 6 + pairsSteps user (r0 s) words = omega arith in
       rw z at (then (begins user s x bound quiet sound) (all .leads) .on (omega arith)
-      (routine-begins putspCode user s n bound x 0x24 0x023D c quiet (omega arith) (omega arith) refl))
+      (routine-begins putspCode 6 user s n bound x 0x24 0x023D c (omega arith) quiet (omega arith) (omega arith) refl))
 
   -- ---- a string that ends
 
-  module _ (may : mayRead user 0x2FFA b ≡ true) (zero-word : getD (s .memory) b 0 ≡ 0) where
+  module _ (may : mayReadOf user 6 s b ≡ true) (zero-word : getD (s .memory) b 0 ≡ 0) where
     abbrev spent : ℕ
     spent = all .busy - lookSteps user b
 
     seen : Comes s bound (f user s x) (W user s x (all .r₃)) looking (lookSteps user b) b 0x024A (pairBytes words) spent
     seen =
         look-at (looks user s x bound quiet sound (all .r₃)) b (all .r₁) (all .r₂) (all .codes) (pairBytes words)
-        (all .busy) user mode (all .few) 0x2FFA may
+        (all .busy) user mode (all .few) 6 (stackOf (s .machine)) may
 
     returning : View
     returning =
         steppedBy 6 (f user s x) (W user s x (all .r₃) b 0 (seen .r₂) 0x024B (from 0) (pairBytes words) (spent - 1))
 
-    at-return : AtReturn uses user s returning
+    at-return : AtReturn uses 6 user s returning
     unfolding returning computing
     at-return = record { plan = refl; six = refl; pc = refl; psr = refl; fine = refl; going = refl }
 
-    restored : returning .regs ≡ x .r₀ ∷ x .r₁ ∷ x .r₂ ∷ x .r₃ ∷ x .r₄ ∷ x .r₅ ∷ 0x2FFE ∷ x .r₇ ∷ []
+    restored : returning .regs ≡ x .r₀ ∷ x .r₁ ∷ x .r₂ ∷ x .r₃ ∷ x .r₄ ∷ x .r₅ ∷ (stackOf (s .machine) - 2) ∷ x .r₇ ∷ []
     unfolding returning computing
     restored = refl
 
     same-registers : set (returning .regs) 6 (getD (s .machine .regs) 6 0) ≡ s .machine .regs
     same-registers =
-        ap (λ (l : List ℕ). set l 6 (getD (s .machine .regs) 6 0)) restored ∙ as-before (s .machine .regs) x
+        ap (λ (l : List ℕ). set l 6 (getD (s .machine .regs) 6 0)) restored ∙ as-before (s .machine .regs) x (stackOf (s .machine) - 2)
 
     abbrev j : ℕ
     j = 6 + pairsSteps user (r0 s) words + (lookSteps user b + 7)
@@ -648,16 +649,17 @@ module _ (user : Bool) (s : Start) (n : ℕ) (c : Calls 0x24 putspCode user s n)
     unfolding returning computing
     counted = runs-out (all .busy) (lookSteps user b) (all .few)
 
-    comes : bound ≡ j + 1 → j + 1 ≤ n → Resumes s n (j + 1) (pairBytes words) 0 0x2FFA (s .machine .regs) (notRead s)
+    comes : bound ≡ j + 1 → j + 1 ≤ n → Resumes s n (j + 1) (pairBytes words) 0 6 (s .machine .regs) (notRead s)
     unfolding returning computing
     comes e le =
-        comes-back uses user s n j returning (c .begins) (rw e at quiet) (at-rti (omega arith)) at-return le 0x2FFA refl
+        comes-back uses 6 user s n j returning (c .begins) (omega arith) (rw e at quiet) (at-rti (omega arith)) at-return
+        le
         (s .machine .regs) same-registers 0 counted (notRead s) (none-read s returning refl refl)
 
 -- ---- one that does not
 
-module _ (s : Start) (n : ℕ) (c : Calls 0x24 putspCode true s n) (x : Eight (s .machine .regs)) (words : List ℕ) (b : ℕ)
-    (string : StringFrom (mayRead true 0x2FFA) (s .memory) (r0 s) words b) (fit : AreWords words)
+module _ (s : Start) (n : ℕ) (c : Calls 0x24 putspCode 6 true s n) (x : Eight (s .machine .regs)) (words : List ℕ) (b : ℕ)
+    (string : StringFrom (mayReadOf true 6 s) (s .memory) (r0 s) words b) (fit : AreWords words)
     (room : length (pairBytes words) ≤ length (s .output)) (quiet : Quiet s 0 (refusedPairSteps (r0 s) words))
     (privileged-word : privileged b ≡ true) (below : b < 65536) where
   abbrev total : ℕ
@@ -667,7 +669,7 @@ module _ (s : Start) (n : ℕ) (c : Calls 0x24 putspCode true s n) (x : Eight (s
   routine-sound = sound true s n c x words b string fit room total (omega arith) quiet
 
   abbrev shown : Pairs true s x total quiet (sound true s n c x words b string fit room total (omega arith) quiet)
-      (W true s x (x .r₃) (x .r₀) (x .r₁) (x .r₂) 0x0242 (from 0x2FFA) []
+      (W true s x (x .r₃) (x .r₀) (x .r₁) (x .r₂) 0x0242 (from (stackOf (s .machine) - 6)) []
       (left true s n c x words b string fit room total (omega arith) quiet))
       (pairsSteps true (r0 s) words) b (pairBytes words)
   shown = all true s n c x words b string fit room total (omega arith) quiet
@@ -691,10 +693,10 @@ module _ (s : Start) (n : ℕ) (c : Calls 0x24 putspCode true s n) (x : Eight (s
       (pairBytes words))
       .on (omega arith) (at-look true s n c x words b string fit room total (omega arith) quiet (omega arith))
 
-  refuses : total < n → Halts s n total (pairBytes words) 0 0x2FFA
+  refuses : total < n → Halts s n total (pairBytes words) 0 6
   unfolding stopped computing
   refuses more =
-      halts at-stop n (c .begins) 0x2FFA refl refl refl refl refl 0 refl more (rw (x .are)) refl refl refl refl refl
+      halts at-stop n (c .begins) refl refl refl refl refl refl 0 refl more (rw (x .are)) refl refl refl refl refl
 
 pub putsp-shows : PutspShows
 putsp-shows = record {

@@ -16,7 +16,8 @@ use Rattle.run.specs.Refusals.{admissionOf}
 use Rattle.run.specs.Call.{callOf}
 use Rattle.run.specs.Noninterference.{causeAt}
 use Rattle.monitor.specs.Uses.{HasWords, backUses}
-use Rattle.monitor.specs.Back.{stackOf, Interrupted, keysBetween, CameBack, StaysAt, Standstill}
+use Rattle.monitor.specs.Calls.{stackOf}
+use Rattle.monitor.specs.Back.{Interrupted, keysBetween, CameBack, StaysAt, Standstill}
 use Rattle.monitor.proofs.UseLaws.{back-below}
 use Rattle.monitor.proofs.Again.{keys-fit, tick-fits}
 use Rattle.monitor.proofs.BackAnywhere.{back-returns}

@@ -3,7 +3,7 @@ use Prim.Native.Nat.{ℕ, zero, suc, _+_, _-_, _≤_, _<_}
 use native.Mathlib.Omega.{arith}
 use native.Mathlib.Decide.{decLe}
 use mathlib.Core.Path.{_≡_, refl, sym, ap, _∙_}
-use mathlib.Core.Bool.{Bool, true, false, not, _&&_}
+use mathlib.Core.Bool.{Bool, true, false, cond, not, _&&_}
 use mathlib.Core.List.{List, [], _∷_}
 use borrow.Author.Tests.{le-leb, lt-leb, lt-ltb, le-ltb, ltb-true, ltb-false, leb-false, leb-true, ne-eqb}
 use lib.Dec.{leb, ltb}
@@ -16,12 +16,12 @@ use Rattle.machine.specs.Protection.{privileged}
 use Rattle.machine.proofs.Tests.{both-true, or-is-false}
 use Rattle.run.specs.Run.{Start}
 use Rattle.monitor.specs.Uses.{between}
+use Rattle.monitor.specs.Calls.{StackApart}
 use Rattle.monitor.specs.Puts.{mayRead, lookSteps}
 use Rattle.monitor.proofs.Execution.{Frame, Known, from, codesNumber, Cell, View, memoryWith, Quiet, Leads}
 use Rattle.monitor.proofs.Execution.{then}
-use Rattle.monitor.proofs.Intact.{cellsFine, wordAt}
+use Rattle.monitor.proofs.Intact.{cellsFine, cells-fine, wordAt}
 use Rattle.monitor.proofs.Instructions.{Sound, planAt, valued, by-plan, word-is}
-use Rattle.monitor.proofs.Calls.{cellsWithin, cells-within}
 
 -- An address of User mode's, and one that is none.
 pub user-address : (a : ℕ) → privileged a ≡ false → (0x3000 ≤ a) × (a < 0xFE00)
@@ -35,14 +35,36 @@ is-not true e = sym e
 is-not false e = refl
 
 -- An address that may be read: no device's, and none of the stack's.
-pub readable : (user : Bool) (low a : ℕ) → mayRead user low a ≡ true → (a < 0xFE00) × (low ≤ a → 0x3000 ≤ a)
-readable true low a h =
-    let u = user-address a (is-not (privileged a) h) in
-    (u .1, λ m. u .0)
-readable false low a h =
-    let both = both-true (ltb a 0xFE00) (not (between low 0x2FFF a)) h in
-    let outside : (leb low a && leb a 0x2FFF) ≡ false = is-not (leb low a && leb a 0x2FFF) (both .1) in
-    (ltb-true a 0xFE00 (both .0), λ m. leb-false a 0x2FFF (rw (le-leb low a m) at outside))
+pub record Readable (words sp a : ℕ) : Type 0 where
+  pub plain : a < 0xFE00
+  pub outside : sp - words ≤ a → sp ≤ a
+
+pub readable : (user : Bool) (words sp a : ℕ) → mayRead user words sp a ≡ true → Readable words sp a
+readable user words sp a h =
+    let both = both-true (cond user (not (privileged a)) (ltb a 0xFE00)) (not (between (sp - words) (sp - 1) a)) h in
+    let apart : (leb (sp - words) a && leb a (sp - 1)) ≡ false =
+    is-not (leb (sp - words) a && leb a (sp - 1)) (both .1) in
+    record {
+      plain = below user (both .0);
+      outside = λ m.
+          let above : sp - 1 < a = leb-false a (sp - 1) (rw (le-leb (sp - words) a m) at apart) in
+          omega arith;
+    }
+  where
+    below : (user : Bool) → cond user (not (privileged a)) (ltb a 0xFE00) ≡ true → a < 0xFE00
+    below true e = user-address a (is-not (privileged a) e) .1
+    below false e = ltb-true a 0xFE00 e
+
+-- A caller in User mode whose stack is below x3000 may have a string wherever it may read.
+pub in-user-mode : (words sp a : ℕ) → sp ≤ 0x3000 → privileged a ≡ false → mayRead true words sp a ≡ true
+in-user-mode words sp a h mine =
+    let u = user-address a mine in
+    let least : 0x3000 ≤ a = u .0 in
+    go (sp - words) (sp - 1) (leb (sp - words) a) (omega arith)
+  where
+    go : (low high : ℕ) (b : Bool) → high < a → (not (privileged a) && not (b && leb a high)) ≡ true
+    go low high true l = rw (mine, lt-leb a high l)
+    go low high false l = rw mine
 
 -- ---- codes of numbers
 
@@ -231,11 +253,13 @@ module _ {s : Start} {bound : ℕ} {f : Frame} {W : ℕ → ℕ → ℕ → ℕ 
 
   -- ---- in both
 
-  pub look-at : (user : Bool) → inUserMode psr ≡ user → busy ≤ 6 → (low : ℕ) → mayRead user low a ≡ true
+  pub look-at : (user : Bool) → inUserMode psr ≡ user → busy ≤ 6 → (words sp : ℕ) → mayRead user words sp a ≡ true
       → Comes s bound f W (W a r₁ r₂ p₁ c bytes busy) (lookSteps user a) a get bytes (busy - lookSteps user a)
   unfolding inUserMode
-  look-at true mode few low may = user-look (leb-true 0x8000 psr mode) few (is-not (privileged a) may)
-  look-at false mode few low may = supervisor-look (leb-false 0x8000 psr mode)
+  look-at true mode few words sp may =
+      user-look (leb-true 0x8000 psr mode) few
+      (is-not (privileged a) (both-true (not (privileged a)) (not (between (sp - words) (sp - 1) a)) may .0))
+  look-at false mode few words sp may = supervisor-look (leb-false 0x8000 psr mode)
 
 -- What holds of 0 and 1.
 pub below-two : (P : ℕ → Type 0) → P 0 → P 1 → (x : ℕ) → x < 2 → P x
@@ -246,27 +270,32 @@ below-two P p q (suc (suc x)) l = absurd (omega arith)
 -- ---- the word there
 
 -- A word outside the stack is as it was.
-other-word : (mem : List ℕ) (low : ℕ) (cells : List Cell) → cellsWithin low cells ≡ true → (a : ℕ)
-    → (low ≤ a → 0x3000 ≤ a) → getD (memoryWith mem cells) a 0 ≡ getD mem a 0
-other-word mem low [] fine a h = refl
-other-word mem low (c ∷ cells) fine a h =
-    let w = cells-within low c cells fine in
-    getD-set-other (memoryWith mem cells) (c .address) a (c .value) 0
+other-word : {words sp : ℕ} → StackApart words sp → (mem : List ℕ) (cells : List Cell) → cellsFine words cells ≡ true
+    → (a : ℕ) → (sp - words ≤ a → sp ≤ a) → getD (memoryWith sp mem cells) a 0 ≡ getD mem a 0
+other-word apart mem [] fine a h = refl
+other-word {words} {sp} apart mem (c ∷ cells) fine a h =
+    let w = cells-fine words c cells fine in
+    let least : 1 ≤ c .slot = w .0 in
+    let most : c .slot ≤ words = w .1 in
+    let room : 0x02A5 + words ≤ sp = apart .above-monitor in
+    getD-set-other (memoryWith sp mem cells) (sp - c .slot) a (c .value) 0
     (λ e.
-    let least : low ≤ c .address = w .0 in
-    let most : c .address < 0x3000 = w .1 in
-    let above : 0x3000 ≤ a = h (omega arith) in
+    let above : sp ≤ a = h (omega arith) in
     omega arith)
-    ∙ other-word mem low cells (w .2) a h
+    ∙ other-word apart mem cells (w .2) a h
 
 -- LDR of the word at R0.
 pub gets-word : {s : Start} {bound : ℕ} → Quiet s 0 bound → (f : Frame) → Sound f → (v : View) → v .mcr ≡ 0x8000
-    → cellsFine (v .cells) ≡ true → (low : ℕ) → cellsWithin low (v .cells) ≡ true → (a w : ℕ) → a < 0xFE00
-    → (low ≤ a → 0x3000 ≤ a) → planAt f v ≡ Load 1 (wrap (a + 0)) → getD (f .memory) a 0 ≡ w
+    → cellsFine (f .words) (v .cells) ≡ true → (a w : ℕ) → Readable (f .words) (f .sp) a
+    → planAt f v ≡ Load 1 (wrap (a + 0)) → getD (f .memory) a 0 ≡ w
     → Leads s 0 bound f v 1 f (valued v 1 w (next (v .pc)))
-gets-word {s} {bound} quiet f sound v going fine low within-stack a w plain outside plan is =
+gets-word {s} {bound} quiet f sound v going fine a w r plan is =
+    let plain : a < 0xFE00 = r .plain in
     let z : wrap (a + 0) ≡ a = omega arith in
     let x : wordAt f v (wrap (a + 0)) ≡ w =
-    rw z (sym (word-is f sound v fine a) ∙ other-word (f .memory) low (v .cells) within-stack a outside ∙ is) in
+    rw z
+    (sym (word-is f sound v fine a)
+    ∙ other-word (sound .stack) (f .memory) (v .cells) fine a (r .outside)
+    ∙ is) in
     let may : ltb (wrap (a + 0)) 0xFE00 ≡ true = rw z (lt-ltb a 0xFE00 plain) in
     rw x at (by-plan quiet f sound 0 (omega arith) v going fine (Load 1 (wrap (a + 0))) plan may)

@@ -6,7 +6,6 @@ use mathlib.Core.Bool.{true, false, cond}
 use mathlib.Core.List.{List}
 use lib.ListN.{length, getD, set, take, drop}
 use lib.Pow.{areBytes}
-use Rattle.machine.specs.declared.Machine.{Machine}
 use Rattle.machine.specs.Record.{timerOf}
 use Rattle.machine.specs.Psr.{inUserMode}
 use Rattle.machine.specs.Keys.{readyAfter, lastKey}
@@ -19,10 +18,7 @@ use Rattle.run.specs.Refusals.{admissionOf}
 use Rattle.run.specs.Call.{callOf}
 use Rattle.run.specs.Noninterference.{causeAt}
 use Rattle.monitor.specs.Uses.{HasWords, backUses}
-
--- Where the entry's pushes begin: Saved_SSP in User mode, and R6 in Supervisor mode.
-abbrev pub stackOf : Machine → ℕ
-stackOf m = cond (inUserMode (m .psr)) (m .«saved_ssp») (getD (m .regs) 6 0)
+use Rattle.monitor.specs.Calls.{stackOf}
 
 -- After k steps of an accepted call the machine is e, and the next step takes an interrupt, and the one after it, the
 -- RTI, none. The stack has room above the monitor's words and below the device registers.

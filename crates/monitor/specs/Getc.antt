@@ -23,10 +23,10 @@ getcSteps turns = 5 + 2 * turns
 
 pub record GetcReads : Type 0 where
   -- R0 becomes the last key that has arrived by the step that loads KBDR, all other registers and the PSR are as
-  -- before, nothing is shown, ready is cleared, and no word is changed but x2FFE and x2FFF.
-  pub resumes : (user : Bool) (s : Start) (n turns : ℕ) → Calls 0x20 getcCode user s n → KeyComes s 1 turns
+  -- before, nothing is shown, ready is cleared, and no word is changed but two of the stack's.
+  pub resumes : (user : Bool) (s : Start) (n turns : ℕ) → Calls 0x20 getcCode 2 user s n → KeyComes s 1 turns
       → getcSteps turns ≤ n → NoInterrupt s (getcSteps turns)
-      → Resumes s n (getcSteps turns) [] (s .machine .devices .busy - getcSteps turns) 0x2FFE
+      → Resumes s n (getcSteps turns) [] (s .machine .devices .busy - getcSteps turns) 2
       (set (s .machine .regs) 0 (keyAt s (3 + 2 * turns))) (readIn (3 + 2 * turns) s)
   -- "The high eight bits of R0 are cleared."
   pub is-byte : (s : Start) (n j : ℕ) → admissionOf s n ≡ Accepted → areBytes (s .bytes) ≡ true → keyAt s j < 256

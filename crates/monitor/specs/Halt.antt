@@ -17,7 +17,7 @@ abbrev pub haltSteps : ℕ
 haltSteps = 86
 
 -- Called with room for seven bytes, HALT shows its message and nothing else, and halts; no word is
--- changed but x2FFB to x2FFF.
+-- changed but five of the stack's.
 abbrev pub HaltShows : Type 0
-HaltShows = (user : Bool) (s : Start) (n : ℕ) → Calls 0x25 haltCode user s n → haltSteps < n → 7 ≤ length (s .output)
-    → NoInterrupt s haltSteps → Halts s n haltSteps message 0 0x2FFB
+HaltShows = (user : Bool) (s : Start) (n : ℕ) → Calls 0x25 haltCode 5 user s n → haltSteps < n → 7 ≤ length (s .output)
+    → NoInterrupt s haltSteps → Halts s n haltSteps message 0 5

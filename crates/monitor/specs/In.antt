@@ -37,9 +37,9 @@ abbrev pub shownByIn : Start → ℕ → List ℕ
 shownByIn s turns = prompt ++ (keyAt s (keyStep s turns) % 256) ∷ []
 
 -- R0 becomes the key, which is a byte (Getc's `is-byte`), all other registers and the PSR are as before, prompt and key
--- are shown and nothing else, ready is cleared, and no word is changed but x2FFC to x2FFF.
+-- are shown and nothing else, ready is cleared, and no word is changed but four of the stack's.
 abbrev pub InReads : Type 0
-InReads = (user : Bool) (s : Start) (n turns : ℕ) → Calls 0x23 inCode user s n → KeyComes s (firstPoll s) turns
+InReads = (user : Bool) (s : Start) (n turns : ℕ) → Calls 0x23 inCode 4 user s n → KeyComes s (firstPoll s) turns
     → length (shownByIn s turns) ≤ length (s .output) → inSteps s turns ≤ n → NoInterrupt s (inSteps s turns)
-    → Resumes s n (inSteps s turns) (shownByIn s turns) 4 0x2FFC
+    → Resumes s n (inSteps s turns) (shownByIn s turns) 4 4
     (set (s .machine .regs) 0 (keyAt s (keyStep s turns))) (readIn (keyStep s turns) s)

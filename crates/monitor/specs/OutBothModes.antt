@@ -9,9 +9,9 @@ use Rattle.monitor.specs.Uses.{outCode}
 use Rattle.monitor.specs.Out.{outStepsOf}
 use Rattle.monitor.specs.Calls.{Calls, NoInterrupt, notRead, Resumes}
 
--- R0's low byte is shown and nothing else, registers and PSR are as before, and no word is changed but x2FFD to x2FFF.
+-- R0's low byte is shown and nothing else, registers and PSR are as before, and no word is changed but three of the stack's.
 -- The byte was shown four steps before the end, so that the display's count is 5.
 abbrev pub OutResumes : Type 0
-OutResumes = (user : Bool) (s : Start) (n : ℕ) → Calls 0x21 outCode user s n → 0 < length (s .output)
+OutResumes = (user : Bool) (s : Start) (n : ℕ) → Calls 0x21 outCode 3 user s n → 0 < length (s .output)
     → outStepsOf s ≤ n → NoInterrupt s (outStepsOf s)
-    → Resumes s n (outStepsOf s) ((getD (s .machine .regs) 0 0 % 256) ∷ []) 5 0x2FFD (s .machine .regs) (notRead s)
+    → Resumes s n (outStepsOf s) ((getD (s .machine .regs) 0 0 % 256) ∷ []) 5 3 (s .machine .regs) (notRead s)

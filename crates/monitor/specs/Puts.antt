@@ -2,7 +2,7 @@
 -- caller in User mode.
 use Prim.Native.Nat.{ℕ, suc, _+_, _-_, _%_, _≤_, _<_}
 use mathlib.Core.Path.{_≡_}
-use mathlib.Core.Bool.{Bool, true, cond, not, _&&_}
+use mathlib.Core.Bool.{Bool, true, false, cond, not, _&&_}
 use mathlib.Core.List.{List, [], _∷_, map}
 use lib.Dec.{leb, ltb}
 use lib.ListN.{length, getD}
@@ -10,12 +10,16 @@ use Rattle.machine.specs.Protection.{privileged}
 use Rattle.run.specs.Run.{Start}
 use Rattle.monitor.specs.Uses.{between, putsCode}
 use Rattle.monitor.specs.Out.{waitSteps}
-use Rattle.monitor.specs.Calls.{Calls, NoInterrupt, notRead, Resumes, Halts}
+use Rattle.monitor.specs.Calls.{stackOf, Calls, NoInterrupt, notRead, Resumes, Halts}
 
--- The words of a string. A caller in User mode has it where User mode may read; one in Supervisor mode anywhere below
--- the device registers, but not in the words of the stack that the routine uses itself, from `low` up to x2FFF.
-abbrev pub mayRead : Bool → ℕ → ℕ → Bool
-mayRead user low a = cond user (not (privileged a)) (ltb a 0xFE00 && not (between low 0x2FFF a))
+-- The words of a string. A caller in User mode has it where User mode may read, and one in Supervisor mode anywhere
+-- below the device registers; but neither in the words of the stack, below sp, that the routine uses itself.
+abbrev pub mayRead : Bool → ℕ → ℕ → ℕ → Bool
+mayRead user words sp a = cond user (not (privileged a)) (ltb a 0xFE00) && not (between (sp - words) (sp - 1) a)
+
+-- The same for a call that uses so many words of its stack.
+abbrev pub mayReadOf : Bool → ℕ → Start → ℕ → Bool
+mayReadOf user words s a = mayRead user words (stackOf (s .machine)) a
 
 -- From a up to b stand these words, at addresses that may be read, and none of them is zero.
 abbrev pub StringFrom : (ℕ → Bool) → List ℕ → ℕ → List ℕ → ℕ → Type 0
@@ -54,16 +58,18 @@ abbrev pub refusedSteps : Start → List ℕ → ℕ
 refusedSteps s words = stringSteps true s words + 14
 
 pub record PutsShows : Type 0 where
+  -- where the stack is below x3000, as a start makes it, a caller in User mode may have its string wherever it may read
+  pub in-user-mode : (words sp a : ℕ) → sp ≤ 0x3000 → privileged a ≡ false → mayRead true words sp a ≡ true
   -- A string that ends in a word x0000: its low bytes are shown in order, and nothing else; the caller resumes with all
-  -- registers as before; no word is changed but x2FFB to x2FFF. The display is ready again.
-  pub shows : (user : Bool) (s : Start) (n : ℕ) → Calls 0x22 putsCode user s n → (words : List ℕ) (b : ℕ)
-      → StringFrom (mayRead user 0x2FFB) (s .memory) (r0 s) words b → mayRead user 0x2FFB b ≡ true
+  -- registers as before; no word is changed but five of the stack's. The display is ready again.
+  pub shows : (user : Bool) (s : Start) (n : ℕ) → Calls 0x22 putsCode 5 user s n → (words : List ℕ) (b : ℕ)
+      → StringFrom (mayReadOf user 5 s) (s .memory) (r0 s) words b → mayReadOf user 5 s b ≡ true
       → getD (s .memory) b 0 ≡ 0 → length words ≤ length (s .output) → putsSteps user s words b ≤ n
       → NoInterrupt s (putsSteps user s words b)
-      → Resumes s n (putsSteps user s words b) (lowBytes words) 0 0x2FFB (s .machine .regs) (notRead s)
+      → Resumes s n (putsSteps user s words b) (lowBytes words) 0 5 (s .machine .regs) (notRead s)
   -- One of a caller in User mode that begins in a privileged word or runs into one: what came before is shown, and the
   -- machine halts.
-  pub is-refused : (s : Start) (n : ℕ) → Calls 0x22 putsCode true s n → (words : List ℕ) (b : ℕ)
-      → StringFrom (mayRead true 0x2FFB) (s .memory) (r0 s) words b → privileged b ≡ true → b < 65536
+  pub is-refused : (s : Start) (n : ℕ) → Calls 0x22 putsCode 5 true s n → (words : List ℕ) (b : ℕ)
+      → StringFrom (mayReadOf true 5 s) (s .memory) (r0 s) words b → privileged b ≡ true → b < 65536
       → length words ≤ length (s .output) → refusedSteps s words < n → NoInterrupt s (refusedSteps s words)
-      → Halts s n (refusedSteps s words) (lowBytes words) 0 0x2FFB
+      → Halts s n (refusedSteps s words) (lowBytes words) 0 5

@@ -9,7 +9,7 @@ use Rattle.machine.specs.Protection.{privileged}
 use Rattle.run.specs.Run.{Start}
 use Rattle.monitor.specs.Uses.{putspCode}
 use Rattle.monitor.specs.Calls.{Calls, NoInterrupt, notRead, Resumes, Halts}
-use Rattle.monitor.specs.Puts.{mayRead, StringFrom, lookSteps, r0}
+use Rattle.monitor.specs.Puts.{mayReadOf, StringFrom, lookSteps, r0}
 
 -- Words of 16 bits.
 abbrev pub AreWords : List ℕ → Type 0
@@ -51,15 +51,15 @@ putspSteps user a words b = 6 + pairsSteps user a words + (lookSteps user b + 8)
 abbrev pub refusedPairSteps : ℕ → List ℕ → ℕ
 refusedPairSteps a words = 6 + pairsSteps true a words + 15
 
--- As PUTS, and no word is changed but x2FFA to x2FFF.
+-- As PUTS, and no word is changed but six of the stack's.
 pub record PutspShows : Type 0 where
-  pub shows : (user : Bool) (s : Start) (n : ℕ) → Calls 0x24 putspCode user s n → (words : List ℕ) (b : ℕ)
-      → StringFrom (mayRead user 0x2FFA) (s .memory) (r0 s) words b → AreWords words → mayRead user 0x2FFA b ≡ true
+  pub shows : (user : Bool) (s : Start) (n : ℕ) → Calls 0x24 putspCode 6 user s n → (words : List ℕ) (b : ℕ)
+      → StringFrom (mayReadOf user 6 s) (s .memory) (r0 s) words b → AreWords words → mayReadOf user 6 s b ≡ true
       → getD (s .memory) b 0 ≡ 0 → length (pairBytes words) ≤ length (s .output) → putspSteps user (r0 s) words b ≤ n
       → NoInterrupt s (putspSteps user (r0 s) words b)
-      → Resumes s n (putspSteps user (r0 s) words b) (pairBytes words) 0 0x2FFA (s .machine .regs) (notRead s)
-  pub is-refused : (s : Start) (n : ℕ) → Calls 0x24 putspCode true s n → (words : List ℕ) (b : ℕ)
-      → StringFrom (mayRead true 0x2FFA) (s .memory) (r0 s) words b → AreWords words → privileged b ≡ true → b < 65536
+      → Resumes s n (putspSteps user (r0 s) words b) (pairBytes words) 0 6 (s .machine .regs) (notRead s)
+  pub is-refused : (s : Start) (n : ℕ) → Calls 0x24 putspCode 6 true s n → (words : List ℕ) (b : ℕ)
+      → StringFrom (mayReadOf true 6 s) (s .memory) (r0 s) words b → AreWords words → privileged b ≡ true → b < 65536
       → length (pairBytes words) ≤ length (s .output) → refusedPairSteps (r0 s) words < n
       → NoInterrupt s (refusedPairSteps (r0 s) words)
-      → Halts s n (refusedPairSteps (r0 s) words) (pairBytes words) 0 0x2FFA
+      → Halts s n (refusedPairSteps (r0 s) words) (pairBytes words) 0 6

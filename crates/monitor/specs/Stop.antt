@@ -18,7 +18,7 @@ use Rattle.run.specs.Refusals.{admissionOf}
 use Rattle.run.specs.Call.{callOf}
 use Rattle.monitor.specs.Keys.{arrivedBy}
 use Rattle.monitor.specs.Uses.{HasWords, withVector, stopCode}
-use Rattle.monitor.specs.Calls.{Begins, Calls, Raises, NoInterrupt, notRead, Halts}
+use Rattle.monitor.specs.Calls.{stackOf, StackApart, Begins, Calls, Raises, NoInterrupt, notRead, Halts}
 
 -- A trap vector that is none of x20 to x25.
 pub record OtherTrap (vector : ℕ) : Type 0 where
@@ -53,22 +53,23 @@ pub record HaltsAgain (s : Start) (n : ℕ) : Type 0 where
   pub display : callOf s n .machine .devices .busy ≡ s .machine .devices .busy - 3
   pub clock : callOf s n .machine .clock ≡ s .machine .clock + 3
 
--- Three steps, the entry, LD and STI: halted, nothing shown, no word changed but x2FFE and x2FFF.
+-- Three steps, the entry, LD and STI: halted, nothing shown, no word changed but two of the stack's.
 pub record StopHalts : Type 0 where
-  pub other-trap : (vector : ℕ) → OtherTrap vector → (user : Bool) (s : Start) (n : ℕ) → Calls vector stopCode user s n
-      → 3 < n → NoInterrupt s 3 → Halts s n 3 [] (s .machine .devices .busy - 3) 0x2FFE
-  pub privilege-exception : (s : Start) (n : ℕ) → Raises privilege stopCode s n → 3 < n → NoInterrupt s 3
-      → Halts s n 3 [] (s .machine .devices .busy - 3) 0x2FFE
-  pub illegal-exception : (s : Start) (n : ℕ) → Raises illegal stopCode s n → 3 < n → NoInterrupt s 3
-      → Halts s n 3 [] (s .machine .devices .busy - 3) 0x2FFE
-  pub access-exception : (s : Start) (n : ℕ) → Raises access stopCode s n → 3 < n → NoInterrupt s 3
-      → Halts s n 3 [] (s .machine .devices .busy - 3) 0x2FFE
+  pub other-trap : (vector : ℕ) → OtherTrap vector → (user : Bool) (s : Start) (n : ℕ) → Calls vector stopCode 2 user s n
+      → 3 < n → NoInterrupt s 3 → Halts s n 3 [] (s .machine .devices .busy - 3) 2
+  pub privilege-exception : (s : Start) (n : ℕ) → Raises privilege stopCode 2 s n → 3 < n → NoInterrupt s 3
+      → Halts s n 3 [] (s .machine .devices .busy - 3) 2
+  pub illegal-exception : (s : Start) (n : ℕ) → Raises illegal stopCode 2 s n → 3 < n → NoInterrupt s 3
+      → Halts s n 3 [] (s .machine .devices .busy - 3) 2
+  pub access-exception : (s : Start) (n : ℕ) → Raises access stopCode 2 s n → 3 < n → NoInterrupt s 3
+      → Halts s n 3 [] (s .machine .devices .busy - 3) 2
   -- the one exception in Supervisor mode: the word at PC is reserved
   pub illegal-in-supervisor-mode : (s : Start) (n reserved : ℕ)
-      → Begins (withVector (vectorOf illegal) stopCode) false s n
+      → Begins (withVector (vectorOf illegal) stopCode) 2 false s n
       → readOf (getD (s .memory) (s .machine .pc) 0) ≡ Reserved reserved → 3 < n → NoInterrupt s 3
-      → Halts s n 3 [] (s .machine .devices .busy - 3) 0x2FFE
+      → Halts s n 3 [] (s .machine .devices .busy - 3) 2
   -- "and it halts again": after STOP, after HALT, and after PUTS or PUTSP that was refused a word
-  pub again : (s : Start) (n k : ℕ) (bytes : List ℕ) (busy low : ℕ) → length (s .machine .regs) ≡ 8
-      → HasWords stopCode (s .memory) → Halts s n k bytes busy low → 0x02A5 ≤ low → (s′ : Start) (n′ : ℕ)
+  pub again : (s : Start) (n k : ℕ) (bytes : List ℕ) (busy words : ℕ) → length (s .machine .regs) ≡ 8
+      → HasWords stopCode (s .memory) → Halts s n k bytes busy words → StackApart words (stackOf (s .machine))
+      → (s′ : Start) (n′ : ℕ)
       → GoesOn s n s′ n′ → 3 < n′ → NoInterrupt s′ 3 → HaltsAgain s′ n′
