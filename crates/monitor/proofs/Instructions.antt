@@ -738,8 +738,7 @@ module _ {s : Start} {since bound : ℕ} (quiet : Quiet s since bound) (f : Fram
       let outer = both-true (eqb (v .mcr) 0x8000) (cellsFine (f .words) (v .cells) && mayUse f v room (useAt f v)) may
       in
       let inner = both-true (cellsFine (f .words) (v .cells)) (mayUse f v room (useAt f v)) (outer .1) in
-      let going : v .mcr ≡ 0x8000 = eqb-true (v .mcr) 0x8000 (outer .0) in
-      (
+      let going : v .mcr ≡ 0x8000 = eqb-true (v .mcr) 0x8000 (outer .0) in (
         by-use v going (inner .0) k (useAt f v)
             (plan-by-use (v .regs) (v .pc) (codesFor (v .codes) (readOf (wordAt f v (v .pc))))
             (readOf (wordAt f v (v .pc))))

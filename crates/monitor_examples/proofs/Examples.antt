@@ -30,12 +30,12 @@ use Rattle.monitor.specs.Routines.{routineWords, monitorWords}
 use Rattle.monitor.specs.Install.{installOf}
 use Rattle.monitor.specs.Uses.{HasWords, withVector, getcCode, outCode, putsCode, inCode, putspCode}
 use Rattle.monitor.specs.Uses.{haltCode, stopCode, backUses}
-use Rattle.monitor.specs.Calls.{Begins, Calls, Raises, none-enabled}
+use Rattle.monitor.specs.Calls.{stackOf, StackApart, Begins, Calls, Raises, none-enabled}
 use Rattle.monitor.specs.Getc.{KeyComes}
 use Rattle.monitor.specs.In.{firstPoll}
 use Rattle.monitor.specs.Puts.{mayRead, StringFrom}
-use Rattle.monitor.specs.Back.{stackOf, Interrupted}
-use Rattle.monitor_examples.specs.Examples.{exampleMemory, example, keyOnTheWay, ExamplesHold}
+use Rattle.monitor.specs.Back.{Interrupted}
+use Rattle.monitor_examples.specs.Examples.{exampleMemory, exampleWith, example, keyOnTheWay, ExamplesHold}
 use Rattle.monitor.proofs.Intact.{monitor-word}
 use Rattle.monitor.proofs.UseLaws.{getc-below, out-below, stop-below, puts-below, putsp-below, in-below}
 use Rattle.monitor.proofs.UseLaws.{halt-below, back-below, with-vector-below}
@@ -43,7 +43,7 @@ use Rattle.monitor.proofs.Getc.{still-ready}
 
 -- To unfold this is to compute what a call is handed.
 unfoldable handed : Unit {0}
-unfolding example exampleMemory readOf inUserMode definedPsr privileged deniedBy wrongSize undefinedTimer
+unfolding exampleWith exampleMemory readOf inUserMode definedPsr privileged deniedBy wrongSize undefinedTimer
     undefinedDevices undefinedRecord tooManySteps unequalLists firstRefusal entryAdmission timesAdmission admissionOf
     vectorWord vectorsFrom vectorTable routineWords monitorWords installOf
 handed = tt
@@ -62,77 +62,85 @@ module _ (word : ℕ) (uses : ℕ → Bool) (below : (a : ℕ) → uses a ≡ tr
   has-words : HasWords uses (exampleMemory word)
   has-words a used = monitor-word (exampleMemory word) (whole word) a (below a used)
 
-  ready : (user : Bool) → Begins uses user (example user word 0x8000) 1000
+  ready : (words sp : ℕ) → StackApart words sp → (user : Bool)
+      → Begins uses words user (exampleWith sp user word 0x8000) 1000
   unfolding handed
-  ready true = record {
+  ready words sp apart true = record {
     accepted = refl;
     registers = refl;
     mode = refl;
     intact = has-words;
-    stack = refl;
+    stack = apart;
     mcr = refl;
   }
-  ready false = record {
+  ready words sp apart false = record {
     accepted = refl;
     registers = refl;
     mode = refl;
     intact = has-words;
-    stack = refl;
+    stack = apart;
     mcr = refl;
   }
 
-getc : (user : Bool) → Calls 0x20 getcCode user (example user 0xF020 0x8000) 1000
+getc : (user : Bool) (sp : ℕ) → StackApart 2 sp → Calls 0x20 getcCode 2 user (exampleWith sp user 0xF020 0x8000) 1000
 unfolding handed
-getc user = record {
-  begins = ready 0xF020 (withVector 0x20 getcCode) (with-vector-below 0x20 getcCode (omega arith) getc-below) user;
+getc user sp apart = record {
+  begins =
+      ready 0xF020 (withVector 0x20 getcCode) (with-vector-below 0x20 getcCode (omega arith) getc-below) 2 sp apart user;
   may-fetch = allowed user;
   trap = refl;
 }
 
-out : (user : Bool) → Calls 0x21 outCode user (example user 0xF021 0x8000) 1000
+out : (user : Bool) (sp : ℕ) → StackApart 3 sp → Calls 0x21 outCode 3 user (exampleWith sp user 0xF021 0x8000) 1000
 unfolding handed
-out user = record {
-  begins = ready 0xF021 (withVector 0x21 outCode) (with-vector-below 0x21 outCode (omega arith) out-below) user;
+out user sp apart = record {
+  begins =
+      ready 0xF021 (withVector 0x21 outCode) (with-vector-below 0x21 outCode (omega arith) out-below) 3 sp apart user;
   may-fetch = allowed user;
   trap = refl;
 }
 
-puts : (user : Bool) → Calls 0x22 putsCode user (example user 0xF022 0x8000) 1000
+puts : (user : Bool) (sp : ℕ) → StackApart 5 sp → Calls 0x22 putsCode 5 user (exampleWith sp user 0xF022 0x8000) 1000
 unfolding handed
-puts user = record {
-  begins = ready 0xF022 (withVector 0x22 putsCode) (with-vector-below 0x22 putsCode (omega arith) puts-below) user;
+puts user sp apart = record {
+  begins =
+      ready 0xF022 (withVector 0x22 putsCode) (with-vector-below 0x22 putsCode (omega arith) puts-below) 5 sp apart user;
   may-fetch = allowed user;
   trap = refl;
 }
 
-input : (user : Bool) → Calls 0x23 inCode user (example user 0xF023 0x8000) 1000
+input : (user : Bool) (sp : ℕ) → StackApart 4 sp → Calls 0x23 inCode 4 user (exampleWith sp user 0xF023 0x8000) 1000
 unfolding handed
-input user = record {
-  begins = ready 0xF023 (withVector 0x23 inCode) (with-vector-below 0x23 inCode (omega arith) in-below) user;
+input user sp apart = record {
+  begins =
+      ready 0xF023 (withVector 0x23 inCode) (with-vector-below 0x23 inCode (omega arith) in-below) 4 sp apart user;
   may-fetch = allowed user;
   trap = refl;
 }
 
-putsp : (user : Bool) → Calls 0x24 putspCode user (example user 0xF024 0x8000) 1000
+putsp : (user : Bool) (sp : ℕ) → StackApart 6 sp → Calls 0x24 putspCode 6 user (exampleWith sp user 0xF024 0x8000) 1000
 unfolding handed
-putsp user = record {
-  begins = ready 0xF024 (withVector 0x24 putspCode) (with-vector-below 0x24 putspCode (omega arith) putsp-below) user;
+putsp user sp apart = record {
+  begins =
+      ready 0xF024 (withVector 0x24 putspCode) (with-vector-below 0x24 putspCode (omega arith) putsp-below) 6 sp apart user;
   may-fetch = allowed user;
   trap = refl;
 }
 
-halt : (user : Bool) → Calls 0x25 haltCode user (example user 0xF025 0x8000) 1000
+halt : (user : Bool) (sp : ℕ) → StackApart 5 sp → Calls 0x25 haltCode 5 user (exampleWith sp user 0xF025 0x8000) 1000
 unfolding handed
-halt user = record {
-  begins = ready 0xF025 (withVector 0x25 haltCode) (with-vector-below 0x25 haltCode (omega arith) halt-below) user;
+halt user sp apart = record {
+  begins =
+      ready 0xF025 (withVector 0x25 haltCode) (with-vector-below 0x25 haltCode (omega arith) halt-below) 5 sp apart user;
   may-fetch = allowed user;
   trap = refl;
 }
 
-other : (user : Bool) → Calls 0xFF stopCode user (example user 0xF0FF 0x8000) 1000
+other : (user : Bool) (sp : ℕ) → StackApart 2 sp → Calls 0xFF stopCode 2 user (exampleWith sp user 0xF0FF 0x8000) 1000
 unfolding handed
-other user = record {
-  begins = ready 0xF0FF (withVector 0xFF stopCode) (with-vector-below 0xFF stopCode (omega arith) stop-below) user;
+other user sp apart = record {
+  begins =
+      ready 0xF0FF (withVector 0xFF stopCode) (with-vector-below 0xFF stopCode (omega arith) stop-below) 2 sp apart user;
   may-fetch = allowed user;
   trap = refl;
 }
@@ -145,32 +153,40 @@ unfolding handed codesOf recoded keysDue readyAfter lastKey afterKeys ticked aft
     nextStepBy withShown stepMadeBy isHalted showsByte isFullBy oneMoreBy runBy endedBy admittedBy callBy causeAt
 stepping = tt
 
-raises : Raises access stopCode (example true 0x21FE 0x8000) 1000
+at-x3000 : StackApart 2 0x3000
+at-x3000 = record { above-monitor = omega arith; below-devices = omega arith }
+
+raises : Raises access stopCode 2 (example true 0x21FE 0x8000) 1000
 unfolding stepping
 raises = record {
-  begins = ready 0x21FE (withVector 0x0102 stopCode) (with-vector-below 0x0102 stopCode (omega arith) stop-below) true;
+  begins =
+      ready 0x21FE (withVector 0x0102 stopCode) (with-vector-below 0x0102 stopCode (omega arith) stop-below) 2 0x3000
+      at-x3000 true;
   pushed-psr = 0x8002;
   pushed-pc = 0x3000;
   cause = refl;
 }
 
-privilege-raised : Raises privilege stopCode (example true 0x8000 0x8000) 1000
+privilege-raised : Raises privilege stopCode 2 (example true 0x8000 0x8000) 1000
 unfolding stepping
 privilege-raised = record {
-  begins = ready 0x8000 (withVector 0x0100 stopCode) (with-vector-below 0x0100 stopCode (omega arith) stop-below) true;
+  begins =
+      ready 0x8000 (withVector 0x0100 stopCode) (with-vector-below 0x0100 stopCode (omega arith) stop-below) 2 0x3000
+      at-x3000 true;
   pushed-psr = 0x8002;
   pushed-pc = 0x3000;
   cause = refl;
 }
 
-illegal-begins : (user : Bool)
-    → Begins (withVector (vectorOf illegal) stopCode) user (example user 0xD000 0x8000) 1000
-illegal-begins user =
-    ready 0xD000 (withVector 0x0101 stopCode) (with-vector-below 0x0101 stopCode (omega arith) stop-below) user
+illegal-begins : (user : Bool) (sp : ℕ) → StackApart 2 sp
+    → Begins (withVector (vectorOf illegal) stopCode) 2 user (exampleWith sp user 0xD000 0x8000) 1000
+illegal-begins user sp apart =
+    ready 0xD000 (withVector 0x0101 stopCode) (with-vector-below 0x0101 stopCode (omega arith) stop-below) 2 sp apart
+    user
 
-illegal-raised : Raises illegal stopCode (example true 0xD000 0x8000) 1000
+illegal-raised : Raises illegal stopCode 2 (example true 0xD000 0x8000) 1000
 unfolding stepping
-illegal-raised = record { begins = illegal-begins true; pushed-psr = 0x8002; pushed-pc = 0x3000; cause = refl }
+illegal-raised = record { begins = illegal-begins true 0x3000 at-x3000; pushed-psr = 0x8002; pushed-pc = 0x3000; cause = refl }
 
 illegal-word : readOf (getD (exampleMemory 0xD000) 0x3000 0) ≡ Reserved 0
 unfolding handed
@@ -226,38 +242,62 @@ on-the-way = record {
 }
 
 -- A key that is ready at the call.
-key-ready : (user : Bool) (word first : ℕ) → KeyComes (example user word 0x8000) first 0
-unfolding example
-key-ready user word first = record {
+key-ready : (sp : ℕ) (user : Bool) (word first : ℕ) → KeyComes (exampleWith sp user word 0x8000) first 0
+unfolding exampleWith
+key-ready sp user word first = record {
   none = λ j l. absurd (omega arith);
   comes = still-ready _ 0x8000 (omega arith);
 }
 
-puts-string : (user : Bool)
-    → StringFrom (mayRead user 0x2FFB) (exampleMemory 0xF022) 0x3002 (0x0061 ∷ 0xABCD ∷ []) 0x3004
+-- The string stands at addresses that may be read.
+string : (may : ℕ → Bool) (word : ℕ) → may 0x3002 ≡ true → may 0x3003 ≡ true
+    → StringFrom may (exampleMemory word) 0x3002 (0x0061 ∷ 0xABCD ∷ []) 0x3004
 unfolding handed
-puts-string true = (refl, refl, omega arith, (refl, refl, omega arith, refl))
-puts-string false = (refl, refl, omega arith, (refl, refl, omega arith, refl))
+string may word first second = (first, refl, omega arith, (second, refl, omega arith, refl))
+
+puts-string : (user : Bool)
+    → StringFrom (mayRead user 5 0x3000) (exampleMemory 0xF022) 0x3002 (0x0061 ∷ 0xABCD ∷ []) 0x3004
+unfolding handed
+puts-string true = string (mayRead true 5 0x3000) 0xF022 refl refl
+puts-string false = string (mayRead false 5 0x3000) 0xF022 refl refl
+
+puts-string-below : (user : Bool)
+    → StringFrom (mayRead user 5 0x3009) (exampleMemory 0xF022) 0x3002 (0x0061 ∷ 0xABCD ∷ []) 0x3004
+unfolding handed
+puts-string-below true = string (mayRead true 5 0x3009) 0xF022 refl refl
+puts-string-below false = string (mayRead false 5 0x3009) 0xF022 refl refl
 
 putsp-string : (user : Bool)
-    → StringFrom (mayRead user 0x2FFA) (exampleMemory 0xF024) 0x3002 (0x0061 ∷ 0xABCD ∷ []) 0x3004
+    → StringFrom (mayRead user 6 0x3000) (exampleMemory 0xF024) 0x3002 (0x0061 ∷ 0xABCD ∷ []) 0x3004
 unfolding handed
-putsp-string true = (refl, refl, omega arith, (refl, refl, omega arith, refl))
-putsp-string false = (refl, refl, omega arith, (refl, refl, omega arith, refl))
+putsp-string true = string (mayRead true 6 0x3000) 0xF024 refl refl
+putsp-string false = string (mayRead false 6 0x3000) 0xF024 refl refl
+
+putsp-string-below : (user : Bool)
+    → StringFrom (mayRead user 6 0x300A) (exampleMemory 0xF024) 0x3002 (0x0061 ∷ 0xABCD ∷ []) 0x3004
+unfolding handed
+putsp-string-below true = string (mayRead true 6 0x300A) 0xF024 refl refl
+putsp-string-below false = string (mayRead false 6 0x300A) 0xF024 refl refl
 
 pub examples-hold : ExamplesHold
 unfolding handed
 examples-hold = record {
+  at-x3000 = record { above-monitor = omega arith; below-devices = omega arith };
+  at-x5000 = record { above-monitor = omega arith; below-devices = omega arith };
+  lowest = record { above-monitor = omega arith; below-devices = omega arith };
+  highest = record { above-monitor = omega arith; below-devices = omega arith };
   getc = getc;
-  getc-key = λ user. key-ready user 0xF020 1;
+  getc-key = λ user sp. key-ready sp user 0xF020 1;
   out = out;
   puts = puts;
   puts-string = puts-string;
+  puts-string-below = puts-string-below;
   puts-end = refl;
   input = input;
-  input-key = λ user. key-ready user 0xF023 (firstPoll (example user 0xF023 0x8000));
+  input-key = λ user sp. key-ready sp user 0xF023 (firstPoll (exampleWith sp user 0xF023 0x8000));
   putsp = putsp;
   putsp-string = putsp-string;
+  putsp-string-below = putsp-string-below;
   halt = halt;
   other = other;
   access-exception = raises;
@@ -265,7 +305,7 @@ examples-hold = record {
   illegal-exception = illegal-raised;
   illegal-begins = illegal-begins false;
   illegal-word = illegal-word;
-  no-interrupt = λ user word k. none-enabled (record {
+  no-interrupt = λ user sp word k. none-enabled (record {
     keyboard = refl;
     keyboard-word = omega arith;
     timer = refl;

@@ -13,20 +13,19 @@ use Rattle.run.specs.Run.{Start}
 use Rattle.run.specs.Call.{startOf, callOf}
 use Rattle.monitor.specs.Install.{installOf}
 use Rattle.monitor.specs.Uses.{withVector, getcCode, outCode, putsCode, inCode, putspCode, haltCode, stopCode}
-use Rattle.monitor.specs.Calls.{Begins, Calls, Raises, NoInterrupt}
+use Rattle.monitor.specs.Calls.{StackApart, Begins, Calls, Raises, NoInterrupt}
 use Rattle.monitor.specs.Puts.{mayRead, StringFrom}
 use Rattle.monitor.specs.Getc.{KeyComes}
 use Rattle.monitor.specs.In.{firstPoll}
 use Rattle.monitor.specs.Back.{Interrupted}
 
--- In User mode or in Supervisor mode, with the supervisor stack at x3000. R0 is x3002; this KBSR, and the key x61 in
--- KBDR.
-abbrev pub programAt3000 : Bool → ℕ → Machine
-programAt3000 user kbsr = record {
-  regs = 0x3002 ∷ 0 ∷ 0 ∷ 0 ∷ 0 ∷ 0 ∷ cond user 0xFDFF 0x3000 ∷ 0 ∷ [];
+-- In User mode or in Supervisor mode, with the supervisor stack at sp. R0 is x3002; this KBSR, and the key x61 in KBDR.
+abbrev pub programAt3000 : Bool → ℕ → ℕ → Machine
+programAt3000 user sp kbsr = record {
+  regs = 0x3002 ∷ 0 ∷ 0 ∷ 0 ∷ 0 ∷ 0 ∷ cond user 0xFDFF sp ∷ 0 ∷ [];
   pc = 0x3000;
   psr = cond user 0x8002 0x0002;
-  «saved_ssp» = 0x3000;
+  «saved_ssp» = sp;
   «saved_usp» = 0;
   devices = devicesOf kbsr 0x61 0x8000 0 zeroTimer;
   clock = 0;
@@ -36,39 +35,56 @@ programAt3000 user kbsr = record {
 unfoldable pub exampleMemory : ℕ → List ℕ
 exampleMemory word = set (set (set (installOf (replicate 65536 0) .words) 0x3000 word) 0x3002 0x0061) 0x3003 0xABCD
 
-unfoldable pub example : Bool → ℕ → ℕ → Start
-example user word kbsr = startOf (programAt3000 user kbsr) (exampleMemory word) [] [] (replicate 32 0)
+unfoldable pub exampleWith : ℕ → Bool → ℕ → ℕ → Start
+exampleWith sp user word kbsr = startOf (programAt3000 user sp kbsr) (exampleMemory word) [] [] (replicate 32 0)
+
+-- The stack at x3000, as a start makes it.
+abbrev pub example : Bool → ℕ → ℕ → Start
+example = exampleWith 0x3000
 
 -- OUT is called in User mode; the keyboard may interrupt, and a key comes in the third step, on the way through OUT.
 unfoldable pub keyOnTheWay : Start
 keyOnTheWay =
-    startOf (programAt3000 true 0x4000) (exampleMemory 0xF021) (2 ∷ []) (0x61 ∷ []) (replicate 32 0)
+    startOf (programAt3000 true 0x3000 0x4000) (exampleMemory 0xF021) (2 ∷ []) (0x61 ∷ []) (replicate 32 0)
 
 pub record ExamplesHold : Type 0 where
-  pub getc : (user : Bool) → Calls 0x20 getcCode user (example user 0xF020 0x8000) 1000
-  pub getc-key : (user : Bool) → KeyComes (example user 0xF020 0x8000) 1 0
-  pub out : (user : Bool) → Calls 0x21 outCode user (example user 0xF021 0x8000) 1000
-  pub puts : (user : Bool) → Calls 0x22 putsCode user (example user 0xF022 0x8000) 1000
+  -- a stack at x3000, as a start makes it; elsewhere; and at both ends of where it may be
+  pub at-x3000 : StackApart 6 0x3000
+  pub at-x5000 : StackApart 6 0x5000
+  pub lowest : StackApart 6 0x02AB
+  pub highest : StackApart 6 0xFE00
+  -- each routine is called, wherever the stack is
+  pub getc : (user : Bool) (sp : ℕ) → StackApart 2 sp → Calls 0x20 getcCode 2 user (exampleWith sp user 0xF020 0x8000) 1000
+  pub getc-key : (user : Bool) (sp : ℕ) → KeyComes (exampleWith sp user 0xF020 0x8000) 1 0
+  pub out : (user : Bool) (sp : ℕ) → StackApart 3 sp → Calls 0x21 outCode 3 user (exampleWith sp user 0xF021 0x8000) 1000
+  pub puts : (user : Bool) (sp : ℕ) → StackApart 5 sp → Calls 0x22 putsCode 5 user (exampleWith sp user 0xF022 0x8000) 1000
+  pub input : (user : Bool) (sp : ℕ) → StackApart 4 sp → Calls 0x23 inCode 4 user (exampleWith sp user 0xF023 0x8000) 1000
+  pub input-key : (user : Bool) (sp : ℕ)
+      → KeyComes (exampleWith sp user 0xF023 0x8000) (firstPoll (exampleWith sp user 0xF023 0x8000)) 0
+  pub putsp : (user : Bool) (sp : ℕ) → StackApart 6 sp
+      → Calls 0x24 putspCode 6 user (exampleWith sp user 0xF024 0x8000) 1000
+  pub halt : (user : Bool) (sp : ℕ) → StackApart 5 sp → Calls 0x25 haltCode 5 user (exampleWith sp user 0xF025 0x8000) 1000
+  pub other : (user : Bool) (sp : ℕ) → StackApart 2 sp → Calls 0xFF stopCode 2 user (exampleWith sp user 0xF0FF 0x8000) 1000
+  -- the string from x3002 on is apart from a stack at x3000; and from one right above it, at x3009 and x300A
   pub puts-string : (user : Bool)
-      → StringFrom (mayRead user 0x2FFB) (exampleMemory 0xF022) 0x3002 (0x0061 ∷ 0xABCD ∷ []) 0x3004
+      → StringFrom (mayRead user 5 0x3000) (exampleMemory 0xF022) 0x3002 (0x0061 ∷ 0xABCD ∷ []) 0x3004
+  pub puts-string-below : (user : Bool)
+      → StringFrom (mayRead user 5 0x3009) (exampleMemory 0xF022) 0x3002 (0x0061 ∷ 0xABCD ∷ []) 0x3004
   pub puts-end : getD (exampleMemory 0xF022) 0x3004 0 ≡ 0
-  pub input : (user : Bool) → Calls 0x23 inCode user (example user 0xF023 0x8000) 1000
-  pub input-key : (user : Bool)
-      → KeyComes (example user 0xF023 0x8000) (firstPoll (example user 0xF023 0x8000)) 0
-  pub putsp : (user : Bool) → Calls 0x24 putspCode user (example user 0xF024 0x8000) 1000
   pub putsp-string : (user : Bool)
-      → StringFrom (mayRead user 0x2FFA) (exampleMemory 0xF024) 0x3002 (0x0061 ∷ 0xABCD ∷ []) 0x3004
-  pub halt : (user : Bool) → Calls 0x25 haltCode user (example user 0xF025 0x8000) 1000
-  pub other : (user : Bool) → Calls 0xFF stopCode user (example user 0xF0FF 0x8000) 1000
+      → StringFrom (mayRead user 6 0x3000) (exampleMemory 0xF024) 0x3002 (0x0061 ∷ 0xABCD ∷ []) 0x3004
+  pub putsp-string-below : (user : Bool)
+      → StringFrom (mayRead user 6 0x300A) (exampleMemory 0xF024) 0x3002 (0x0061 ∷ 0xABCD ∷ []) 0x3004
   -- LD R0 from x2FFF
-  pub access-exception : Raises access stopCode (example true 0x21FE 0x8000) 1000
+  pub access-exception : Raises access stopCode 2 (example true 0x21FE 0x8000) 1000
   -- RTI; a reserved word, and one in Supervisor mode
-  pub privilege-exception : Raises privilege stopCode (example true 0x8000 0x8000) 1000
-  pub illegal-exception : Raises illegal stopCode (example true 0xD000 0x8000) 1000
-  pub illegal-begins : Begins (withVector (vectorOf illegal) stopCode) false (example false 0xD000 0x8000) 1000
+  pub privilege-exception : Raises privilege stopCode 2 (example true 0x8000 0x8000) 1000
+  pub illegal-exception : Raises illegal stopCode 2 (example true 0xD000 0x8000) 1000
+  pub illegal-begins : (sp : ℕ) → StackApart 2 sp
+      → Begins (withVector (vectorOf illegal) stopCode) 2 false (exampleWith sp false 0xD000 0x8000) 1000
   pub illegal-word : readOf (getD (exampleMemory 0xD000) 0x3000 0) ≡ Reserved 0
   -- no device is enabled, whatever the word and the keyboard's ready bit are
-  pub no-interrupt : (user : Bool) (word k : ℕ) → NoInterrupt (example user word 0x8000) k
+  pub no-interrupt : (user : Bool) (sp word k : ℕ) → NoInterrupt (exampleWith sp user word 0x8000) k
   -- a key that is ready and may interrupt, and one that comes on the way through a routine
   pub interrupted : Interrupted (example true 0x1020 0xC000) 1000 0 (callOf (example true 0x1020 0xC000) 0)
   pub on-the-way : Interrupted keyOnTheWay 1000 2 (callOf keyOnTheWay 2)
