@@ -44,7 +44,7 @@ use Rattle.monitor.proofs.Modes.{supervisor-mode}
 use Rattle.monitor.proofs.Execution.{Frame, Known, these, from, codesNumber, cell, View, psrAt, memoryAt}
 use Rattle.monitor.proofs.Execution.{outputAt, machineAt, At, statusIn, Gives, Shows, advance, advance-by}
 use Rattle.monitor.proofs.Execution.{same-keyboard, Quiet, QuietStep, Leads, leads-by-one, then}
-use Rattle.monitor.proofs.Intact.{Intact, cellsFine, wordAt, low-word, vector-word}
+use Rattle.monitor.proofs.Intact.{Intact, cellsFine, usable, wordAt, low-word, vector-word}
 use Rattle.monitor.proofs.Exceptions.{user-raises}
 use Rattle.monitor.proofs.Instructions.{Sound, codesFor, planAt, isPlain}
 use Rattle.monitor.proofs.Instructions.{in-supervisor-mode, all-allowed, plan-is, word-is, by-plan}
@@ -314,6 +314,8 @@ pub record Polls (f : Frame) (v : View) (r pc : ℕ) : Type 0 where
   pub branches : (regs : List ℕ) (c : Known) (busy : ℕ)
       → planAt f (within v regs (next pc) c busy)
       ≡ Jump (cond (isTaken 3 (codesFor c (Br 3 (negsuc 1)))) pc (next (next pc)))
+  -- these words are the routine's own
+  pub own : (usable f pc && (usable f (next pc) && usable f pointer)) ≡ true
 
 module _ {s : Start} {since bound : ℕ} (quiet : Quiet s since bound) (f : Frame) (sound : Sound f) (v : View)
     (going : v .mcr ≡ 0x8000) (fine : cellsFine (f .words) (v .cells) ≡ true) (r pc : ℕ) (p : Polls f v r pc) where

@@ -65,7 +65,7 @@ module _ (user : Bool) (s : Start) (x : Eight (s .machine .regs)) where
 
   polls : Polls f (polling left) 2 0x022E
   unfolding computing
-  polls = record { pointer = 0x0282; loads = λ r c b. refl; display = refl; branches = λ r c b. refl }
+  polls = record { pointer = 0x0282; loads = λ r c b. refl; display = refl; branches = λ r c b. refl; own = refl }
 
   keys : Keys f waiting 0 0x0233
   unfolding computing
@@ -99,7 +99,7 @@ module _ (user : Bool) (s : Start) (x : Eight (s .machine .regs)) where
     module _ (key read status : ℕ) (c : Known) (busy : ℕ) where
       echoes : Polls f (W key 0 0x8000 0x0236 c prompt busy read status) 1 0x0236
       unfolding computing
-      echoes = record { pointer = 0x0282; loads = λ r c b. refl; display = refl; branches = λ r c b. refl }
+      echoes = record { pointer = 0x0282; loads = λ r c b. refl; display = refl; branches = λ r c b. refl; own = refl }
 
       to-echo : Leads s 0 bound f (W key 0 0x8000 0x0236 c prompt busy read status) (waitSteps busy) f
           (W key 0x8000 0x8000 0x0238 (from 0x8000) prompt 0 read status)

@@ -315,14 +315,14 @@ unfolding planAt
 mayStep f room v = eqb (v .mcr) 0x8000 && (cellsFine (f .words) (v .cells) && mayUse f v room (useAt f v))
 
 -- The plan of an instruction that uses the stack.
-abbrev PlanIs : Use → List ℕ → ℕ → Plan → Type 0
+abbrev pub PlanIs : Use → List ℕ → ℕ → Plan → Type 0
 PlanIs (loadsSlot r n) regs pc plan = plan ≡ Load r (plus (register regs 6) n)
 PlanIs (storesSlot r n) regs pc plan = plan ≡ Store (register regs r) (plus (register regs 6) n)
 PlanIs (movesStack n) regs pc plan = plan ≡ Move 6 (plus (register regs 6) n) (next pc)
 PlanIs (leavesStack n) regs pc plan = plan ≡ Load 6 (plus (next pc) n)
 PlanIs elsewhere regs pc plan = Unit {0}
 
-plan-by-use : (regs : List ℕ) (pc c : ℕ) (i : Instruction) → PlanIs (useOf i) regs pc (planOf regs pc c i)
+pub plan-by-use : (regs : List ℕ) (pc c : ℕ) (i : Instruction) → PlanIs (useOf i) regs pc (planOf regs pc c i)
 unfolding planBy
 plan-by-use regs pc c (Br mask n) = tt
 plan-by-use regs pc c (AddRegister d a b) = tt
@@ -589,6 +589,55 @@ other f v k r x h = record {
   six = λ some. getD-set-other (v .regs) (r % 8) 6 x 0 (not-six r h) ∙ k .six some;
 }
 
+-- R6 stays where the view says.
+module _ (f : Frame) (room : ℕ) (v : View) (k : Kept f v) where
+  by-plan-keeps : (plan : Plan) → keepsSix plan ≡ true → Kept f (performed f v plan)
+  by-plan-keeps (Move r x pc) h =
+      let o = other f v k r x h in
+      record { eight = o .eight; six = o .six }
+  by-plan-keeps (Put r x pc) h =
+      let o = other f v k r x h in
+      record { eight = o .eight; six = o .six }
+  by-plan-keeps (Jump pc) h = record { eight = k .eight; six = k .six }
+  by-plan-keeps (Load r a) h =
+      let o = other f v k r (wordAt f v a) h in
+      record { eight = o .eight; six = o .six }
+  by-plan-keeps (LoadBy r a) h =
+      let o = other f v k r (displayAt v) h in
+      record { eight = o .eight; six = o .six }
+  by-plan-keeps (Store x a) h = k
+  by-plan-keeps (StoreBy x a) h = go (eqb (wordAt f v a) MCR)
+    where
+      go : (b : Bool) → Kept f (cond b (clocked v x) (showing v (x % 256)))
+      go true = record { eight = k .eight; six = k .six }
+      go false = record { eight = k .eight; six = k .six }
+  by-plan-keeps (Call vector) h = k
+  by-plan-keeps Illegal h = k
+  by-plan-keeps Return h = k
+
+  by-use-keeps : (u : Use) → mayUse f v room u ≡ true → Kept f (used f v u)
+  by-use-keeps (loadsSlot r n) may =
+      let o = other f v k r (slotAt f v (slotOf (v .depth) n)) (both-true (isOther r) (onStack f v n) may .0) in
+      record { eight = o .eight; six = o .six }
+  by-use-keeps (storesSlot r n) may = record { eight = k .eight; six = k .six }
+  by-use-keeps (movesStack n) may = record {
+    eight = length-set (v .regs) 6 (f .sp - slotOf (v .depth) n) ∙ k .eight;
+    six = λ h. getD-set-same (v .regs) 6 (f .sp - slotOf (v .depth) n) 0 (omega (arith, k .eight));
+  }
+  by-use-keeps (leavesStack n) may = record {
+    eight = length-set (v .regs) 6 (wordAt f v (plus (next (v .pc)) n)) ∙ k .eight;
+    six = λ h. absurd (omega arith);
+  }
+  by-use-keeps elsewhere may =
+      by-plan-keeps (planAt f v) (both-true (keepsSix (planAt f v)) (mayPerform f v room (planAt f v)) may .0)
+
+  pub keeps-once : mayStep f room v ≡ true → Kept f (stepped f v)
+  unfolding stepped mayStep planAt
+  keeps-once may =
+      let outer = both-true (eqb (v .mcr) 0x8000) (cellsFine (f .words) (v .cells) && mayUse f v room (useAt f v)) may
+      in
+      by-use-keeps (useAt f v) (both-true (cellsFine (f .words) (v .cells)) (mayUse f v room (useAt f v)) (outer .1) .1)
+
 module _ {s : Start} {since bound : ℕ} (quiet : Quiet s since bound) (f : Frame) (sound : Sound f) (room : ℕ)
     (has-room : room ≤ length (f .output)) where
   silently : (v : View) → v .mcr ≡ 0x8000 → (fine : cellsFine (f .words) (v .cells) ≡ true) → (plan : Plan) (v′ : View)
@@ -661,7 +710,7 @@ module _ {s : Start} {since bound : ℕ} (quiet : Quiet s since bound) (f : Fram
     plain : (n : ℤ) → OnStack f v n → f .sp - slot n < 0xFE00
     plain n o = omega (arith, sound .stack .above-monitor, sound .stack .below-devices, o .least, o .most)
 
-    by-use : (u : Use) → PlanIs u (v .regs) (v .pc) (planAt f v) → mayUse f v room u ≡ true
+    pub by-use : (u : Use) → PlanIs u (v .regs) (v .pc) (planAt f v) → mayUse f v room u ≡ true
         → Leads s since bound f v 1 f (used f v u)
     by-use (loadsSlot r n) is may =
         let o = on-stack f v n (both-true (isOther r) (onStack f v n) may .1) in
@@ -690,61 +739,16 @@ module _ {s : Start} {since bound : ℕ} (quiet : Quiet s since bound) (f : Fram
         by-plan v going fine (planAt f v) refl
         (both-true (keepsSix (planAt f v)) (mayPerform f v room (planAt f v)) may .1)
 
-    by-plan-keeps : (plan : Plan) → keepsSix plan ≡ true → Kept f (performed f v plan)
-    by-plan-keeps (Move r x pc) h =
-        let o = other f v k r x h in
-        record { eight = o .eight; six = o .six }
-    by-plan-keeps (Put r x pc) h =
-        let o = other f v k r x h in
-        record { eight = o .eight; six = o .six }
-    by-plan-keeps (Jump pc) h = record { eight = k .eight; six = k .six }
-    by-plan-keeps (Load r a) h =
-        let o = other f v k r (wordAt f v a) h in
-        record { eight = o .eight; six = o .six }
-    by-plan-keeps (LoadBy r a) h =
-        let o = other f v k r (displayAt v) h in
-        record { eight = o .eight; six = o .six }
-    by-plan-keeps (Store x a) h = k
-    by-plan-keeps (StoreBy x a) h = go (eqb (wordAt f v a) MCR)
-      where
-        go : (b : Bool) → Kept f (cond b (clocked v x) (showing v (x % 256)))
-        go true = record { eight = k .eight; six = k .six }
-        go false = record { eight = k .eight; six = k .six }
-    by-plan-keeps (Call vector) h = k
-    by-plan-keeps Illegal h = k
-    by-plan-keeps Return h = k
-
-    by-use-keeps : (u : Use) → mayUse f v room u ≡ true → Kept f (used f v u)
-    by-use-keeps (loadsSlot r n) may =
-        let o = other f v k r (slotAt f v (slot n)) (both-true (isOther r) (onStack f v n) may .0) in
-        record { eight = o .eight; six = o .six }
-    by-use-keeps (storesSlot r n) may = record { eight = k .eight; six = k .six }
-    by-use-keeps (movesStack n) may = record {
-      eight = length-set (v .regs) 6 (f .sp - slot n) ∙ k .eight;
-      six = λ h. getD-set-same (v .regs) 6 (f .sp - slot n) 0 (omega (arith, k .eight));
-    }
-    by-use-keeps (leavesStack n) may = record {
-      eight = length-set (v .regs) 6 (wordAt f v (plus (next (v .pc)) n)) ∙ k .eight;
-      six = λ h. absurd (omega arith);
-    }
-    by-use-keeps elsewhere may =
-        by-plan-keeps (planAt f v) (both-true (keepsSix (planAt f v)) (mayPerform f v room (planAt f v)) may .0)
-
   -- One step.
-  pub steps-once : (v : View) → Kept f v → mayStep f room v ≡ true
-      → Leads s since bound f v 1 f (stepped f v) × Kept f (stepped f v)
+  pub steps-once : (v : View) → Kept f v → mayStep f room v ≡ true → Leads s since bound f v 1 f (stepped f v)
   unfolding stepped mayStep planAt
   steps-once v k may =
       let outer = both-true (eqb (v .mcr) 0x8000) (cellsFine (f .words) (v .cells) && mayUse f v room (useAt f v)) may
       in
       let inner = both-true (cellsFine (f .words) (v .cells)) (mayUse f v room (useAt f v)) (outer .1) in
-      let going : v .mcr ≡ 0x8000 = eqb-true (v .mcr) 0x8000 (outer .0) in (
-        by-use v going (inner .0) k (useAt f v)
-            (plan-by-use (v .regs) (v .pc) (codesFor (v .codes) (readOf (wordAt f v (v .pc))))
-            (readOf (wordAt f v (v .pc))))
-            (inner .1),
-        by-use-keeps v going (inner .0) k (useAt f v) (inner .1),
-      )
+      by-use v (eqb-true (v .mcr) 0x8000 (outer .0)) (inner .0) k (useAt f v)
+      (plan-by-use (v .regs) (v .pc) (codesFor (v .codes) (readOf (wordAt f v (v .pc)))) (readOf (wordAt f v (v .pc))))
+      (inner .1)
 
 -- n steps, and whether they may be made.
 unfoldable pub steppedBy : ℕ → Frame → View → View
@@ -765,8 +769,8 @@ module _ {s : Start} {since bound : ℕ} (quiet : Quiet s since bound) (f : Fram
   one-more-step n rest v k may =
       let both = both-true (mayStep f room v) (maySteps n f room (stepped f v)) may in
       let z : 1 + n ≡ suc n = omega arith in
-      let first = steps-once quiet f sound room has-room v k (both .0) in
-      rw z at (then (first .0) (rest (stepped f v) (first .1) (both .1)))
+      rw z at (then (steps-once quiet f sound room has-room v k (both .0))
+      (rest (stepped f v) (keeps-once f room v k (both .0)) (both .1)))
 
   none : Runs zero
   unfolding steppedBy

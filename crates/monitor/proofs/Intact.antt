@@ -90,6 +90,10 @@ unfolding routineWords
 wordWith uses mem a =
     cond (leb 0x0200 a && (ltb a 0x02A5 && uses a)) (getD routineWords (a - 0x0200) 0) (getD mem a 0)
 
+-- A word that the routine uses.
+abbrev pub usable : Frame → ℕ → Bool
+usable f a = leb 0x0200 a && (ltb a 0x02A5 && f .uses a)
+
 abbrev pub wordAt : Frame → View → ℕ → ℕ
 wordAt f v a = wordWith (f .uses) (memoryAt f v) a
 

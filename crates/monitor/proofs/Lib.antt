@@ -11,6 +11,7 @@ pub mod Instructions
 pub mod Exceptions
 pub mod Entries
 pub mod Calls
+pub mod Paths
 pub mod Strings
 pub mod Keyboard
 pub mod Out

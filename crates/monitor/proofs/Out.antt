@@ -2,7 +2,7 @@
 use Prim.Native.Nat.{ℕ, zero, suc, _+_, _-_, _%_, _≤_, _<_}
 use native.Mathlib.Omega.{arith}
 use mathlib.Core.Path.{_≡_, refl, sym, ap, subst, _∙_}
-use mathlib.Core.Bool.{Bool, true}
+use mathlib.Core.Bool.{Bool, true, false}
 use mathlib.Core.List.{List, [], _∷_}
 use lib.ListN.{length, getD, set, take}
 use lib.Seq.{take-take}
@@ -16,14 +16,15 @@ use Rattle.monitor.specs.Uses.{withVector, outCode}
 use Rattle.monitor.specs.Out.{CallsOut, Uninterrupted, Resumed, waitSteps, outSteps, outStepsOf, OutShows}
 use Rattle.monitor.specs.Calls.{stackOf, Calls, NoInterrupt, takes-none, none-enabled, notRead, Resumes}
 use Rattle.monitor.specs.OutBothModes.{OutResumes}
-use Rattle.monitor.proofs.Execution.{Frame, View, from, At, Quiet, Leads, then}
+use Rattle.monitor.proofs.Execution.{Frame, View, from, At, Quiet}
 use Rattle.monitor.proofs.Intact.{monitor-word}
 use Rattle.monitor.proofs.UseLaws.{with-vector-below, out-below}
-use Rattle.monitor.proofs.Instructions.{Sound, kept, steppedBy, runs, one-more-byte, computing}
-use Rattle.monitor.proofs.Entries.{calledFrame, Polls, within, waits}
+use Rattle.monitor.proofs.Instructions.{kept, steppedBy, one-more-byte, computing}
+use Rattle.monitor.proofs.Entries.{calledFrame, Polls, within}
 use Rattle.monitor.proofs.Calls.{begins-sound, quiet-steps, was-uninterrupted, Eight, eight, begun}
 use Rattle.monitor.proofs.Calls.{routine-begins, AtReturn, backFrame, backView, at-back}
 use Rattle.monitor.proofs.Calls.{comes-back, none-read}
+use Rattle.monitor.proofs.Paths.{calm, calmly, Path, attends, then, treads, walks}
 
 abbrev uses : ℕ → Bool
 uses = withVector 0x21 outCode
@@ -47,24 +48,23 @@ module _ (user : Bool) (s : Start) (x : Eight (s .machine .regs)) where
 
   polls : Polls f polling 1 0x0206
   unfolding polling computing
-  polls = record { pointer = 0x0282; loads = λ r c b. refl; display = refl; branches = λ r c b. refl }
+  polls = record { pointer = 0x0282; loads = λ r c b. refl; display = refl; branches = λ r c b. refl; own = refl }
 
-  module _ (bound : ℕ) (quiet : Quiet s 0 bound) (sound : Sound f) (free : 1 ≤ length (s .output)) where
-    to-poll : Leads s 0 bound f (begun s x 0x0204 (next (s .machine .pc))) 2 f polling
-    unfolding polling computing
-    to-poll = runs quiet f sound 0 (omega arith) 2 (begun s x 0x0204 (next (s .machine .pc))) (kept refl refl) refl
+  module _ (may : ℕ → Bool) (free : 1 ≤ length (s .output)) where
+    to-poll : Path f may (begun s x 0x0204 (next (s .machine .pc))) 2 polling
+    unfolding polling computing calm calmly
+    to-poll = treads f may 0 (omega arith) 2 (begun s x 0x0204 (next (s .machine .pc))) (kept refl refl) refl refl
 
-    to-ready : Leads s 0 bound f polling (waitSteps (busy - 1 - 1 - 1)) f ready
+    to-ready : Path f may polling (waitSteps (busy - 1 - 1 - 1)) ready
     unfolding polling ready computing
     to-ready =
-        waits quiet f sound polling refl refl 1 0x0206 polls (busy - 1 - 1 - 1) (polling .regs) (polling .codes)
+        attends polling refl refl 1 0x0206 polls (busy - 1 - 1 - 1) (polling .regs) (polling .codes) refl refl refl
 
-    to-return : Leads s 0 bound f ready 3 f returning
-    unfolding polling ready returning computing
-    to-return = runs quiet f sound 1 free 3 ready (kept refl refl) refl
+    to-return : Path f may ready 3 returning
+    unfolding polling ready returning computing calm calmly
+    to-return = treads f may 1 free 3 ready (kept refl refl) refl refl
 
-    routine : Leads s 0 bound f (begun s x 0x0204 (next (s .machine .pc))) (2 + (waitSteps (busy - 1 - 1 - 1) + 3)) f
-        returning
+    routine : Path f may (begun s x 0x0204 (next (s .machine .pc))) (2 + (waitSteps (busy - 1 - 1 - 1) + 3)) returning
     routine = then to-poll (then to-ready to-return)
 
   at-return : AtReturn uses 3 user s returning
@@ -100,7 +100,7 @@ module _ (user : Bool) (s : Start) (n : ℕ) (c : Calls 0x21 outCode 3 user s n)
   at-rti : At s 0 j (f user s x) (returning user s x)
   unfolding vectorWord
   at-rti =
-      routine user s x (j + 1) quiet (begins-sound s n (c .begins)) free .on (omega arith)
+      walks quiet (f user s x) (begins-sound s n (c .begins)) (routine user s x (λ a. false) free) .on (omega arith)
       (routine-begins outCode 3 user s n (j + 1) x 0x21 0x0204 c (omega arith) quiet (omega arith) (omega arith) refl)
 
   restored : set (returning user s x .regs) 6 (getD (s .machine .regs) 6 0) ≡ s .machine .regs

@@ -15,21 +15,21 @@ use Rattle.machine.specs.Psr.{inUserMode, codesOf}
 use Rattle.machine.specs.Protection.{privileged}
 use Rattle.machine.proofs.WordLaws.{and-bits}
 use Rattle.run.specs.Run.{Start}
-use Rattle.run.proofs.Acceptance.{accepted-is-acceptable}
 use Rattle.monitor.specs.Vectors.{vectorWord}
 use Rattle.monitor.specs.Uses.{withVector, putspCode}
-use Rattle.monitor.specs.Calls.{stackOf, Calls, notRead, Resumes, Halts}
+use Rattle.monitor.specs.Calls.{stackOf, Calls, NoInterrupt, notRead, Resumes, Halts}
 use Rattle.monitor.specs.Puts.{mayReadOf, StringFrom, lookSteps, r0}
 use Rattle.monitor.specs.Putsp.{AreWords, unlessZero, pairBytes, shiftSteps, byteSteps, pairSteps, pairsSteps}
 use Rattle.monitor.specs.Putsp.{putspSteps, refusedPairSteps, PutspShows}
-use Rattle.monitor.proofs.Execution.{Frame, Known, from, codesNumber, cell, View, At, Quiet, Leads}
-use Rattle.monitor.proofs.Execution.{then, no-step}
-use Rattle.monitor.proofs.Instructions.{Sound, kept, steppedBy, runs, computing}
-use Rattle.monitor.proofs.Entries.{calledFrame, recoded}
+use Rattle.monitor.proofs.Execution.{Frame, Known, from, codesNumber, cell, View, At, Quiet}
+use Rattle.monitor.proofs.Instructions.{kept, steppedBy, computing}
+use Rattle.monitor.proofs.Entries.{calledFrame}
 use Rattle.monitor.proofs.Calls.{begins-sound, quiet-steps, Eight, eight, begun, routine-begins, halts}
 use Rattle.monitor.proofs.Calls.{as-before, AtReturn, comes-back, none-read}
 use Rattle.monitor.proofs.Strings.{readable, negative, positive, Looks, Comes, look-at, look-refused}
-use Rattle.monitor.proofs.Strings.{below-two, gets-word}
+use Rattle.monitor.proofs.Strings.{below-two}
+use Rattle.monitor.proofs.Paths.{calm, calmly, Path, fetches, no-step-more, then, knowing, treads, walks}
+use Rattle.monitor.proofs.Puts.{few-of}
 
 -- AND with x00FF.
 low-byte : (w : ℕ) → w < 65536 → wordAnd w 0x00FF ≡ w % 256
@@ -99,62 +99,57 @@ module _ (user : Bool) (s : Start) (x : Eight (s .machine .regs)) where
     status = s .machine .devices .kbsr;
   }
 
-  module _ (bound : ℕ) (quiet : Quiet s 0 bound) (sound : Sound f) where
-    begins : Leads s 0 bound f (begun s x 0x023D (next (s .machine .pc))) 5 f
-        (W (x .r₃) (x .r₀) (x .r₁) (x .r₂) 0x0242 (from (stackOf (s .machine) - 6)) []
+  module _ (may : ℕ → Bool) (allowed : (a : ℕ) → may a ≡ true → mayReadOf user 6 s a ≡ true) where
+    begins : Path f may (begun s x 0x023D (next (s .machine .pc))) 5 (W (x .r₃) (x .r₀) (x .r₁) (x .r₂) 0x0242 (from (stackOf (s .machine) - 6)) []
         (s .machine .devices .busy - 1 - 1 - 1 - 1 - 1 - 1))
-    unfolding computing
-    begins = runs quiet f sound 0 (omega arith) 5 (begun s x 0x023D (next (s .machine .pc))) (kept refl refl) refl
+    unfolding computing calm calmly
+    begins = treads f may 0 (omega arith) 5 (begun s x 0x023D (next (s .machine .pc))) (kept refl refl) refl refl
 
     known : (r₃ a r₁ r₂ pc : ℕ) (c c′ : Known) (bytes : List ℕ) (busy : ℕ) → codesNumber c ≡ codesNumber c′
-        → Leads s 0 bound f (W r₃ a r₁ r₂ pc c bytes busy) 0 f (W r₃ a r₁ r₂ pc c′ bytes busy)
-    known r₃ a r₁ r₂ pc c c′ bytes busy e = recoded f (W r₃ a r₁ r₂ pc c bytes busy) c c′ e
+        → Path f may (W r₃ a r₁ r₂ pc c bytes busy) 0 (W r₃ a r₁ r₂ pc c′ bytes busy)
+    known r₃ a r₁ r₂ pc c c′ bytes busy e = knowing (W r₃ a r₁ r₂ pc c bytes busy) c c′ e
 
-    looks : (r₃ : ℕ) → Looks s bound f (W r₃) psr 0x0242 0x0243 0x0246 0x0249 0x024A 0x0268
-    unfolding computing
+    looks : (r₃ : ℕ) → Looks f may (W r₃) psr 0x0242 0x0243 0x0246 0x0249 0x024A 0x0268
+    unfolding computing calm calmly
     looks r₃ = record {
-      loads-psr = λ a r₁ r₂ c bytes busy. runs quiet f sound 0 (omega arith) 1 (W r₃ a r₁ r₂ 0x0242 c bytes busy) (kept refl refl) refl;
+      loads-psr = λ a r₁ r₂ c bytes busy. treads f may 0 (omega arith) 1 (W r₃ a r₁ r₂ 0x0242 c bytes busy) (kept refl refl) refl refl;
       skips = λ a r₁ r₂ x l bytes busy.
           below-two
-          (λ (x : ℕ). Leads s 0 bound f (W r₃ a r₁ r₂ 0x0243 (from x) bytes busy) 1 f
-          (W r₃ a r₁ r₂ 0x024A (from x) bytes (busy - 1)))
-          (runs quiet f sound 0 (omega arith) 1 (W r₃ a r₁ r₂ 0x0243 (from 0) bytes busy) (kept refl refl) refl)
-          (runs quiet f sound 0 (omega arith) 1 (W r₃ a r₁ r₂ 0x0243 (from 1) bytes busy) (kept refl refl) refl) x l;
+          (λ (x : ℕ). Path f may (W r₃ a r₁ r₂ 0x0243 (from x) bytes busy) 1 (W r₃ a r₁ r₂ 0x024A (from x) bytes (busy - 1)))
+          (treads f may 0 (omega arith) 1 (W r₃ a r₁ r₂ 0x0243 (from 0) bytes busy) (kept refl refl) refl refl)
+          (treads f may 0 (omega arith) 1 (W r₃ a r₁ r₂ 0x0243 (from 1) bytes busy) (kept refl refl) refl refl) x l;
       adds-above = λ a r₁ r₂ bytes busy.
-          runs quiet f sound 0 (omega arith) 3 (W r₃ a r₁ r₂ 0x0243 (from 0x8000) bytes busy) (kept refl refl) refl;
+          treads f may 0 (omega arith) 3 (W r₃ a r₁ r₂ 0x0243 (from 0x8000) bytes busy) (kept refl refl) refl refl;
       goes-on = λ a r₁ r₂ bytes busy.
-          runs quiet f sound 0 (omega arith) 1 (W r₃ a r₁ r₂ 0x0246 (from 0x8000) bytes busy) (kept refl refl) refl;
+          treads f may 0 (omega arith) 1 (W r₃ a r₁ r₂ 0x0246 (from 0x8000) bytes busy) (kept refl refl) refl refl;
       adds-below = λ a r₁ r₂ x l bytes busy.
           below-two
-          (λ (x : ℕ). Leads s 0 bound f (W r₃ a r₁ r₂ 0x0246 (from x) bytes busy) 3 f
-          (W r₃ a (wrap (r₁ + 0xCE00)) 0xCE00 0x0249 (from (wrap (r₁ + 0xCE00))) bytes (busy - 1 - 1 - 1)))
-          (runs quiet f sound 0 (omega arith) 3 (W r₃ a r₁ r₂ 0x0246 (from 0) bytes busy) (kept refl refl) refl)
-          (runs quiet f sound 0 (omega arith) 3 (W r₃ a r₁ r₂ 0x0246 (from 1) bytes busy) (kept refl refl) refl) x l;
+          (λ (x : ℕ). Path f may (W r₃ a r₁ r₂ 0x0246 (from x) bytes busy) 3 (W r₃ a (wrap (r₁ + 0xCE00)) 0xCE00 0x0249 (from (wrap (r₁ + 0xCE00))) bytes (busy - 1 - 1 - 1)))
+          (treads f may 0 (omega arith) 3 (W r₃ a r₁ r₂ 0x0246 (from 0) bytes busy) (kept refl refl) refl refl)
+          (treads f may 0 (omega arith) 3 (W r₃ a r₁ r₂ 0x0246 (from 1) bytes busy) (kept refl refl) refl refl) x l;
       gets = λ a r₁ r₂ x l bytes busy.
           below-two
-          (λ (x : ℕ). Leads s 0 bound f (W r₃ a r₁ r₂ 0x0249 (from x) bytes busy) 1 f
-          (W r₃ a r₁ r₂ 0x024A (from x) bytes (busy - 1)))
-          (runs quiet f sound 0 (omega arith) 1 (W r₃ a r₁ r₂ 0x0249 (from 0) bytes busy) (kept refl refl) refl)
-          (runs quiet f sound 0 (omega arith) 1 (W r₃ a r₁ r₂ 0x0249 (from 1) bytes busy) (kept refl refl) refl) x l;
+          (λ (x : ℕ). Path f may (W r₃ a r₁ r₂ 0x0249 (from x) bytes busy) 1 (W r₃ a r₁ r₂ 0x024A (from x) bytes (busy - 1)))
+          (treads f may 0 (omega arith) 1 (W r₃ a r₁ r₂ 0x0249 (from 0) bytes busy) (kept refl refl) refl refl)
+          (treads f may 0 (omega arith) 1 (W r₃ a r₁ r₂ 0x0249 (from 1) bytes busy) (kept refl refl) refl refl) x l;
       refuses = λ a r₁ r₂ bytes busy.
-          runs quiet f sound 0 (omega arith) 1 (W r₃ a r₁ r₂ 0x0249 (from 0x8000) bytes busy) (kept refl refl) refl;
+          treads f may 0 (omega arith) 1 (W r₃ a r₁ r₂ 0x0249 (from 0x8000) bytes busy) (kept refl refl) refl refl;
       knows = known r₃;
     }
 
     -- From the look to the word.
-    gets : (r₃ a r₁ r₂ : ℕ) (c : Known) (bytes : List ℕ) (busy w : ℕ) → mayReadOf user 6 s a ≡ true
+    gets : (r₃ a r₁ r₂ : ℕ) (c : Known) (bytes : List ℕ) (busy w : ℕ) → may a ≡ true
         → getD (s .memory) a 0 ≡ w
-        → Leads s 0 bound f (W r₃ a r₁ r₂ 0x024A c bytes busy) 1 f (W r₃ a w r₂ 0x024B (from w) bytes (busy - 1))
-    unfolding computing
-    gets r₃ a r₁ r₂ c bytes busy w may is =
-        let r = readable user 6 (stackOf (s .machine)) a may in
-        gets-word quiet f sound (W r₃ a r₁ r₂ 0x024A c bytes busy) refl refl a w r refl is
+        → Path f may (W r₃ a r₁ r₂ 0x024A c bytes busy) 1 (W r₃ a w r₂ 0x024B (from w) bytes (busy - 1))
+    unfolding computing calm calmly
+    gets r₃ a r₁ r₂ c bytes busy w ok is =
+        fetches refl refl refl a w ok (readable user 6 (stackOf (s .machine)) a (allowed a ok)) refl is refl refl
 
     -- Codes of a value that is not zero: positive or negative.
     not-zero : (r₃ a r₁ r₂ pc w n : ℕ) (bytes : List ℕ) (busy : ℕ) (v : View) → 0 < w
-        → Leads s 0 bound f (W r₃ a r₁ r₂ pc (from 1) bytes busy) n f v
-        → Leads s 0 bound f (W r₃ a r₁ r₂ pc (from 0x8000) bytes busy) n f v
-        → Leads s 0 bound f (W r₃ a r₁ r₂ pc (from w) bytes busy) n f v
+        → Path f may (W r₃ a r₁ r₂ pc (from 1) bytes busy) n v
+        → Path f may (W r₃ a r₁ r₂ pc (from 0x8000) bytes busy) n v
+        → Path f may (W r₃ a r₁ r₂ pc (from w) bytes busy) n v
     unfolding codesOf
     not-zero r₃ a r₁ r₂ pc w n bytes busy v some p q =
         let z : 0 + n ≡ n = omega arith in
@@ -165,14 +160,13 @@ module _ (user : Bool) (s : Start) (x : Eight (s .machine .regs)) where
 
     -- BRz is not taken; LD, AND. Then the display is ready.
     masks : (r₃ a w r₂ : ℕ) (bytes : List ℕ) (busy : ℕ) → busy ≤ 3 → 0 < w → w < 65536
-        → Leads s 0 bound f (W r₃ a w r₂ 0x024B (from w) bytes busy) 3 f
-        (W r₃ a w (w % 256) 0x024E (from (w % 256)) bytes 0)
+        → Path f may (W r₃ a w r₂ 0x024B (from w) bytes busy) 3 (W r₃ a w (w % 256) 0x024E (from (w % 256)) bytes 0)
     masks r₃ a w r₂ bytes busy few some below =
         let z : busy - 1 - 1 - 1 ≡ 0 = omega arith in
         let l = not-zero r₃ a w r₂ 0x024B w 3 bytes busy
         (W r₃ a w (wordAnd w 0x00FF) 0x024E (from (wordAnd w 0x00FF)) bytes (busy - 1 - 1 - 1)) some
-        (unfold computing in runs quiet f sound 0 (omega arith) 3 (W r₃ a w r₂ 0x024B (from 1) bytes busy) (kept refl refl) refl)
-        (unfold computing in runs quiet f sound 0 (omega arith) 3 (W r₃ a w r₂ 0x024B (from 0x8000) bytes busy) (kept refl refl) refl)
+        (unfold computing calm calmly in treads f may 0 (omega arith) 3 (W r₃ a w r₂ 0x024B (from 1) bytes busy) (kept refl refl) refl refl)
+        (unfold computing calm calmly in treads f may 0 (omega arith) 3 (W r₃ a w r₂ 0x024B (from 0x8000) bytes busy) (kept refl refl) refl refl)
         in
         rw (← (low-byte w below)) (rw z at l)
 
@@ -184,14 +178,13 @@ module _ (user : Bool) (s : Start) (x : Eight (s .machine .regs)) where
       codes : Known
       busy : ℕ
       few : busy ≤ most
-      leads : Leads s 0 bound f v n f (W r₃ a r₁ r₂ pc codes bytes busy)
+      leads : Path f may v n (W r₃ a r₁ r₂ pc codes bytes busy)
 
     shows-if : (r₃ a r₁ y p q : ℕ) (bytes : List ℕ) → y < 256
         → length bytes + length (unlessZero y) ≤ length (s .output)
-        → Leads s 0 bound f (W r₃ a r₁ 0 p (from 0) bytes 0) 1 f (W r₃ a r₁ 0 q (from 0) bytes 0)
+        → Path f may (W r₃ a r₁ 0 p (from 0) bytes 0) 1 (W r₃ a r₁ 0 q (from 0) bytes 0)
         → (length bytes < length (s .output)
-        → Leads s 0 bound f (W r₃ a r₁ y p (from 1) bytes 0) 4 f
-        (W 0x8000 a r₁ y q (from 0x8000) (bytes ++ (y % 256) ∷ []) 8))
+        → Path f may (W r₃ a r₁ y p (from 1) bytes 0) 4 (W 0x8000 a r₁ y q (from 0x8000) (bytes ++ (y % 256) ∷ []) 8))
         → After (W r₃ a r₁ y p (from y) bytes 0) (1 + byteSteps y) a r₁ y q (bytes ++ unlessZero y) 8
     unfolding codesOf
     shows-if r₃ a r₁ y p q bytes below room none some = elim (decLe 1 y) [
@@ -223,52 +216,45 @@ module _ (user : Bool) (s : Start) (x : Eight (s .machine .regs)) where
 
     low-part : (r₃ a w y : ℕ) (bytes : List ℕ) → y < 256 → length bytes + length (unlessZero y) ≤ length (s .output)
         → After (W r₃ a w y 0x024E (from y) bytes 0) (1 + byteSteps y) a w y 0x0252 (bytes ++ unlessZero y) 8
-    unfolding computing
+    unfolding computing calm calmly
     low-part r₃ a w y bytes below room =
         shows-if r₃ a w y 0x024E 0x0252 bytes below room
-        (runs quiet f sound 0 (omega arith) 1 (W r₃ a w 0 0x024E (from 0) bytes 0) (kept refl refl) refl)
-        (λ free. runs quiet f sound (length (s .output)) (omega arith) 4 (W r₃ a w y 0x024E (from 1) bytes 0) (kept refl refl)
-        (rw (lt-ltb (length bytes) (length (s .output)) free)))
+        (treads f may 0 (omega arith) 1 (W r₃ a w 0 0x024E (from 0) bytes 0) (kept refl refl) refl refl)
+        (λ free. treads f may (length (s .output)) (omega arith) 4 (W r₃ a w y 0x024E (from 1) bytes 0) (kept refl refl) (rw (lt-ltb (length bytes) (length (s .output)) free)) refl)
 
     high-part : (r₃ a r₁ y : ℕ) (bytes : List ℕ) → y < 256 → length bytes + length (unlessZero y) ≤ length (s .output)
         → After (W r₃ a r₁ y 0x025C (from y) bytes 0) (1 + byteSteps y) a r₁ y 0x0260 (bytes ++ unlessZero y) 8
-    unfolding computing
+    unfolding computing calm calmly
     high-part r₃ a r₁ y bytes below room =
         shows-if r₃ a r₁ y 0x025C 0x0260 bytes below room
-        (runs quiet f sound 0 (omega arith) 1 (W r₃ a r₁ 0 0x025C (from 0) bytes 0) (kept refl refl) refl)
-        (λ free. runs quiet f sound (length (s .output)) (omega arith) 4 (W r₃ a r₁ y 0x025C (from 1) bytes 0) (kept refl refl)
-        (rw (lt-ltb (length bytes) (length (s .output)) free)))
+        (treads f may 0 (omega arith) 1 (W r₃ a r₁ 0 0x025C (from 0) bytes 0) (kept refl refl) refl refl)
+        (λ free. treads f may (length (s .output)) (omega arith) 4 (W r₃ a r₁ y 0x025C (from 1) bytes 0) (kept refl refl) (rw (lt-ltb (length bytes) (length (s .output)) free)) refl)
 
     -- ---- the shift
 
     clears : (r₃ a w y : ℕ) (c : Known) (bytes : List ℕ) (busy : ℕ) → y < 256
-        → Leads s 0 bound f (W r₃ a w y 0x0252 c bytes busy) 2 f (W 8 a w 0 0x0254 (from 8) bytes (busy - 1 - 1))
+        → Path f may (W r₃ a w y 0x0252 c bytes busy) 2 (W 8 a w 0 0x0254 (from 8) bytes (busy - 1 - 1))
     clears r₃ a w y c bytes busy below =
         let z : wordAnd y 0 ≡ 0 = sym (and-bits 16 y 0 (omega arith)) ∙ and-zero-r y in
-        let first : Leads s 0 bound f (W r₃ a w y 0x0252 c bytes busy) 1 f
-        (W r₃ a w (wordAnd y 0) 0x0253 (from (wordAnd y 0)) bytes (busy - 1)) =
-        unfold computing in runs quiet f sound 0 (omega arith) 1 (W r₃ a w y 0x0252 c bytes busy) (kept refl refl) refl in
-        let second : Leads s 0 bound f (W r₃ a w 0 0x0253 (from 0) bytes (busy - 1)) 1 f
-        (W 8 a w 0 0x0254 (from 8) bytes (busy - 1 - 1)) =
-        unfold computing in runs quiet f sound 0 (omega arith) 1 (W r₃ a w 0 0x0253 (from 0) bytes (busy - 1)) (kept refl refl) refl in
+        let first : Path f may (W r₃ a w y 0x0252 c bytes busy) 1 (W r₃ a w (wordAnd y 0) 0x0253 (from (wordAnd y 0)) bytes (busy - 1)) =
+        unfold computing calm calmly in treads f may 0 (omega arith) 1 (W r₃ a w y 0x0252 c bytes busy) (kept refl refl) refl refl in
+        let second : Path f may (W r₃ a w 0 0x0253 (from 0) bytes (busy - 1)) 1 (W 8 a w 0 0x0254 (from 8) bytes (busy - 1 - 1)) =
+        unfold computing calm calmly in treads f may 0 (omega arith) 1 (W r₃ a w 0 0x0253 (from 0) bytes (busy - 1)) (kept refl refl) refl refl in
         then (rw z at first) second
 
     -- ADD R2, R2, R2 and ADD R1, R1, #0.
     doubles : (r₃ a r₁ r₂ : ℕ) (c : Known) (bytes : List ℕ) (busy : ℕ) → r₁ < 65536 → r₂ < 0x4000
-        → Leads s 0 bound f (W r₃ a r₁ r₂ 0x0254 c bytes busy) 2 f
-        (W r₃ a r₁ (r₂ * 2) 0x0256 (from r₁) bytes (busy - 1 - 1))
+        → Path f may (W r₃ a r₁ r₂ 0x0254 c bytes busy) 2 (W r₃ a r₁ (r₂ * 2) 0x0256 (from r₁) bytes (busy - 1 - 1))
     doubles r₃ a r₁ r₂ c bytes busy below small =
         let y : wrap (r₂ + r₂) ≡ r₂ * 2 = omega arith in
         let z : wrap (r₁ + 0) ≡ r₁ = omega arith in
-        let l : Leads s 0 bound f (W r₃ a r₁ r₂ 0x0254 c bytes busy) 2 f
-        (W r₃ a (wrap (r₁ + 0)) (wrap (r₂ + r₂)) 0x0256 (from (wrap (r₁ + 0))) bytes (busy - 1 - 1)) =
-        unfold computing in runs quiet f sound 0 (omega arith) 2 (W r₃ a r₁ r₂ 0x0254 c bytes busy) (kept refl refl) refl in
+        let l : Path f may (W r₃ a r₁ r₂ 0x0254 c bytes busy) 2 (W r₃ a (wrap (r₁ + 0)) (wrap (r₂ + r₂)) 0x0256 (from (wrap (r₁ + 0))) bytes (busy - 1 - 1)) =
+        unfold computing calm calmly in treads f may 0 (omega arith) 2 (W r₃ a r₁ r₂ 0x0254 c bytes busy) (kept refl refl) refl refl in
         rw (y, z) at l
 
     -- BRzp is taken: ADD R1, R1, R1; ADD R3, R3, #-1.
     clear-bit : (r₃ a r₁ r₂ x : ℕ) → x < 2 → (bytes : List ℕ) (busy : ℕ) → 0 < r₃ → r₃ < 65536
-        → Leads s 0 bound f (W r₃ a r₁ r₂ 0x0256 (from x) bytes busy) 3 f
-        (W (r₃ - 1) a (r₁ * 2 % 65536) r₂ 0x025A (from (r₃ - 1)) bytes (busy - 1 - 1 - 1))
+        → Path f may (W r₃ a r₁ r₂ 0x0256 (from x) bytes busy) 3 (W (r₃ - 1) a (r₁ * 2 % 65536) r₂ 0x025A (from (r₃ - 1)) bytes (busy - 1 - 1 - 1))
     clear-bit r₃ a r₁ r₂ x l bytes busy some fits =
         let y : wrap (r₁ + r₁) ≡ r₁ * 2 % 65536 = ap (λ (n : ℕ). n % 65536) (twice r₁) in
         let z : wrap (r₃ + 65535) ≡ r₃ - 1 = omega arith in
@@ -278,27 +264,23 @@ module _ (user : Bool) (s : Start) (x : Eight (s .machine .regs)) where
         twice n = omega arith
 
         leads : (x : ℕ) → x < 2
-            → Leads s 0 bound f (W r₃ a r₁ r₂ 0x0256 (from x) bytes busy) 3 f
-            (W (wrap (r₃ + 65535)) a (wrap (r₁ + r₁)) r₂ 0x025A (from (wrap (r₃ + 65535))) bytes (busy - 1 - 1 - 1))
-        leads = unfold computing in
+            → Path f may (W r₃ a r₁ r₂ 0x0256 (from x) bytes busy) 3 (W (wrap (r₃ + 65535)) a (wrap (r₁ + r₁)) r₂ 0x025A (from (wrap (r₃ + 65535))) bytes (busy - 1 - 1 - 1))
+        leads = unfold computing calm calmly in
             below-two
-            (λ (x : ℕ). Leads s 0 bound f (W r₃ a r₁ r₂ 0x0256 (from x) bytes busy) 3 f
-            (W (wrap (r₃ + 65535)) a (wrap (r₁ + r₁)) r₂ 0x025A (from (wrap (r₃ + 65535))) bytes (busy - 1 - 1 - 1)))
-            (runs quiet f sound 0 (omega arith) 3 (W r₃ a r₁ r₂ 0x0256 (from 0) bytes busy) (kept refl refl) refl)
-            (runs quiet f sound 0 (omega arith) 3 (W r₃ a r₁ r₂ 0x0256 (from 1) bytes busy) (kept refl refl) refl)
+            (λ (x : ℕ). Path f may (W r₃ a r₁ r₂ 0x0256 (from x) bytes busy) 3 (W (wrap (r₃ + 65535)) a (wrap (r₁ + r₁)) r₂ 0x025A (from (wrap (r₃ + 65535))) bytes (busy - 1 - 1 - 1)))
+            (treads f may 0 (omega arith) 3 (W r₃ a r₁ r₂ 0x0256 (from 0) bytes busy) (kept refl refl) refl refl)
+            (treads f may 0 (omega arith) 3 (W r₃ a r₁ r₂ 0x0256 (from 1) bytes busy) (kept refl refl) refl refl)
 
     -- It is not: ADD R2, R2, #1 too.
     set-bit : (r₃ a r₁ r₂ : ℕ) (bytes : List ℕ) (busy : ℕ) → r₂ < 0x8000 → 0 < r₃ → r₃ < 65536
-        → Leads s 0 bound f (W r₃ a r₁ r₂ 0x0256 (from 0x8000) bytes busy) 4 f
-        (W (r₃ - 1) a (r₁ * 2 % 65536) (r₂ + 1) 0x025A (from (r₃ - 1)) bytes (busy - 1 - 1 - 1 - 1))
+        → Path f may (W r₃ a r₁ r₂ 0x0256 (from 0x8000) bytes busy) 4 (W (r₃ - 1) a (r₁ * 2 % 65536) (r₂ + 1) 0x025A (from (r₃ - 1)) bytes (busy - 1 - 1 - 1 - 1))
     set-bit r₃ a r₁ r₂ bytes busy small some fits =
         let y : wrap (r₁ + r₁) ≡ r₁ * 2 % 65536 = ap (λ (n : ℕ). n % 65536) (twice r₁) in
         let z : wrap (r₃ + 65535) ≡ r₃ - 1 = omega arith in
         let u : wrap (r₂ + 1) ≡ r₂ + 1 = omega arith in
-        let l : Leads s 0 bound f (W r₃ a r₁ r₂ 0x0256 (from 0x8000) bytes busy) 4 f
-        (W (wrap (r₃ + 65535)) a (wrap (r₁ + r₁)) (wrap (r₂ + 1)) 0x025A (from (wrap (r₃ + 65535))) bytes
+        let l : Path f may (W r₃ a r₁ r₂ 0x0256 (from 0x8000) bytes busy) 4 (W (wrap (r₃ + 65535)) a (wrap (r₁ + r₁)) (wrap (r₂ + 1)) 0x025A (from (wrap (r₃ + 65535))) bytes
         (busy - 1 - 1 - 1 - 1)) =
-        unfold computing in runs quiet f sound 0 (omega arith) 4 (W r₃ a r₁ r₂ 0x0256 (from 0x8000) bytes busy) (kept refl refl) refl in
+        unfold computing calm calmly in treads f may 0 (omega arith) 4 (W r₃ a r₁ r₂ 0x0256 (from 0x8000) bytes busy) (kept refl refl) refl refl in
         rw (y, z, u) at l
       where
         twice : (n : ℕ) → n + n ≡ n * 2
@@ -308,7 +290,7 @@ module _ (user : Bool) (s : Start) (x : Eight (s .machine .regs)) where
     record Bit (v : View) (n r₃ a r₁ r₂ : ℕ) (bytes : List ℕ) : Type 0 where
       busy : ℕ
       few : busy ≤ 1
-      leads : Leads s 0 bound f v n f (W r₃ a r₁ r₂ 0x025A (from r₃) bytes busy)
+      leads : Path f may v n (W r₃ a r₁ r₂ 0x025A (from r₃) bytes busy)
 
     one-bit : (r₃ a r₁ r₂ : ℕ) (c : Known) (bytes : List ℕ) (busy : ℕ) → busy ≤ 6 → r₁ < 65536 → r₂ < 0x4000 → 0 < r₃
         → r₃ < 65536
@@ -354,8 +336,7 @@ module _ (user : Bool) (s : Start) (x : Eight (s .machine .regs)) where
     abbrev Shifts : ℕ → Type 0
     Shifts i = (a r₁ r₂ : ℕ) (c : Known) (bytes : List ℕ) (busy : ℕ) → busy ≤ 6 → r₁ < 65536 → r₂ < limit (suc i)
         → i < 8
-        → (r : ℕ) × Leads s 0 bound f (W (suc i) a r₁ r₂ 0x0254 c bytes busy) (shiftSteps (suc i) r₁) f
-        (W 0 a r (shifted (suc i) r₁ r₂) 0x025B (from 0) bytes 0)
+        → (r : ℕ) × Path f may (W (suc i) a r₁ r₂ 0x0254 c bytes busy) (shiftSteps (suc i) r₁) (W 0 a r (shifted (suc i) r₁ r₂) 0x025B (from 0) bytes 0)
 
     last-bit : Shifts 0
     unfolding limit shifted shiftSteps
@@ -363,12 +344,9 @@ module _ (user : Bool) (s : Start) (x : Eight (s .machine .regs)) where
         let b = one-bit 1 a r₁ r₂ c bytes busy few below (omega arith) (omega arith) (omega arith) in
         let z : 6 + r₁ / 0x8000 + 0 ≡ 5 + r₁ / 0x8000 + 1 = omega arith in
         let n : b .busy - 1 ≡ 0 = omega (arith, b .few) in
-        let branch : Leads s 0 bound f
-        (W 0 a (r₁ * 2 % 65536) (r₂ * 2 + r₁ / 0x8000) 0x025A (from 0) bytes (b .busy)) 1 f
-        (W 0 a (r₁ * 2 % 65536) (r₂ * 2 + r₁ / 0x8000) 0x025B (from 0) bytes (b .busy - 1)) =
-        unfold computing in
-        runs quiet f sound 0 (omega arith) 1
-        (W 0 a (r₁ * 2 % 65536) (r₂ * 2 + r₁ / 0x8000) 0x025A (from 0) bytes (b .busy)) (kept refl refl) refl in
+        let branch : Path f may (W 0 a (r₁ * 2 % 65536) (r₂ * 2 + r₁ / 0x8000) 0x025A (from 0) bytes (b .busy)) 1 (W 0 a (r₁ * 2 % 65536) (r₂ * 2 + r₁ / 0x8000) 0x025B (from 0) bytes (b .busy - 1)) =
+        unfold computing calm calmly in
+        treads f may 0 (omega arith) 1 (W 0 a (r₁ * 2 % 65536) (r₂ * 2 + r₁ / 0x8000) 0x025A (from 0) bytes (b .busy)) (kept refl refl) refl refl in
         (r₁ * 2 % 65536, rw z (then (b .leads) (rw n at branch)))
 
     more-bits : (i : ℕ) → Shifts i → Shifts (suc i)
@@ -382,12 +360,10 @@ module _ (user : Bool) (s : Start) (x : Eight (s .machine .regs)) where
         let n : b .busy - 1 ≡ 0 = omega (arith, b .few) in
         let r₁′ : ℕ = r₁ * 2 % 65536 in
         let r₂′ : ℕ = r₂ * 2 + r₁ / 0x8000 in
-        let branch : Leads s 0 bound f (W (suc i) a r₁′ r₂′ 0x025A (from 1) bytes (b .busy)) 1 f
-        (W (suc i) a r₁′ r₂′ 0x0254 (from 1) bytes (b .busy - 1)) =
-        unfold computing in
-        runs quiet f sound 0 (omega arith) 1 (W (suc i) a r₁′ r₂′ 0x025A (from 1) bytes (b .busy)) (kept refl refl) refl in
-        let known-branch : Leads s 0 bound f (W (suc i) a r₁′ r₂′ 0x025A (from (suc i)) bytes (b .busy)) 1 f
-        (W (suc i) a r₁′ r₂′ 0x0254 (from 1) bytes 0) =
+        let branch : Path f may (W (suc i) a r₁′ r₂′ 0x025A (from 1) bytes (b .busy)) 1 (W (suc i) a r₁′ r₂′ 0x0254 (from 1) bytes (b .busy - 1)) =
+        unfold computing calm calmly in
+        treads f may 0 (omega arith) 1 (W (suc i) a r₁′ r₂′ 0x025A (from 1) bytes (b .busy)) (kept refl refl) refl refl in
+        let known-branch : Path f may (W (suc i) a r₁′ r₂′ 0x025A (from (suc i)) bytes (b .busy)) 1 (W (suc i) a r₁′ r₂′ 0x0254 (from 1) bytes 0) =
         then (known (suc i) a r₁′ r₂′ 0x025A (from (suc i)) (from 1) bytes (b .busy)
         (positive (suc i) (omega arith) (omega arith))) (rw n at branch) in
         let others = rest a r₁′ r₂′ (from 1) bytes 0 (omega arith) (omega arith) (omega arith) (omega arith) in
@@ -401,23 +377,20 @@ module _ (user : Bool) (s : Start) (x : Eight (s .machine .regs)) where
 
     -- ADD R2, R2, #0.
     tests : (a r y : ℕ) (bytes : List ℕ) → y < 256
-        → Leads s 0 bound f (W 0 a r y 0x025B (from 0) bytes 0) 1 f (W 0 a r y 0x025C (from y) bytes 0)
+        → Path f may (W 0 a r y 0x025B (from 0) bytes 0) 1 (W 0 a r y 0x025C (from y) bytes 0)
     tests a r y bytes below =
         let z : wrap (y + 0) ≡ y = omega arith in
-        let l : Leads s 0 bound f (W 0 a r y 0x025B (from 0) bytes 0) 1 f
-        (W 0 a r (wrap (y + 0)) 0x025C (from (wrap (y + 0))) bytes 0) =
-        unfold computing in runs quiet f sound 0 (omega arith) 1 (W 0 a r y 0x025B (from 0) bytes 0) (kept refl refl) refl in
+        let l : Path f may (W 0 a r y 0x025B (from 0) bytes 0) 1 (W 0 a r (wrap (y + 0)) 0x025C (from (wrap (y + 0))) bytes 0) =
+        unfold computing calm calmly in treads f may 0 (omega arith) 1 (W 0 a r y 0x025B (from 0) bytes 0) (kept refl refl) refl refl in
         rw z at l
 
     -- ADD R0, R0, #1 and BRnzp.
     goes-on : (r₃ a r₁ r₂ : ℕ) (c : Known) (bytes : List ℕ) (busy : ℕ) → a < 0xFE00
-        → Leads s 0 bound f (W r₃ a r₁ r₂ 0x0260 c bytes busy) 2 f
-        (W r₃ (suc a) r₁ r₂ 0x0242 (from (suc a)) bytes (busy - 1 - 1))
+        → Path f may (W r₃ a r₁ r₂ 0x0260 c bytes busy) 2 (W r₃ (suc a) r₁ r₂ 0x0242 (from (suc a)) bytes (busy - 1 - 1))
     goes-on r₃ a r₁ r₂ c bytes busy below =
         let z : wrap (a + 1) ≡ suc a = omega arith in
-        let l : Leads s 0 bound f (W r₃ a r₁ r₂ 0x0260 c bytes busy) 2 f
-        (W r₃ (wrap (a + 1)) r₁ r₂ 0x0242 (from (wrap (a + 1))) bytes (busy - 1 - 1)) =
-        unfold computing in runs quiet f sound 0 (omega arith) 2 (W r₃ a r₁ r₂ 0x0260 c bytes busy) (kept refl refl) refl in
+        let l : Path f may (W r₃ a r₁ r₂ 0x0260 c bytes busy) 2 (W r₃ (wrap (a + 1)) r₁ r₂ 0x0242 (from (wrap (a + 1))) bytes (busy - 1 - 1)) =
+        unfold computing calm calmly in treads f may 0 (omega arith) 2 (W r₃ a r₁ r₂ 0x0260 c bytes busy) (kept refl refl) refl refl in
         rw z at l
 
     -- At the look, with these bytes shown.
@@ -428,19 +401,19 @@ module _ (user : Bool) (s : Start) (x : Eight (s .machine .regs)) where
       codes : Known
       busy : ℕ
       few : busy ≤ 6
-      leads : Leads s 0 bound f v n f (W r₃ a r₁ r₂ 0x0242 codes bytes busy)
+      leads : Path f may v n (W r₃ a r₁ r₂ 0x0242 codes bytes busy)
 
     module _ (mode : inUserMode psr ≡ user) where
       shows-pair : (a w r₁ r₂ r₃ : ℕ) (c : Known) (bytes : List ℕ) (busy : ℕ) → busy ≤ 6
-          → mayReadOf user 6 s a ≡ true → getD (s .memory) a 0 ≡ w → 0 < w → w < 65536
+          → may a ≡ true → getD (s .memory) a 0 ≡ w → 0 < w → w < 65536
           → length bytes + (length (unlessZero (w % 256)) + length (unlessZero (w / 256))) ≤ length (s .output)
           → Pairs (W r₃ a r₁ r₂ 0x0242 c bytes busy) (pairSteps user a w) (suc a)
           (bytes ++ unlessZero (w % 256) ++ unlessZero (w / 256))
-      shows-pair a w r₁ r₂ r₃ c bytes busy few may is some fits room =
+      shows-pair a w r₁ r₂ r₃ c bytes busy few ok is some fits room =
           let bytes′ : List ℕ = bytes ++ unlessZero (w % 256) in
           let longer : length bytes′ ≡ length bytes + length (unlessZero (w % 256)) =
           length-append bytes (unlessZero (w % 256)) in
-          let l = look-at (looks r₃) a r₁ r₂ c bytes busy user mode few 6 (stackOf (s .machine)) may in
+          let l = look-at (looks r₃) a r₁ r₂ c bytes busy user mode few 6 (stackOf (s .machine)) (allowed a ok) in
           let left : ℕ = busy - lookSteps user a in
           let ready : left - 1 ≤ 3 = soon user busy few in
           let low = low-part r₃ a w (w % 256) bytes (omega arith) (omega arith) in
@@ -459,7 +432,7 @@ module _ (user : Bool) (s : Start) (x : Eight (s .machine .regs)) where
             busy = high .busy - 1 - 1;
             few = omega (arith, high .few);
             leads = rw z at (then (l .leads)
-                (then (gets r₃ a (l .r₁) (l .r₂) (l .codes) bytes left w may is)
+                (then (gets r₃ a (l .r₁) (l .r₂) (l .codes) bytes left w ok is)
                 (then (masks r₃ a w (l .r₂) bytes (left - 1) ready some fits)
                 (then (low .leads)
                 (then (clears (low .r₃) a w (w % 256) (low .codes) bytes′ (low .busy) (omega arith))
@@ -467,7 +440,7 @@ module _ (user : Bool) (s : Start) (x : Eight (s .machine .regs)) where
                 (then (tests a (bits .0) (w / 256) bytes′ (omega arith))
                 (then (high .leads)
                 (goes-on (high .r₃) a (bits .0) (w / 256) (high .codes) (bytes′ ++ unlessZero (w / 256)) (high .busy)
-                (readable user 6 (stackOf (s .machine)) a may .plain))))))))));
+                (readable user 6 (stackOf (s .machine)) a (allowed a ok) .plain))))))))));
           }
         where
           -- The look takes two steps at least.
@@ -482,7 +455,7 @@ module _ (user : Bool) (s : Start) (x : Eight (s .machine .regs)) where
       -- All of them.
       abbrev ShowsAll : List ℕ → Type 0
       ShowsAll words = (a b r₁ r₂ r₃ : ℕ) (c : Known) (bytes : List ℕ) (busy : ℕ) → busy ≤ 6
-          → StringFrom (mayReadOf user 6 s) (s .memory) a words b → AreWords words
+          → StringFrom may (s .memory) a words b → AreWords words
           → length bytes + length (pairBytes words) ≤ length (s .output)
           → Pairs (W r₃ a r₁ r₂ 0x0242 c bytes busy) (pairsSteps user a words) b (bytes ++ pairBytes words)
 
@@ -495,7 +468,7 @@ module _ (user : Bool) (s : Start) (x : Eight (s .machine .regs)) where
         codes = c;
         busy = busy;
         few = few;
-        leads = rw (← string, append-nil bytes) (no-step f (W r₃ a r₁ r₂ 0x0242 c bytes busy));
+        leads = rw (← string, append-nil bytes) (no-step-more (W r₃ a r₁ r₂ 0x0242 c bytes busy));
       }
 
       room-for-both : (w : ℕ) (words bytes : List ℕ)
@@ -542,17 +515,16 @@ module _ (user : Bool) (s : Start) (x : Eight (s .machine .regs)) where
 
       -- The end: BRz is taken, and the registers are restored.
       restores : (r₃ b r₂ : ℕ) (bytes : List ℕ) (busy : ℕ)
-          → Leads s 0 bound f (W r₃ b 0 r₂ 0x024B (from 0) bytes busy) 6 f
-          (steppedBy 6 f (W r₃ b 0 r₂ 0x024B (from 0) bytes busy))
-      unfolding computing
+          → Path f may (W r₃ b 0 r₂ 0x024B (from 0) bytes busy) 6 (steppedBy 6 f (W r₃ b 0 r₂ 0x024B (from 0) bytes busy))
+      unfolding computing calm calmly
       restores r₃ b r₂ bytes busy =
-          runs quiet f sound 0 (omega arith) 6 (W r₃ b 0 r₂ 0x024B (from 0) bytes busy) (kept refl refl) refl
+          treads f may 0 (omega arith) 6 (W r₃ b 0 r₂ 0x024B (from 0) bytes busy) (kept refl refl) refl refl
 
       -- The refusal: the registers are restored, and STOP halts.
       stops : (r₃ b r₁ r₂ : ℕ) (c : Known) (bytes : List ℕ)
-          → Leads s 0 bound f (W r₃ b r₁ r₂ 0x0268 c bytes 0) 7 f (steppedBy 7 f (W r₃ b r₁ r₂ 0x0268 c bytes 0))
-      unfolding computing
-      stops r₃ b r₁ r₂ c bytes = runs quiet f sound 0 (omega arith) 7 (W r₃ b r₁ r₂ 0x0268 c bytes 0) (kept refl refl) refl
+          → Path f may (W r₃ b r₁ r₂ 0x0268 c bytes 0) 7 (steppedBy 7 f (W r₃ b r₁ r₂ 0x0268 c bytes 0))
+      unfolding computing calm calmly
+      stops r₃ b r₁ r₂ c bytes = treads f may 0 (omega arith) 7 (W r₃ b r₁ r₂ 0x0268 c bytes 0) (kept refl refl) refl refl
 
 -- ---- the theorem
 
@@ -569,52 +541,42 @@ six-less busy h = five-less (busy - 1) (omega arith)
     five-less : (b : ℕ) → b ≤ 7 → b - 1 - 1 - 1 - 1 - 1 ≤ 6
     five-less b h = omega arith
 
-module _ (user : Bool) (s : Start) (n : ℕ) (c : Calls 0x24 putspCode 6 user s n) (x : Eight (s .machine .regs))
-    (words : List ℕ) (b : ℕ) (string : StringFrom (mayReadOf user 6 s) (s .memory) (r0 s) words b)
-    (fit : AreWords words) (room : length (pairBytes words) ≤ length (s .output)) (bound : ℕ) (some : 6 ≤ bound)
-    (quiet : Quiet s 0 bound) where
-  sound : Sound (f user s x)
-  sound = begins-sound s n (c .begins)
-
-  abbrev mode : inUserMode (s .machine .psr) ≡ user
-  mode = c .begins .mode
-
+-- The way, where the words of the string may be read.
+module _ (user : Bool) (s : Start) (x : Eight (s .machine .regs)) (mode : inUserMode (s .machine .psr) ≡ user)
+    (few : s .machine .devices .busy ≤ 8) (may : ℕ → Bool)
+    (allowed : (a : ℕ) → may a ≡ true → mayReadOf user 6 s a ≡ true) (words : List ℕ) (b : ℕ)
+    (string : StringFrom may (s .memory) (r0 s) words b) (fit : AreWords words)
+    (room : length (pairBytes words) ≤ length (s .output)) where
   first : r0 s ≡ x .r₀
   first = rw (x .are)
 
   abbrev left : ℕ
   left = s .machine .devices .busy - 1 - 1 - 1 - 1 - 1 - 1
 
-  all : Pairs user s x bound quiet sound
-      (W user s x (x .r₃) (x .r₀) (x .r₁) (x .r₂) 0x0242 (from (stackOf (s .machine) - 6)) [] left) (pairsSteps user (r0 s) words) b
-      (pairBytes words)
+  all : Pairs user s x may allowed
+      (W user s x (x .r₃) (x .r₀) (x .r₁) (x .r₂) 0x0242 (from (stackOf (s .machine) - 6)) [] left)
+      (pairsSteps user (r0 s) words) b (pairBytes words)
   all =
       rw first
-      (shows-all user s x bound quiet sound mode words (x .r₀) b (x .r₁) (x .r₂) (x .r₃) (from (stackOf (s .machine) - 6)) [] left
-      (six-less (s .machine .devices .busy)
-      (accepted-is-acceptable s n (c .begins .accepted) .defined .devices .busy))
-      (rw first at string) fit (omega arith))
+      (shows-all user s x may allowed mode words (x .r₀) b (x .r₁) (x .r₂) (x .r₃) (from (stackOf (s .machine) - 6)) []
+      left (six-less (s .machine .devices .busy) few) (rw first at string) fit (omega arith))
 
   abbrev looking : View
   looking = W user s x (all .r₃) b (all .r₁) (all .r₂) 0x0242 (all .codes) (pairBytes words) (all .busy)
 
-  at-look : 6 + pairsSteps user (r0 s) words ≤ bound → At s 0 (6 + pairsSteps user (r0 s) words) (f user s x) looking
-  unfolding vectorWord
-  at-look le =
-      let z : 1 + (5 + pairsSteps user (r0 s) words) ≡ 6 + pairsSteps user (r0 s) words = omega arith in
-      rw z at (then (begins user s x bound quiet sound) (all .leads) .on (omega arith)
-      (routine-begins putspCode 6 user s n bound x 0x24 0x023D c (omega arith) quiet (omega arith) (omega arith) refl))
+  to-look : Path (f user s x) may (begun s x 0x023D (next (s .machine .pc))) (5 + pairsSteps user (r0 s) words) looking
+  to-look = then (begins user s x may allowed) (all .leads)
 
   -- ---- a string that ends
 
-  module _ (may : mayReadOf user 6 s b ≡ true) (zero-word : getD (s .memory) b 0 ≡ 0) where
+  module _ (ends : may b ≡ true) (zero-word : getD (s .memory) b 0 ≡ 0) where
     abbrev spent : ℕ
     spent = all .busy - lookSteps user b
 
-    seen : Comes s bound (f user s x) (W user s x (all .r₃)) looking (lookSteps user b) b 0x024A (pairBytes words) spent
+    seen : Comes (f user s x) may (W user s x (all .r₃)) looking (lookSteps user b) b 0x024A (pairBytes words) spent
     seen =
-        look-at (looks user s x bound quiet sound (all .r₃)) b (all .r₁) (all .r₂) (all .codes) (pairBytes words)
-        (all .busy) user mode (all .few) 6 (stackOf (s .machine)) may
+        look-at (looks user s x may allowed (all .r₃)) b (all .r₁) (all .r₂) (all .codes) (pairBytes words) (all .busy)
+        user mode (all .few) 6 (stackOf (s .machine)) (allowed b ends)
 
     returning : View
     returning =
@@ -624,91 +586,149 @@ module _ (user : Bool) (s : Start) (n : ℕ) (c : Calls 0x24 putspCode 6 user s 
     unfolding returning computing
     at-return = record { plan = refl; six = refl; pc = refl; psr = refl; fine = refl; going = refl }
 
-    restored : returning .regs ≡ x .r₀ ∷ x .r₁ ∷ x .r₂ ∷ x .r₃ ∷ x .r₄ ∷ x .r₅ ∷ (stackOf (s .machine) - 2) ∷ x .r₇ ∷ []
+    restored : returning .regs
+        ≡ x .r₀ ∷ x .r₁ ∷ x .r₂ ∷ x .r₃ ∷ x .r₄ ∷ x .r₅ ∷ (stackOf (s .machine) - 2) ∷ x .r₇ ∷ []
     unfolding returning computing
     restored = refl
 
     same-registers : set (returning .regs) 6 (getD (s .machine .regs) 6 0) ≡ s .machine .regs
     same-registers =
-        ap (λ (l : List ℕ). set l 6 (getD (s .machine .regs) 6 0)) restored ∙ as-before (s .machine .regs) x (stackOf (s .machine) - 2)
-
-    abbrev j : ℕ
-    j = 6 + pairsSteps user (r0 s) words + (lookSteps user b + 7)
-
-    at-rti : j ≤ bound → At s 0 j (f user s x) returning
-    unfolding returning
-    at-rti le =
-        then (seen .leads)
-        (then
-        (gets user s x bound quiet sound (all .r₃) b (seen .r₁) (seen .r₂) (seen .codes) (pairBytes words) spent 0 may
-        zero-word)
-        (restores user s x bound quiet sound mode (all .r₃) b (seen .r₂) (pairBytes words) (spent - 1)))
-        .on (omega arith) (at-look (omega arith))
+        ap (λ (l : List ℕ). set l 6 (getD (s .machine .regs) 6 0)) restored
+        ∙ as-before (s .machine .regs) x (stackOf (s .machine) - 2)
 
     counted : returning .busy - 1 ≡ 0
     unfolding returning computing
     counted = runs-out (all .busy) (lookSteps user b) (all .few)
 
-    comes : bound ≡ j + 1 → j + 1 ≤ n → Resumes s n (j + 1) (pairBytes words) 0 6 (s .machine .regs) (notRead s)
+    nothing-else : (returning .read ≡ 0) × (returning .status ≡ s .machine .devices .kbsr)
+        × (returning .bytes ≡ pairBytes words)
     unfolding returning computing
-    comes e le =
-        comes-back uses 6 user s n j returning (c .begins) (omega arith) (rw e at quiet) (at-rti (omega arith)) at-return
-        le
-        (s .machine .regs) same-registers 0 counted (notRead s) (none-read s returning refl refl)
+    nothing-else = (refl, refl, refl)
 
--- ---- one that does not
+    -- the steps between the trap and RTI
+    abbrev between : ℕ
+    between = 5 + pairsSteps user (r0 s) words + (lookSteps user b + 7)
 
-module _ (s : Start) (n : ℕ) (c : Calls 0x24 putspCode 6 true s n) (x : Eight (s .machine .regs)) (words : List ℕ) (b : ℕ)
-    (string : StringFrom (mayReadOf true 6 s) (s .memory) (r0 s) words b) (fit : AreWords words)
-    (room : length (pairBytes words) ≤ length (s .output)) (quiet : Quiet s 0 (refusedPairSteps (r0 s) words))
-    (privileged-word : privileged b ≡ true) (below : b < 65536) where
-  abbrev total : ℕ
-  total = refusedPairSteps (r0 s) words
+    way : Path (f user s x) may (begun s x 0x023D (next (s .machine .pc))) between returning
+    unfolding returning
+    way =
+        then to-look
+        (then (seen .leads)
+        (then
+        (gets user s x may allowed (all .r₃) b (seen .r₁) (seen .r₂) (seen .codes) (pairBytes words) spent 0 ends
+        zero-word)
+        (restores user s x may allowed mode (all .r₃) b (seen .r₂) (pairBytes words) (spent - 1))))
 
-  routine-sound : Sound (f true s x)
-  routine-sound = sound true s n c x words b string fit room total (omega arith) quiet
-
-  abbrev shown : Pairs true s x total quiet (sound true s n c x words b string fit room total (omega arith) quiet)
+-- One that comes to a privileged word.
+module _ (s : Start) (x : Eight (s .machine .regs)) (mode : inUserMode (s .machine .psr) ≡ true)
+    (few : s .machine .devices .busy ≤ 8) (may : ℕ → Bool)
+    (allowed : (a : ℕ) → may a ≡ true → mayReadOf true 6 s a ≡ true) (words : List ℕ) (b : ℕ)
+    (string : StringFrom may (s .memory) (r0 s) words b) (fit : AreWords words)
+    (room : length (pairBytes words) ≤ length (s .output)) (privileged-word : privileged b ≡ true)
+    (below : b < 65536) where
+  abbrev shown : Pairs true s x may allowed
       (W true s x (x .r₃) (x .r₀) (x .r₁) (x .r₂) 0x0242 (from (stackOf (s .machine) - 6)) []
-      (left true s n c x words b string fit room total (omega arith) quiet))
+      (left true s x mode few may allowed words b string fit room))
       (pairsSteps true (r0 s) words) b (pairBytes words)
-  shown = all true s n c x words b string fit room total (omega arith) quiet
+  shown = all true s x mode few may allowed words b string fit room
 
-  bad : Comes s total (f true s x) (W true s x (shown .r₃))
-      (looking true s n c x words b string fit room total (omega arith) quiet) 8 b 0x0268 (pairBytes words) 0
+  bad : Comes (f true s x) may (W true s x (shown .r₃))
+      (looking true s x mode few may allowed words b string fit room) 8 b 0x0268 (pairBytes words) 0
   bad =
-      look-refused (looks true s x total quiet routine-sound (shown .r₃)) b (shown .r₁) (shown .r₂) (shown .codes)
-      (pairBytes words) (shown .busy) (unfold inUserMode in leb-true 0x8000 (s .machine .psr) (c .begins .mode))
-      (shown .few) below privileged-word
+      look-refused (looks true s x may allowed (shown .r₃)) b (shown .r₁) (shown .r₂) (shown .codes) (pairBytes words)
+      (shown .busy) (unfold inUserMode in leb-true 0x8000 (s .machine .psr) mode) (shown .few) below privileged-word
 
   stopped : View
   stopped =
       steppedBy 7 (f true s x) (W true s x (shown .r₃) b (bad .r₁) (bad .r₂) 0x0268 (bad .codes) (pairBytes words) 0)
 
-  at-stop : At s 0 total (f true s x) stopped
-  unfolding stopped
-  at-stop =
-      then (bad .leads)
-      (stops true s x total quiet routine-sound (c .begins .mode) (shown .r₃) b (bad .r₁) (bad .r₂) (bad .codes)
-      (pairBytes words))
-      .on (omega arith) (at-look true s n c x words b string fit room total (omega arith) quiet (omega arith))
-
-  refuses : total < n → Halts s n total (pairBytes words) 0 6
+  stopped-registers : stopped .regs ≡ set (s .machine .regs) 6 0x2FFE
   unfolding stopped computing
-  refuses more =
-      halts at-stop n (c .begins) refl refl refl refl refl refl 0 refl more (rw (x .are)) refl refl refl refl refl
+  stopped-registers = rw (x .are)
+
+  abbrev until : ℕ
+  until = 5 + pairsSteps true (r0 s) words + (8 + 7)
+
+  way-to-stop : Path (f true s x) may (begun s x 0x023D (next (s .machine .pc))) until stopped
+  unfolding stopped
+  way-to-stop =
+      then (to-look true s x mode few may allowed words b string fit room)
+      (then (bad .leads)
+      (stops true s x may allowed mode (shown .r₃) b (bad .r₁) (bad .r₂) (bad .codes) (pairBytes words)))
+
+-- ---- the theorem
+
+module _ (user : Bool) (s : Start) (n : ℕ) (c : Calls 0x24 putspCode 6 user s n) (words : List ℕ) (b : ℕ)
+    (string : StringFrom (mayReadOf user 6 s) (s .memory) (r0 s) words b) (fit : AreWords words)
+    (room : length (pairBytes words) ≤ length (s .output)) (ends : mayReadOf user 6 s b ≡ true)
+    (zero-word : getD (s .memory) b 0 ≡ 0) where
+  abbrev x : Eight (s .machine .regs)
+  x = eight (s .machine .regs) (c .begins .registers)
+
+  abbrev end : View
+  end = returning user s x (c .begins .mode) (few-of s n (c .begins)) (mayReadOf user 6 s) (λ a h. h) words b string fit
+      room ends zero-word
+
+  abbrev j : ℕ
+  j = 1 + between user s x (c .begins .mode) (few-of s n (c .begins)) (mayReadOf user 6 s) (λ a h. h) words b string
+      fit room ends zero-word
+
+  all-steps : j + 1 ≡ putspSteps user (r0 s) words b
+  all-steps = omega arith
+
+  string-shown : putspSteps user (r0 s) words b ≤ n → NoInterrupt s (putspSteps user (r0 s) words b)
+      → Resumes s n (putspSteps user (r0 s) words b) (pairBytes words) 0 6 (s .machine .regs) (notRead s)
+  unfolding vectorWord
+  string-shown le none =
+      let quiet : Quiet s 0 (j + 1) =
+      rw all-steps (quiet-steps s n (putspSteps user (r0 s) words b) 0 (c .begins .accepted) le none) in
+      let mode = c .begins .mode in
+      let few = few-of s n (c .begins) in
+      let rest = nothing-else user s x mode few (mayReadOf user 6 s) (λ a h. h) words b string fit room ends zero-word
+      in
+      let a : At s 0 j (f user s x) end =
+      walks quiet (f user s x) (begins-sound s n (c .begins))
+      (way user s x mode few (mayReadOf user 6 s) (λ a h. h) words b string fit room ends zero-word) .on (omega arith)
+      (routine-begins putspCode 6 user s n (j + 1) x 0x24 0x023D c (omega arith) quiet (omega arith) (omega arith)
+      refl) in
+      rw (all-steps, rest .2) at (comes-back uses 6 user s n j end (c .begins) (omega arith) quiet a
+      (at-return user s x mode few (mayReadOf user 6 s) (λ a h. h) words b string fit room ends zero-word)
+      (rw all-steps le) (s .machine .regs)
+      (same-registers user s x mode few (mayReadOf user 6 s) (λ a h. h) words b string fit room ends zero-word) 0
+      (counted user s x mode few (mayReadOf user 6 s) (λ a h. h) words b string fit room ends zero-word) (notRead s)
+      (none-read s end (rest .0) (rest .1)))
+
+module _ (s : Start) (n : ℕ) (c : Calls 0x24 putspCode 6 true s n) (words : List ℕ) (b : ℕ)
+    (string : StringFrom (mayReadOf true 6 s) (s .memory) (r0 s) words b) (fit : AreWords words)
+    (room : length (pairBytes words) ≤ length (s .output)) (privileged-word : privileged b ≡ true)
+    (below : b < 65536) where
+  abbrev e : Eight (s .machine .regs)
+  e = eight (s .machine .regs) (c .begins .registers)
+
+  refused : refusedPairSteps (r0 s) words < n → NoInterrupt s (refusedPairSteps (r0 s) words)
+      → Halts s n (refusedPairSteps (r0 s) words) (pairBytes words) 0 6
+  unfolding vectorWord stopped computing
+  refused more none =
+      let quiet = quiet-steps s n (refusedPairSteps (r0 s) words) 0 (c .begins .accepted) (omega arith) none in
+      let mode = c .begins .mode in
+      let few = few-of s n (c .begins) in
+      let z : 1 + until s e mode few (mayReadOf true 6 s) (λ a h. h) words b string fit room privileged-word below
+      ≡ refusedPairSteps (r0 s) words = omega arith in
+      let a : At s 0 (refusedPairSteps (r0 s) words) (f true s e)
+      (stopped s e mode few (mayReadOf true 6 s) (λ a h. h) words b string fit room privileged-word below) =
+      rw z at (walks quiet (f true s e) (begins-sound s n (c .begins))
+      (way-to-stop s e mode few (mayReadOf true 6 s) (λ a h. h) words b string fit room privileged-word below)
+      .on (omega arith)
+      (routine-begins putspCode 6 true s n (refusedPairSteps (r0 s) words) e 0x24 0x023D c (omega arith) quiet
+      (omega arith) (omega arith) refl)) in
+      halts a n (c .begins) refl refl refl refl refl refl 0 refl more
+      (stopped-registers s e mode few (mayReadOf true 6 s) (λ a h. h) words b string fit room privileged-word below) refl refl refl refl
+      refl
 
 pub putsp-shows : PutspShows
 putsp-shows = record {
-  shows = λ user s n c words b string fit may zero-word room le none.
-      let z : 6 + pairsSteps user (r0 s) words + (lookSteps user b + 7) + 1 ≡ putspSteps user (r0 s) words b =
-      omega arith in
-      rw z at (comes user s n c (eight (s .machine .regs) (c .begins .registers)) words b string fit room
-      (putspSteps user (r0 s) words b) (omega arith)
-      (quiet-steps s n (putspSteps user (r0 s) words b) 0 (c .begins .accepted) le none) may zero-word (sym z)
-      (rw z le));
+  shows = λ user s n c words b string fit ends zero-word room le none.
+      string-shown user s n c words b string fit room ends zero-word le none;
   is-refused = λ s n c words b string fit privileged-word below room more none.
-      refuses s n c (eight (s .machine .regs) (c .begins .registers)) words b string fit room
-      (quiet-steps s n (refusedPairSteps (r0 s) words) 0 (c .begins .accepted) (omega arith) none) privileged-word
-      below more;
+      refused s n c words b string fit room privileged-word below more none;
 }

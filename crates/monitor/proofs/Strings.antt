@@ -7,21 +7,14 @@ use mathlib.Core.Bool.{Bool, true, false, cond, not, _&&_}
 use mathlib.Core.List.{List, [], _∷_}
 use borrow.Author.Tests.{le-leb, lt-leb, lt-ltb, le-ltb, ltb-true, ltb-false, leb-false, leb-true, ne-eqb}
 use lib.Dec.{leb, ltb}
-use lib.ListN.{getD}
-use lib.Seq.{getD-set-other}
-use Rattle.machine.specs.declared.Plan.the-variants.{Load}
-use Rattle.machine.specs.Words.{next, wrap}
+use Rattle.machine.specs.Words.{wrap}
 use Rattle.machine.specs.Psr.{inUserMode, codesOf}
 use Rattle.machine.specs.Protection.{privileged}
 use Rattle.machine.proofs.Tests.{both-true, or-is-false}
-use Rattle.run.specs.Run.{Start}
 use Rattle.monitor.specs.Uses.{between}
-use Rattle.monitor.specs.Calls.{StackApart}
 use Rattle.monitor.specs.Puts.{mayRead, lookSteps}
-use Rattle.monitor.proofs.Execution.{Frame, Known, from, codesNumber, Cell, View, memoryWith, Quiet, Leads}
-use Rattle.monitor.proofs.Execution.{then}
-use Rattle.monitor.proofs.Intact.{cellsFine, cells-fine, wordAt}
-use Rattle.monitor.proofs.Instructions.{Sound, planAt, valued, by-plan, word-is}
+use Rattle.monitor.proofs.Execution.{Frame, Known, from, codesNumber, View}
+use Rattle.monitor.proofs.Paths.{Readable, Path, then}
 
 -- An address of User mode's, and one that is none.
 pub user-address : (a : ℕ) → privileged a ≡ false → (0x3000 ≤ a) × (a < 0xFE00)
@@ -34,11 +27,7 @@ is-not : (b : Bool) → not b ≡ true → b ≡ false
 is-not true e = sym e
 is-not false e = refl
 
--- An address that may be read: no device's, and none of the stack's.
-pub record Readable (words sp a : ℕ) : Type 0 where
-  pub plain : a < 0xFE00
-  pub outside : sp - words ≤ a → sp ≤ a
-
+-- An address that may be read.
 pub readable : (user : Bool) (words sp a : ℕ) → mayRead user words sp a ≡ true → Readable words sp a
 readable user words sp a h =
     let both = both-true (cond user (not (privileged a)) (ltb a 0xFE00)) (not (between (sp - words) (sp - 1) a)) h in
@@ -80,44 +69,42 @@ positive x l h = rw (ne-eqb x 0 (λ e. omega arith), lt-ltb x 0x8000 h)
 
 -- Steps from one view to another whatever R1, R2, the bytes shown and the busy count are. W has R0, R1, R2, PC, codes,
 -- bytes and busy count; the caller's PSR is on the stack; the look begins at p₁, goes on at `get` or at `bad`.
-pub record Looks (s : Start) (bound : ℕ) (f : Frame) (W : ℕ → ℕ → ℕ → ℕ → Known → List ℕ → ℕ → View)
+pub record Looks (f : Frame) (may : ℕ → Bool) (W : ℕ → ℕ → ℕ → ℕ → Known → List ℕ → ℕ → View)
     (psr p₁ p₂ p₃ p₄ get bad : ℕ) : Type 0 where
   -- LDR R1: the PSR
   pub loads-psr : (a r₁ r₂ : ℕ) (c : Known) (bytes : List ℕ) (busy : ℕ)
-      → Leads s 0 bound f (W a r₁ r₂ p₁ c bytes busy) 1 f (W a psr r₂ p₂ (from psr) bytes (busy - 1))
+      → Path f may (W a r₁ r₂ p₁ c bytes busy) 1 (W a psr r₂ p₂ (from psr) bytes (busy - 1))
   -- BRzp is taken after a value that is not negative
   pub skips : (a r₁ r₂ x : ℕ) → x < 2 → (bytes : List ℕ) (busy : ℕ)
-      → Leads s 0 bound f (W a r₁ r₂ p₂ (from x) bytes busy) 1 f (W a r₁ r₂ get (from x) bytes (busy - 1))
+      → Path f may (W a r₁ r₂ p₂ (from x) bytes busy) 1 (W a r₁ r₂ get (from x) bytes (busy - 1))
   -- and not after a negative one; LD R1, ABOVE; ADD R1, R0, R1
   pub adds-above : (a r₁ r₂ : ℕ) (bytes : List ℕ) (busy : ℕ)
-      → Leads s 0 bound f (W a r₁ r₂ p₂ (from 0x8000) bytes busy) 3 f
-      (W a (wrap (a + 0x0200)) r₂ p₃ (from (wrap (a + 0x0200))) bytes (busy - 1 - 1 - 1))
+      → Path f may (W a r₁ r₂ p₂ (from 0x8000) bytes busy) 3 (W a (wrap (a + 0x0200)) r₂ p₃ (from (wrap (a + 0x0200))) bytes (busy - 1 - 1 - 1))
   -- BRn is taken after a negative value
   pub goes-on : (a r₁ r₂ : ℕ) (bytes : List ℕ) (busy : ℕ)
-      → Leads s 0 bound f (W a r₁ r₂ p₃ (from 0x8000) bytes busy) 1 f (W a r₁ r₂ get (from 0x8000) bytes (busy - 1))
+      → Path f may (W a r₁ r₂ p₃ (from 0x8000) bytes busy) 1 (W a r₁ r₂ get (from 0x8000) bytes (busy - 1))
   -- and not after another: LD R2, BELOW; ADD R1, R1, R2
   pub adds-below : (a r₁ r₂ x : ℕ) → x < 2 → (bytes : List ℕ) (busy : ℕ)
-      → Leads s 0 bound f (W a r₁ r₂ p₃ (from x) bytes busy) 3 f
-      (W a (wrap (r₁ + 0xCE00)) 0xCE00 p₄ (from (wrap (r₁ + 0xCE00))) bytes (busy - 1 - 1 - 1))
+      → Path f may (W a r₁ r₂ p₃ (from x) bytes busy) 3 (W a (wrap (r₁ + 0xCE00)) 0xCE00 p₄ (from (wrap (r₁ + 0xCE00))) bytes (busy - 1 - 1 - 1))
   -- BRn once more
   pub gets : (a r₁ r₂ x : ℕ) → x < 2 → (bytes : List ℕ) (busy : ℕ)
-      → Leads s 0 bound f (W a r₁ r₂ p₄ (from x) bytes busy) 1 f (W a r₁ r₂ get (from x) bytes (busy - 1))
+      → Path f may (W a r₁ r₂ p₄ (from x) bytes busy) 1 (W a r₁ r₂ get (from x) bytes (busy - 1))
   pub refuses : (a r₁ r₂ : ℕ) (bytes : List ℕ) (busy : ℕ)
-      → Leads s 0 bound f (W a r₁ r₂ p₄ (from 0x8000) bytes busy) 1 f (W a r₁ r₂ bad (from 0x8000) bytes (busy - 1))
+      → Path f may (W a r₁ r₂ p₄ (from 0x8000) bytes busy) 1 (W a r₁ r₂ bad (from 0x8000) bytes (busy - 1))
   -- codes that are known otherwise
   pub knows : (a r₁ r₂ pc : ℕ) (c c′ : Known) (bytes : List ℕ) (busy : ℕ) → codesNumber c ≡ codesNumber c′
-      → Leads s 0 bound f (W a r₁ r₂ pc c bytes busy) 0 f (W a r₁ r₂ pc c′ bytes busy)
+      → Path f may (W a r₁ r₂ pc c bytes busy) 0 (W a r₁ r₂ pc c′ bytes busy)
 
 -- It comes to pc in n steps, with this busy count.
-pub record Comes (s : Start) (bound : ℕ) (f : Frame) (W : ℕ → ℕ → ℕ → ℕ → Known → List ℕ → ℕ → View) (from-view : View)
+pub record Comes (f : Frame) (may : ℕ → Bool) (W : ℕ → ℕ → ℕ → ℕ → Known → List ℕ → ℕ → View) (from-view : View)
     (n a pc : ℕ) (bytes : List ℕ) (busy : ℕ) : Type 0 where
   pub r₁ : ℕ
   pub r₂ : ℕ
   pub codes : Known
-  pub leads : Leads s 0 bound f from-view n f (W a r₁ r₂ pc codes bytes busy)
+  pub leads : Path f may from-view n (W a r₁ r₂ pc codes bytes busy)
 
-module _ {s : Start} {bound : ℕ} {f : Frame} {W : ℕ → ℕ → ℕ → ℕ → Known → List ℕ → ℕ → View}
-    {psr p₁ p₂ p₃ p₄ get bad : ℕ} (l : Looks s bound f W psr p₁ p₂ p₃ p₄ get bad) (a r₁ r₂ : ℕ) (c : Known)
+module _ {f : Frame} {may : ℕ → Bool} {W : ℕ → ℕ → ℕ → ℕ → Known → List ℕ → ℕ → View}
+    {psr p₁ p₂ p₃ p₄ get bad : ℕ} (l : Looks f may W psr p₁ p₂ p₃ p₄ get bad) (a r₁ r₂ : ℕ) (c : Known)
     (bytes : List ℕ) (busy : ℕ) where
   -- ---- in User mode
 
@@ -125,8 +112,7 @@ module _ {s : Start} {bound : ℕ} {f : Frame} {W : ℕ → ℕ → ℕ → ℕ 
     abbrev sum : ℕ
     sum = wrap (a + 0x0200)
 
-    to-branch : Leads s 0 bound f (W a r₁ r₂ p₁ c bytes busy) 4 f
-        (W a sum r₂ p₃ (from sum) bytes (busy - 1 - 1 - 1 - 1))
+    to-branch : Path f may (W a r₁ r₂ p₁ c bytes busy) 4 (W a sum r₂ p₃ (from sum) bytes (busy - 1 - 1 - 1 - 1))
     unfolding codesOf
     to-branch =
         then (l .loads-psr a r₁ r₂ c bytes busy)
@@ -134,7 +120,7 @@ module _ {s : Start} {bound : ℕ} {f : Frame} {W : ℕ → ℕ → ℕ → ℕ 
         (l .adds-above a psr r₂ bytes (busy - 1)))
 
     -- An address from x7E00 to xFDFF.
-    look-high : 0x7E00 ≤ a → a < 0xFE00 → Comes s bound f W (W a r₁ r₂ p₁ c bytes busy) 5 a get bytes (busy - 5)
+    look-high : 0x7E00 ≤ a → a < 0xFE00 → Comes f may W (W a r₁ r₂ p₁ c bytes busy) 5 a get bytes (busy - 5)
     unfolding codesOf
     look-high least most =
         let z : busy - 1 - 1 - 1 - 1 - 1 ≡ busy - 5 = omega arith in
@@ -156,8 +142,7 @@ module _ {s : Start} {bound : ℕ} {f : Frame} {W : ℕ → ℕ → ℕ → ℕ 
       abbrev difference : ℕ
       difference = wrap (sum + 0xCE00)
 
-      second : Leads s 0 bound f (W a r₁ r₂ p₁ c bytes busy) 7 f
-          (W a difference 0xCE00 p₄ (from difference) bytes (left - 1 - 1 - 1))
+      second : Path f may (W a r₁ r₂ p₁ c bytes busy) 7 (W a difference 0xCE00 p₄ (from difference) bytes (left - 1 - 1 - 1))
       unfolding codesOf
       second = elim (decLe 1 sum) [
         | yes h ↦ then to-branch
@@ -178,9 +163,8 @@ module _ {s : Start} {bound : ℕ} {f : Frame} {W : ℕ → ℕ → ℕ → ℕ 
           go x h = omega arith
 
       comes-by : (pc x : ℕ) → codesOf difference ≡ codesOf x
-          → Leads s 0 bound f (W a difference 0xCE00 p₄ (from x) bytes 0) 1 f
-          (W a difference 0xCE00 pc (from x) bytes (0 - 1))
-          → Comes s bound f W (W a r₁ r₂ p₁ c bytes busy) 8 a pc bytes 0
+          → Path f may (W a difference 0xCE00 p₄ (from x) bytes 0) 1 (W a difference 0xCE00 pc (from x) bytes (0 - 1))
+          → Comes f may W (W a r₁ r₂ p₁ c bytes busy) 8 a pc bytes 0
       comes-by pc x same last = record {
         r₁ = difference;
         r₂ = 0xCE00;
@@ -190,7 +174,7 @@ module _ {s : Start} {bound : ℕ} {f : Frame} {W : ℕ → ℕ → ℕ → ℕ 
       }
 
     -- An address from x3000 to x7DFF.
-    look-low : 0x3000 ≤ a → a < 0x7E00 → Comes s bound f W (W a r₁ r₂ p₁ c bytes busy) 8 a get bytes 0
+    look-low : 0x3000 ≤ a → a < 0x7E00 → Comes f may W (W a r₁ r₂ p₁ c bytes busy) 8 a get bytes 0
     look-low least most = elim (decLe 1 (difference (omega arith))) [
       | yes h ↦ comes-by (omega arith) get 1
           (positive (difference (omega arith)) h (omega arith) ∙ unfold codesOf in refl)
@@ -200,7 +184,7 @@ module _ {s : Start} {bound : ℕ} {f : Frame} {W : ℕ → ℕ → ℕ → ℕ 
     ]
 
     -- A privileged address.
-    pub look-refused : a < 65536 → privileged a ≡ true → Comes s bound f W (W a r₁ r₂ p₁ c bytes busy) 8 a bad bytes 0
+    pub look-refused : a < 65536 → privileged a ≡ true → Comes f may W (W a r₁ r₂ p₁ c bytes busy) 8 a bad bytes 0
     look-refused below h = elim (decLe (suc a) 0x3000) [
       | yes less ↦ refuse (omega arith) (omega arith)
       | no less ↦ (
@@ -213,14 +197,14 @@ module _ {s : Start} {bound : ℕ} {f : Frame} {W : ℕ → ℕ → ℕ → ℕ 
         not-below g = unfold privileged in leb-true 0xFE00 a (rw (le-ltb a 0x3000 g) at h)
 
         refuse : (small : sum < 0x8000) → 0x8000 ≤ wrap (sum + 0xCE00)
-            → Comes s bound f W (W a r₁ r₂ p₁ c bytes busy) 8 a bad bytes 0
+            → Comes f may W (W a r₁ r₂ p₁ c bytes busy) 8 a bad bytes 0
         refuse small big =
             comes-by small bad 0x8000 (negative (difference small) big ∙ unfold codesOf in refl)
             (l .refuses a (difference small) 0xCE00 bytes 0)
 
     -- The look at an address of User mode's.
     user-look : privileged a ≡ false
-        → Comes s bound f W (W a r₁ r₂ p₁ c bytes busy) (lookSteps true a) a get bytes (busy - lookSteps true a)
+        → Comes f may W (W a r₁ r₂ p₁ c bytes busy) (lookSteps true a) a get bytes (busy - lookSteps true a)
     user-look mine =
         let u = user-address a mine in
         let none : busy - 8 ≡ 0 = omega arith in
@@ -231,7 +215,7 @@ module _ {s : Start} {bound : ℕ} {f : Frame} {W : ℕ → ℕ → ℕ → ℕ 
 
   -- ---- in Supervisor mode
 
-  supervisor-look : psr < 0x8000 → Comes s bound f W (W a r₁ r₂ p₁ c bytes busy) 2 a get bytes (busy - 2)
+  supervisor-look : psr < 0x8000 → Comes f may W (W a r₁ r₂ p₁ c bytes busy) 2 a get bytes (busy - 2)
   unfolding codesOf
   supervisor-look small = elim (decLe 1 psr) [
     | yes h ↦ looked 1 (omega arith) (positive psr h small)
@@ -239,7 +223,7 @@ module _ {s : Start} {bound : ℕ} {f : Frame} {W : ℕ → ℕ → ℕ → ℕ 
   ]
     where
       looked : (x : ℕ) → x < 2 → codesOf psr ≡ codesOf x
-          → Comes s bound f W (W a r₁ r₂ p₁ c bytes busy) 2 a get bytes (busy - 2)
+          → Comes f may W (W a r₁ r₂ p₁ c bytes busy) 2 a get bytes (busy - 2)
       looked x h same =
           let z : busy - 1 - 1 ≡ busy - 2 = omega arith in
           record {
@@ -254,7 +238,7 @@ module _ {s : Start} {bound : ℕ} {f : Frame} {W : ℕ → ℕ → ℕ → ℕ 
   -- ---- in both
 
   pub look-at : (user : Bool) → inUserMode psr ≡ user → busy ≤ 6 → (words sp : ℕ) → mayRead user words sp a ≡ true
-      → Comes s bound f W (W a r₁ r₂ p₁ c bytes busy) (lookSteps user a) a get bytes (busy - lookSteps user a)
+      → Comes f may W (W a r₁ r₂ p₁ c bytes busy) (lookSteps user a) a get bytes (busy - lookSteps user a)
   unfolding inUserMode
   look-at true mode few words sp may =
       user-look (leb-true 0x8000 psr mode) few
@@ -266,36 +250,3 @@ pub below-two : (P : ℕ → Type 0) → P 0 → P 1 → (x : ℕ) → x < 2 →
 below-two P p q zero l = p
 below-two P p q (suc zero) l = q
 below-two P p q (suc (suc x)) l = absurd (omega arith)
-
--- ---- the word there
-
--- A word outside the stack is as it was.
-other-word : {words sp : ℕ} → StackApart words sp → (mem : List ℕ) (cells : List Cell) → cellsFine words cells ≡ true
-    → (a : ℕ) → (sp - words ≤ a → sp ≤ a) → getD (memoryWith sp mem cells) a 0 ≡ getD mem a 0
-other-word apart mem [] fine a h = refl
-other-word {words} {sp} apart mem (c ∷ cells) fine a h =
-    let w = cells-fine words c cells fine in
-    let least : 1 ≤ c .slot = w .0 in
-    let most : c .slot ≤ words = w .1 in
-    let room : 0x02A5 + words ≤ sp = apart .above-monitor in
-    getD-set-other (memoryWith sp mem cells) (sp - c .slot) a (c .value) 0
-    (λ e.
-    let above : sp ≤ a = h (omega arith) in
-    omega arith)
-    ∙ other-word apart mem cells (w .2) a h
-
--- LDR of the word at R0.
-pub gets-word : {s : Start} {bound : ℕ} → Quiet s 0 bound → (f : Frame) → Sound f → (v : View) → v .mcr ≡ 0x8000
-    → cellsFine (f .words) (v .cells) ≡ true → (a w : ℕ) → Readable (f .words) (f .sp) a
-    → planAt f v ≡ Load 1 (wrap (a + 0)) → getD (f .memory) a 0 ≡ w
-    → Leads s 0 bound f v 1 f (valued v 1 w (next (v .pc)))
-gets-word {s} {bound} quiet f sound v going fine a w r plan is =
-    let plain : a < 0xFE00 = r .plain in
-    let z : wrap (a + 0) ≡ a = omega arith in
-    let x : wordAt f v (wrap (a + 0)) ≡ w =
-    rw z
-    (sym (word-is f sound v fine a)
-    ∙ other-word (sound .stack) (f .memory) (v .cells) fine a (r .outside)
-    ∙ is) in
-    let may : ltb (wrap (a + 0)) 0xFE00 ≡ true = rw z (lt-ltb a 0xFE00 plain) in
-    rw x at (by-plan quiet f sound 0 (omega arith) v going fine (Load 1 (wrap (a + 0))) plan may)
