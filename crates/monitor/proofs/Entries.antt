@@ -46,7 +46,7 @@ use Rattle.monitor.proofs.Execution.{outputAt, machineAt, At, statusIn,
 use Rattle.monitor.proofs.Execution.{same-keyboard, Quiet, QuietStep, Leads, leads-by-one, then}
 use Rattle.monitor.proofs.Intact.{Intact, cellsFine, usable, wordAt, low-word, vector-word}
 use Rattle.monitor.proofs.Exceptions.{user-raises}
-use Rattle.monitor.proofs.Instructions.{Sound, codesFor, planAt, isPlain}
+use Rattle.monitor.proofs.Instructions.{Sound, codesFor, planAt, isPlain, isOther}
 use Rattle.monitor.proofs.Instructions.{in-supervisor-mode, all-allowed, plan-is, word-is, by-plan}
 
 -- ---- before the first step
@@ -316,6 +316,7 @@ pub record Polls (f : Frame) (v : View) (r pc : ℕ) : Type 0 where
       ≡ Jump (cond (isTaken 3 (codesFor c (Br 3 (negsuc 1)))) pc (next (next pc)))
   -- these words are the routine's own
   pub own : (usable f pc && (usable f (next pc) && usable f pointer)) ≡ true
+  pub other : isOther r ≡ true
 
 module _ {s : Start} {since bound : ℕ} (quiet : Quiet s since bound) (f : Frame) (sound : Sound f) (v : View)
     (going : v .mcr ≡ 0x8000) (fine : cellsFine (f .words) (v .cells) ≡ true) (r pc : ℕ) (p : Polls f v r pc) where

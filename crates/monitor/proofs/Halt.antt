@@ -55,7 +55,7 @@ module _ (user : Bool) (s : Start) (n : ℕ) (c : Calls 0x25 haltCode 5 user s n
   at-poll : At s 0 8 f polling
   unfolding polling computing vectorWord
   at-poll =
-      runs quiet f sound 0 (omega arith) 7 (begun s x 0x026D (next (s .machine .pc))) (kept refl refl) refl .on (omega arith)
+      runs quiet f sound 0 (omega arith) 7 (begun s x 0x026D (next (s .machine .pc))) (kept refl refl refl) refl .on (omega arith)
       (routine-begins haltCode 5 user s n haltSteps x 0x25 0x026D c (omega arith) quiet (omega arith) (omega arith) refl)
 
   is-ready : polling .busy ≡ 0
@@ -71,7 +71,7 @@ module _ (user : Bool) (s : Start) (n : ℕ) (c : Calls 0x25 haltCode 5 user s n
 
   at-end : At s 0 86 f halted
   unfolding halted ready polling computing
-  at-end = runs quiet f sound 7 room 78 ready (kept refl refl) refl .on (omega arith) at-ready
+  at-end = runs quiet f sound 7 room 78 ready (kept refl refl refl) refl .on (omega arith) at-ready
 
   halt-halts : Halts s n haltSteps message 0 5
   unfolding halted ready polling computing

@@ -65,7 +65,7 @@ module _ (user : Bool) (s : Start) (x : Eight (s .machine .regs)) where
 
   polls : Polls f (polling left) 2 0x022E
   unfolding computing
-  polls = record { pointer = 0x0282; loads = λ r c b. refl; display = refl; branches = λ r c b. refl; own = refl }
+  polls = record { pointer = 0x0282; loads = λ r c b. refl; display = refl; branches = λ r c b. refl; own = refl; other = refl }
 
   keys : Keys f waiting 0 0x0233
   unfolding computing
@@ -84,7 +84,7 @@ module _ (user : Bool) (s : Start) (x : Eight (s .machine .regs)) where
   module _ (bound : ℕ) (quiet : Quiet s 0 bound) (sound : Sound f) (room : 20 ≤ length (s .output)) where
     to-poll : Leads s 0 bound f (begun s x 0x0228 (next (s .machine .pc))) 6 f (polling left)
     unfolding computing
-    to-poll = runs quiet f sound 0 (omega arith) 6 (begun s x 0x0228 (next (s .machine .pc))) (kept refl refl) refl
+    to-poll = runs quiet f sound 0 (omega arith) 6 (begun s x 0x0228 (next (s .machine .pc))) (kept refl refl refl) refl
 
     to-ready : Leads s 0 bound f (polling left) (waitSteps left) f
         (W 0x0289 0x0049 0x8000 0x0230 (from 0x8000) [] 0 0 kbsr)
@@ -93,13 +93,13 @@ module _ (user : Bool) (s : Start) (x : Eight (s .machine .regs)) where
 
     to-key : Leads s 0 bound f (W 0x0289 0x0049 0x8000 0x0230 (from 0x8000) [] 0 0 kbsr) 203 f waiting
     unfolding computing
-    to-key = runs quiet f sound 20 room 203 (W 0x0289 0x0049 0x8000 0x0230 (from 0x8000) [] 0 0 kbsr) (kept refl refl) refl
+    to-key = runs quiet f sound 20 room 203 (W 0x0289 0x0049 0x8000 0x0230 (from 0x8000) [] 0 0 kbsr) (kept refl refl refl) refl
 
     -- the echo, from the poll of DSR on
     module _ (key read status : ℕ) (c : Known) (busy : ℕ) where
       echoes : Polls f (W key 0 0x8000 0x0236 c prompt busy read status) 1 0x0236
       unfolding computing
-      echoes = record { pointer = 0x0282; loads = λ r c b. refl; display = refl; branches = λ r c b. refl; own = refl }
+      echoes = record { pointer = 0x0282; loads = λ r c b. refl; display = refl; branches = λ r c b. refl; own = refl; other = refl }
 
       to-echo : Leads s 0 bound f (W key 0 0x8000 0x0236 c prompt busy read status) (waitSteps busy) f
           (W key 0x8000 0x8000 0x0238 (from 0x8000) prompt 0 read status)
@@ -111,7 +111,7 @@ module _ (user : Bool) (s : Start) (x : Eight (s .machine .regs)) where
           (steppedBy 4 f (W key 0x8000 0x8000 0x0238 (from 0x8000) prompt 0 read status))
       unfolding computing
       to-return =
-          runs quiet f sound 20 room 4 (W key 0x8000 0x8000 0x0238 (from 0x8000) prompt 0 read status) (kept refl refl) refl
+          runs quiet f sound 20 room 4 (W key 0x8000 0x8000 0x0238 (from 0x8000) prompt 0 read status) (kept refl refl refl) refl
 
 seven-less : (b : ℕ) → b - 1 - 1 - 1 - 1 - 1 - 1 - 1 ≡ b - 7
 seven-less b = ap (λ (n : ℕ). n - 1 - 1 - 1 - 1) (three b) ∙ four b

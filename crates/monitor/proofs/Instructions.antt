@@ -373,13 +373,15 @@ slot-address : {words sp : ℕ} → StackApart words sp → (depth : ℕ) (n : �
 slot-address apart depth (pos n) few least most = omega (arith, apart .above-monitor, apart .below-devices)
 slot-address apart depth (negsuc n) few least most = omega (arith, apart .above-monitor, apart .below-devices)
 
--- There are eight registers, and R6 is where the view says.
+-- There are eight registers, and R6 is where the view says, among the words of the stack that there are.
 pub record Kept (f : Frame) (v : View) : Type 0 where
   pub eight : length (v .regs) ≡ 8
   pub six : 0 < v .depth → getD (v .regs) 6 0 ≡ f .sp - v .depth
+  pub few : v .depth ≤ f .words
 
-pub kept : {f : Frame} {v : View} → length (v .regs) ≡ 8 → getD (v .regs) 6 0 ≡ f .sp - v .depth → Kept f v
-kept eight six = record { eight = eight; six = λ h. six }
+pub kept : {f : Frame} {v : View} → length (v .regs) ≡ 8 → getD (v .regs) 6 0 ≡ f .sp - v .depth
+    → leb (v .depth) (f .words) ≡ true → Kept f v
+kept {f} {v} eight six few = record { eight = eight; six = λ h. six; few = leb-true (v .depth) (f .words) few }
 
 -- ---- it is what the run does
 
@@ -574,59 +576,58 @@ on-stack f v n h =
       most = leb-true i (f .words) (second .1);
     }
 
--- Another register than R6 changes.
-record Other (f : Frame) (v : View) (regs : List ℕ) : Type 0 where
-  eight : length regs ≡ 8
-  six : 0 < v .depth → getD regs 6 0 ≡ f .sp - v .depth
-
 not-six : (r : ℕ) → isOther r ≡ true → (6 ≡ r % 8 → ⊥)
-not-six r h e =
-    true≢false (sym h ∙ ap (λ (b : Bool). not b) (eq-eqb (r % 8) 6 (sym e)))
+not-six r h e = true≢false (sym h ∙ ap (λ (b : Bool). not b) (eq-eqb (r % 8) 6 (sym e)))
 
-other : (f : Frame) (v : View) → Kept f v → (r x : ℕ) → isOther r ≡ true → Other f v (withRegister (v .regs) r x)
-other f v k r x h = record {
-  eight = length-set (v .regs) (r % 8) x ∙ k .eight;
-  six = λ some. getD-set-other (v .regs) (r % 8) 6 x 0 (not-six r h) ∙ k .six some;
+-- Another register than R6 changes.
+pub other : (f : Frame) (v : View) → Kept f v → (r x : ℕ) → isOther r ≡ true → (v′ : View)
+    → v′ .regs ≡ withRegister (v .regs) r x → v′ .depth ≡ v .depth → Kept f v′
+other f v k r x h v′ regs depth = record {
+  eight = rw regs (length-set (v .regs) (r % 8) x ∙ k .eight);
+  six = λ some. rw (regs, depth) (getD-set-other (v .regs) (r % 8) 6 x 0 (not-six r h) ∙ k .six (rw depth at some));
+  few = rw depth (k .few);
+}
+
+-- None does.
+pub same : (f : Frame) (v : View) → Kept f v → (v′ : View) → v′ .regs ≡ v .regs → v′ .depth ≡ v .depth → Kept f v′
+same f v k v′ regs depth = record {
+  eight = rw regs (k .eight);
+  six = λ some. rw (regs, depth) (k .six (rw depth at some));
+  few = rw depth (k .few);
 }
 
 -- R6 stays where the view says.
 module _ (f : Frame) (room : ℕ) (v : View) (k : Kept f v) where
   by-plan-keeps : (plan : Plan) → keepsSix plan ≡ true → Kept f (performed f v plan)
-  by-plan-keeps (Move r x pc) h =
-      let o = other f v k r x h in
-      record { eight = o .eight; six = o .six }
-  by-plan-keeps (Put r x pc) h =
-      let o = other f v k r x h in
-      record { eight = o .eight; six = o .six }
-  by-plan-keeps (Jump pc) h = record { eight = k .eight; six = k .six }
-  by-plan-keeps (Load r a) h =
-      let o = other f v k r (wordAt f v a) h in
-      record { eight = o .eight; six = o .six }
-  by-plan-keeps (LoadBy r a) h =
-      let o = other f v k r (displayAt v) h in
-      record { eight = o .eight; six = o .six }
+  by-plan-keeps (Move r x pc) h = other f v k r x h (performed f v (Move r x pc)) refl refl
+  by-plan-keeps (Put r x pc) h = other f v k r x h (performed f v (Put r x pc)) refl refl
+  by-plan-keeps (Jump pc) h = same f v k (performed f v (Jump pc)) refl refl
+  by-plan-keeps (Load r a) h = other f v k r (wordAt f v a) h (performed f v (Load r a)) refl refl
+  by-plan-keeps (LoadBy r a) h = other f v k r (displayAt v) h (performed f v (LoadBy r a)) refl refl
   by-plan-keeps (Store x a) h = k
   by-plan-keeps (StoreBy x a) h = go (eqb (wordAt f v a) MCR)
     where
       go : (b : Bool) → Kept f (cond b (clocked v x) (showing v (x % 256)))
-      go true = record { eight = k .eight; six = k .six }
-      go false = record { eight = k .eight; six = k .six }
+      go true = same f v k (clocked v x) refl refl
+      go false = same f v k (showing v (x % 256)) refl refl
   by-plan-keeps (Call vector) h = k
   by-plan-keeps Illegal h = k
   by-plan-keeps Return h = k
 
   by-use-keeps : (u : Use) → mayUse f v room u ≡ true → Kept f (used f v u)
   by-use-keeps (loadsSlot r n) may =
-      let o = other f v k r (slotAt f v (slotOf (v .depth) n)) (both-true (isOther r) (onStack f v n) may .0) in
-      record { eight = o .eight; six = o .six }
-  by-use-keeps (storesSlot r n) may = record { eight = k .eight; six = k .six }
+      other f v k r (slotAt f v (slotOf (v .depth) n)) (both-true (isOther r) (onStack f v n) may .0)
+      (used f v (loadsSlot r n)) refl refl
+  by-use-keeps (storesSlot r n) may = same f v k (used f v (storesSlot r n)) refl refl
   by-use-keeps (movesStack n) may = record {
     eight = length-set (v .regs) 6 (f .sp - slotOf (v .depth) n) ∙ k .eight;
     six = λ h. getD-set-same (v .regs) 6 (f .sp - slotOf (v .depth) n) 0 (omega (arith, k .eight));
+    few = on-stack f v n may .most;
   }
   by-use-keeps (leavesStack n) may = record {
     eight = length-set (v .regs) 6 (wordAt f v (plus (next (v .pc)) n)) ∙ k .eight;
     six = λ h. absurd (omega arith);
+    few = omega arith;
   }
   by-use-keeps elsewhere may =
       by-plan-keeps (planAt f v) (both-true (keepsSix (planAt f v)) (mayPerform f v room (planAt f v)) may .0)

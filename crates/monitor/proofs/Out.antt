@@ -48,12 +48,12 @@ module _ (user : Bool) (s : Start) (x : Eight (s .machine .regs)) where
 
   polls : Polls f polling 1 0x0206
   unfolding polling computing
-  polls = record { pointer = 0x0282; loads = λ r c b. refl; display = refl; branches = λ r c b. refl; own = refl }
+  polls = record { pointer = 0x0282; loads = λ r c b. refl; display = refl; branches = λ r c b. refl; own = refl; other = refl }
 
   module _ (may : ℕ → Bool) (free : 1 ≤ length (s .output)) where
     to-poll : Path f may (begun s x 0x0204 (next (s .machine .pc))) 2 polling
     unfolding polling computing calm calmly
-    to-poll = treads f may 0 (omega arith) 2 (begun s x 0x0204 (next (s .machine .pc))) (kept refl refl) refl refl
+    to-poll = treads f may 0 (omega arith) 2 (begun s x 0x0204 (next (s .machine .pc))) (kept refl refl refl) refl refl
 
     to-ready : Path f may polling (waitSteps (busy - 1 - 1 - 1)) ready
     unfolding polling ready computing
@@ -62,7 +62,7 @@ module _ (user : Bool) (s : Start) (x : Eight (s .machine .regs)) where
 
     to-return : Path f may ready 3 returning
     unfolding polling ready returning computing calm calmly
-    to-return = treads f may 1 free 3 ready (kept refl refl) refl refl
+    to-return = treads f may 1 free 3 ready (kept refl refl refl) refl refl
 
     routine : Path f may (begun s x 0x0204 (next (s .machine .pc))) (2 + (waitSteps (busy - 1 - 1 - 1) + 3)) returning
     routine = then to-poll (then to-ready to-return)

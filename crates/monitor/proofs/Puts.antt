@@ -60,7 +60,7 @@ module _ (user : Bool) (s : Start) (x : Eight (s .machine .regs)) where
   module _ (may : ℕ → Bool) (allowed : (a : ℕ) → may a ≡ true → mayReadOf user 5 s a ≡ true) where
     begins : Path f may (begun s x 0x020C (next (s .machine .pc))) 4 (W (x .r₀) (x .r₁) (x .r₂) 0x0210 (from (stackOf (s .machine) - 5)) [] (s .machine .devices .busy - 1 - 1 - 1 - 1 - 1))
     unfolding computing calm calmly
-    begins = treads f may 0 (omega arith) 4 (begun s x 0x020C (next (s .machine .pc))) (kept refl refl) refl refl
+    begins = treads f may 0 (omega arith) 4 (begun s x 0x020C (next (s .machine .pc))) (kept refl refl refl) refl refl
 
     known : (a r₁ r₂ pc : ℕ) (c c′ : Known) (bytes : List ℕ) (busy : ℕ) → codesNumber c ≡ codesNumber c′
         → Path f may (W a r₁ r₂ pc c bytes busy) 0 (W a r₁ r₂ pc c′ bytes busy)
@@ -69,28 +69,28 @@ module _ (user : Bool) (s : Start) (x : Eight (s .machine .regs)) where
     looks : Looks f may W psr 0x0210 0x0211 0x0214 0x0217 0x0218 0x0224
     unfolding computing calm calmly
     looks = record {
-      loads-psr = λ a r₁ r₂ c bytes busy. treads f may 0 (omega arith) 1 (W a r₁ r₂ 0x0210 c bytes busy) (kept refl refl) refl refl;
+      loads-psr = λ a r₁ r₂ c bytes busy. treads f may 0 (omega arith) 1 (W a r₁ r₂ 0x0210 c bytes busy) (kept refl refl refl) refl refl;
       skips = λ a r₁ r₂ x l bytes busy.
           below-two
           (λ (x : ℕ). Path f may (W a r₁ r₂ 0x0211 (from x) bytes busy) 1 (W a r₁ r₂ 0x0218 (from x) bytes (busy - 1)))
-          (treads f may 0 (omega arith) 1 (W a r₁ r₂ 0x0211 (from 0) bytes busy) (kept refl refl) refl refl)
-          (treads f may 0 (omega arith) 1 (W a r₁ r₂ 0x0211 (from 1) bytes busy) (kept refl refl) refl refl) x l;
+          (treads f may 0 (omega arith) 1 (W a r₁ r₂ 0x0211 (from 0) bytes busy) (kept refl refl refl) refl refl)
+          (treads f may 0 (omega arith) 1 (W a r₁ r₂ 0x0211 (from 1) bytes busy) (kept refl refl refl) refl refl) x l;
       adds-above = λ a r₁ r₂ bytes busy.
-          treads f may 0 (omega arith) 3 (W a r₁ r₂ 0x0211 (from 0x8000) bytes busy) (kept refl refl) refl refl;
+          treads f may 0 (omega arith) 3 (W a r₁ r₂ 0x0211 (from 0x8000) bytes busy) (kept refl refl refl) refl refl;
       goes-on = λ a r₁ r₂ bytes busy.
-          treads f may 0 (omega arith) 1 (W a r₁ r₂ 0x0214 (from 0x8000) bytes busy) (kept refl refl) refl refl;
+          treads f may 0 (omega arith) 1 (W a r₁ r₂ 0x0214 (from 0x8000) bytes busy) (kept refl refl refl) refl refl;
       adds-below = λ a r₁ r₂ x l bytes busy.
           below-two
           (λ (x : ℕ). Path f may (W a r₁ r₂ 0x0214 (from x) bytes busy) 3 (W a (wrap (r₁ + 0xCE00)) 0xCE00 0x0217 (from (wrap (r₁ + 0xCE00))) bytes (busy - 1 - 1 - 1)))
-          (treads f may 0 (omega arith) 3 (W a r₁ r₂ 0x0214 (from 0) bytes busy) (kept refl refl) refl refl)
-          (treads f may 0 (omega arith) 3 (W a r₁ r₂ 0x0214 (from 1) bytes busy) (kept refl refl) refl refl) x l;
+          (treads f may 0 (omega arith) 3 (W a r₁ r₂ 0x0214 (from 0) bytes busy) (kept refl refl refl) refl refl)
+          (treads f may 0 (omega arith) 3 (W a r₁ r₂ 0x0214 (from 1) bytes busy) (kept refl refl refl) refl refl) x l;
       gets = λ a r₁ r₂ x l bytes busy.
           below-two
           (λ (x : ℕ). Path f may (W a r₁ r₂ 0x0217 (from x) bytes busy) 1 (W a r₁ r₂ 0x0218 (from x) bytes (busy - 1)))
-          (treads f may 0 (omega arith) 1 (W a r₁ r₂ 0x0217 (from 0) bytes busy) (kept refl refl) refl refl)
-          (treads f may 0 (omega arith) 1 (W a r₁ r₂ 0x0217 (from 1) bytes busy) (kept refl refl) refl refl) x l;
+          (treads f may 0 (omega arith) 1 (W a r₁ r₂ 0x0217 (from 0) bytes busy) (kept refl refl refl) refl refl)
+          (treads f may 0 (omega arith) 1 (W a r₁ r₂ 0x0217 (from 1) bytes busy) (kept refl refl refl) refl refl) x l;
       refuses = λ a r₁ r₂ bytes busy.
-          treads f may 0 (omega arith) 1 (W a r₁ r₂ 0x0217 (from 0x8000) bytes busy) (kept refl refl) refl refl;
+          treads f may 0 (omega arith) 1 (W a r₁ r₂ 0x0217 (from 0x8000) bytes busy) (kept refl refl refl) refl refl;
       knows = known;
     }
 
@@ -110,12 +110,12 @@ module _ (user : Bool) (s : Start) (x : Eight (s .machine .regs)) where
       | yes h ↦ (
         from 0x8000,
         then (known a w r₂ 0x0219 (from w) (from 0x8000) bytes busy (negative w h))
-            (treads f may 0 (omega arith) 1 (W a w r₂ 0x0219 (from 0x8000) bytes busy) (kept refl refl) refl refl),
+            (treads f may 0 (omega arith) 1 (W a w r₂ 0x0219 (from 0x8000) bytes busy) (kept refl refl refl) refl refl),
       )
       | no h ↦ (
         from 1,
         then (known a w r₂ 0x0219 (from w) (from 1) bytes busy (positive w some (omega arith)))
-            (treads f may 0 (omega arith) 1 (W a w r₂ 0x0219 (from 1) bytes busy) (kept refl refl) refl refl),
+            (treads f may 0 (omega arith) 1 (W a w r₂ 0x0219 (from 1) bytes busy) (kept refl refl refl) refl refl),
       )
     ]
 
@@ -127,6 +127,7 @@ module _ (user : Bool) (s : Start) (x : Eight (s .machine .regs)) where
       display = refl;
       branches = λ r c b. refl;
       own = refl;
+      other = refl;
     }
 
     -- STI, ADD, BRnzp.
@@ -136,7 +137,7 @@ module _ (user : Bool) (s : Start) (x : Eight (s .machine .regs)) where
         let z : wrap (a + 1) ≡ suc a = omega arith in
         let l : Path f may (W a w 0x8000 0x021C (from 0x8000) bytes 0) 3 (W (wrap (a + 1)) w 0x8000 0x0210 (from (wrap (a + 1))) (bytes ++ (w % 256) ∷ []) 6) =
         unfold computing calm calmly in
-        treads f may (length (s .output)) (omega arith) 3 (W a w 0x8000 0x021C (from 0x8000) bytes 0) (kept refl refl) (rw (lt-ltb (length bytes) (length (s .output)) free)) refl in
+        treads f may (length (s .output)) (omega arith) 3 (W a w 0x8000 0x021C (from 0x8000) bytes 0) (kept refl refl refl) (rw (lt-ltb (length bytes) (length (s .output)) free)) refl in
         rw z at l
 
     shows-byte : (a w r₂ : ℕ) (bytes : List ℕ) (busy : ℕ) → a < 0xFE00 → 0 < w → length bytes < length (s .output)
@@ -230,15 +231,15 @@ module _ (user : Bool) (s : Start) (x : Eight (s .machine .regs)) where
       restores : (b r₂ : ℕ) (bytes : List ℕ) (busy : ℕ)
           → Path f may (W b 0 r₂ 0x0219 (from 0) bytes busy) 5 (steppedBy 5 f (W b 0 r₂ 0x0219 (from 0) bytes busy))
       unfolding computing calm calmly
-      restores b r₂ bytes busy = treads f may 0 (omega arith) 5 (W b 0 r₂ 0x0219 (from 0) bytes busy) (kept refl refl) refl refl
+      restores b r₂ bytes busy = treads f may 0 (omega arith) 5 (W b 0 r₂ 0x0219 (from 0) bytes busy) (kept refl refl refl) refl refl
 
       -- The refusal: the registers are restored, and STOP halts.
       stops : (b r₁ r₂ : ℕ) (c : Known) (bytes : List ℕ)
           → Path f may (W b r₁ r₂ 0x0224 c bytes 0) 6 (steppedBy 6 f (W b r₁ r₂ 0x0224 c bytes 0))
       unfolding computing calm calmly
-      stops b r₁ r₂ c bytes = treads f may 0 (omega arith) 6 (W b r₁ r₂ 0x0224 c bytes 0) (kept refl refl) refl refl
+      stops b r₁ r₂ c bytes = treads f may 0 (omega arith) 6 (W b r₁ r₂ 0x0224 c bytes 0) (kept refl refl refl) refl refl
 
--- ---- the theorem
+-- ---- the way
 
 -- The display has got ready by the end.
 runs-out : (busy look : ℕ) → busy ≤ 6 → busy - look - 1 - 1 - 1 - 1 - 1 - 1 - 1 ≡ 0

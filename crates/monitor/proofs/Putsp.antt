@@ -103,7 +103,7 @@ module _ (user : Bool) (s : Start) (x : Eight (s .machine .regs)) where
     begins : Path f may (begun s x 0x023D (next (s .machine .pc))) 5 (W (x .r₃) (x .r₀) (x .r₁) (x .r₂) 0x0242 (from (stackOf (s .machine) - 6)) []
         (s .machine .devices .busy - 1 - 1 - 1 - 1 - 1 - 1))
     unfolding computing calm calmly
-    begins = treads f may 0 (omega arith) 5 (begun s x 0x023D (next (s .machine .pc))) (kept refl refl) refl refl
+    begins = treads f may 0 (omega arith) 5 (begun s x 0x023D (next (s .machine .pc))) (kept refl refl refl) refl refl
 
     known : (r₃ a r₁ r₂ pc : ℕ) (c c′ : Known) (bytes : List ℕ) (busy : ℕ) → codesNumber c ≡ codesNumber c′
         → Path f may (W r₃ a r₁ r₂ pc c bytes busy) 0 (W r₃ a r₁ r₂ pc c′ bytes busy)
@@ -112,28 +112,28 @@ module _ (user : Bool) (s : Start) (x : Eight (s .machine .regs)) where
     looks : (r₃ : ℕ) → Looks f may (W r₃) psr 0x0242 0x0243 0x0246 0x0249 0x024A 0x0268
     unfolding computing calm calmly
     looks r₃ = record {
-      loads-psr = λ a r₁ r₂ c bytes busy. treads f may 0 (omega arith) 1 (W r₃ a r₁ r₂ 0x0242 c bytes busy) (kept refl refl) refl refl;
+      loads-psr = λ a r₁ r₂ c bytes busy. treads f may 0 (omega arith) 1 (W r₃ a r₁ r₂ 0x0242 c bytes busy) (kept refl refl refl) refl refl;
       skips = λ a r₁ r₂ x l bytes busy.
           below-two
           (λ (x : ℕ). Path f may (W r₃ a r₁ r₂ 0x0243 (from x) bytes busy) 1 (W r₃ a r₁ r₂ 0x024A (from x) bytes (busy - 1)))
-          (treads f may 0 (omega arith) 1 (W r₃ a r₁ r₂ 0x0243 (from 0) bytes busy) (kept refl refl) refl refl)
-          (treads f may 0 (omega arith) 1 (W r₃ a r₁ r₂ 0x0243 (from 1) bytes busy) (kept refl refl) refl refl) x l;
+          (treads f may 0 (omega arith) 1 (W r₃ a r₁ r₂ 0x0243 (from 0) bytes busy) (kept refl refl refl) refl refl)
+          (treads f may 0 (omega arith) 1 (W r₃ a r₁ r₂ 0x0243 (from 1) bytes busy) (kept refl refl refl) refl refl) x l;
       adds-above = λ a r₁ r₂ bytes busy.
-          treads f may 0 (omega arith) 3 (W r₃ a r₁ r₂ 0x0243 (from 0x8000) bytes busy) (kept refl refl) refl refl;
+          treads f may 0 (omega arith) 3 (W r₃ a r₁ r₂ 0x0243 (from 0x8000) bytes busy) (kept refl refl refl) refl refl;
       goes-on = λ a r₁ r₂ bytes busy.
-          treads f may 0 (omega arith) 1 (W r₃ a r₁ r₂ 0x0246 (from 0x8000) bytes busy) (kept refl refl) refl refl;
+          treads f may 0 (omega arith) 1 (W r₃ a r₁ r₂ 0x0246 (from 0x8000) bytes busy) (kept refl refl refl) refl refl;
       adds-below = λ a r₁ r₂ x l bytes busy.
           below-two
           (λ (x : ℕ). Path f may (W r₃ a r₁ r₂ 0x0246 (from x) bytes busy) 3 (W r₃ a (wrap (r₁ + 0xCE00)) 0xCE00 0x0249 (from (wrap (r₁ + 0xCE00))) bytes (busy - 1 - 1 - 1)))
-          (treads f may 0 (omega arith) 3 (W r₃ a r₁ r₂ 0x0246 (from 0) bytes busy) (kept refl refl) refl refl)
-          (treads f may 0 (omega arith) 3 (W r₃ a r₁ r₂ 0x0246 (from 1) bytes busy) (kept refl refl) refl refl) x l;
+          (treads f may 0 (omega arith) 3 (W r₃ a r₁ r₂ 0x0246 (from 0) bytes busy) (kept refl refl refl) refl refl)
+          (treads f may 0 (omega arith) 3 (W r₃ a r₁ r₂ 0x0246 (from 1) bytes busy) (kept refl refl refl) refl refl) x l;
       gets = λ a r₁ r₂ x l bytes busy.
           below-two
           (λ (x : ℕ). Path f may (W r₃ a r₁ r₂ 0x0249 (from x) bytes busy) 1 (W r₃ a r₁ r₂ 0x024A (from x) bytes (busy - 1)))
-          (treads f may 0 (omega arith) 1 (W r₃ a r₁ r₂ 0x0249 (from 0) bytes busy) (kept refl refl) refl refl)
-          (treads f may 0 (omega arith) 1 (W r₃ a r₁ r₂ 0x0249 (from 1) bytes busy) (kept refl refl) refl refl) x l;
+          (treads f may 0 (omega arith) 1 (W r₃ a r₁ r₂ 0x0249 (from 0) bytes busy) (kept refl refl refl) refl refl)
+          (treads f may 0 (omega arith) 1 (W r₃ a r₁ r₂ 0x0249 (from 1) bytes busy) (kept refl refl refl) refl refl) x l;
       refuses = λ a r₁ r₂ bytes busy.
-          treads f may 0 (omega arith) 1 (W r₃ a r₁ r₂ 0x0249 (from 0x8000) bytes busy) (kept refl refl) refl refl;
+          treads f may 0 (omega arith) 1 (W r₃ a r₁ r₂ 0x0249 (from 0x8000) bytes busy) (kept refl refl refl) refl refl;
       knows = known r₃;
     }
 
@@ -165,8 +165,8 @@ module _ (user : Bool) (s : Start) (x : Eight (s .machine .regs)) where
         let z : busy - 1 - 1 - 1 ≡ 0 = omega arith in
         let l = not-zero r₃ a w r₂ 0x024B w 3 bytes busy
         (W r₃ a w (wordAnd w 0x00FF) 0x024E (from (wordAnd w 0x00FF)) bytes (busy - 1 - 1 - 1)) some
-        (unfold computing calm calmly in treads f may 0 (omega arith) 3 (W r₃ a w r₂ 0x024B (from 1) bytes busy) (kept refl refl) refl refl)
-        (unfold computing calm calmly in treads f may 0 (omega arith) 3 (W r₃ a w r₂ 0x024B (from 0x8000) bytes busy) (kept refl refl) refl refl)
+        (unfold computing calm calmly in treads f may 0 (omega arith) 3 (W r₃ a w r₂ 0x024B (from 1) bytes busy) (kept refl refl refl) refl refl)
+        (unfold computing calm calmly in treads f may 0 (omega arith) 3 (W r₃ a w r₂ 0x024B (from 0x8000) bytes busy) (kept refl refl refl) refl refl)
         in
         rw (← (low-byte w below)) (rw z at l)
 
@@ -219,16 +219,16 @@ module _ (user : Bool) (s : Start) (x : Eight (s .machine .regs)) where
     unfolding computing calm calmly
     low-part r₃ a w y bytes below room =
         shows-if r₃ a w y 0x024E 0x0252 bytes below room
-        (treads f may 0 (omega arith) 1 (W r₃ a w 0 0x024E (from 0) bytes 0) (kept refl refl) refl refl)
-        (λ free. treads f may (length (s .output)) (omega arith) 4 (W r₃ a w y 0x024E (from 1) bytes 0) (kept refl refl) (rw (lt-ltb (length bytes) (length (s .output)) free)) refl)
+        (treads f may 0 (omega arith) 1 (W r₃ a w 0 0x024E (from 0) bytes 0) (kept refl refl refl) refl refl)
+        (λ free. treads f may (length (s .output)) (omega arith) 4 (W r₃ a w y 0x024E (from 1) bytes 0) (kept refl refl refl) (rw (lt-ltb (length bytes) (length (s .output)) free)) refl)
 
     high-part : (r₃ a r₁ y : ℕ) (bytes : List ℕ) → y < 256 → length bytes + length (unlessZero y) ≤ length (s .output)
         → After (W r₃ a r₁ y 0x025C (from y) bytes 0) (1 + byteSteps y) a r₁ y 0x0260 (bytes ++ unlessZero y) 8
     unfolding computing calm calmly
     high-part r₃ a r₁ y bytes below room =
         shows-if r₃ a r₁ y 0x025C 0x0260 bytes below room
-        (treads f may 0 (omega arith) 1 (W r₃ a r₁ 0 0x025C (from 0) bytes 0) (kept refl refl) refl refl)
-        (λ free. treads f may (length (s .output)) (omega arith) 4 (W r₃ a r₁ y 0x025C (from 1) bytes 0) (kept refl refl) (rw (lt-ltb (length bytes) (length (s .output)) free)) refl)
+        (treads f may 0 (omega arith) 1 (W r₃ a r₁ 0 0x025C (from 0) bytes 0) (kept refl refl refl) refl refl)
+        (λ free. treads f may (length (s .output)) (omega arith) 4 (W r₃ a r₁ y 0x025C (from 1) bytes 0) (kept refl refl refl) (rw (lt-ltb (length bytes) (length (s .output)) free)) refl)
 
     -- ---- the shift
 
@@ -237,9 +237,9 @@ module _ (user : Bool) (s : Start) (x : Eight (s .machine .regs)) where
     clears r₃ a w y c bytes busy below =
         let z : wordAnd y 0 ≡ 0 = sym (and-bits 16 y 0 (omega arith)) ∙ and-zero-r y in
         let first : Path f may (W r₃ a w y 0x0252 c bytes busy) 1 (W r₃ a w (wordAnd y 0) 0x0253 (from (wordAnd y 0)) bytes (busy - 1)) =
-        unfold computing calm calmly in treads f may 0 (omega arith) 1 (W r₃ a w y 0x0252 c bytes busy) (kept refl refl) refl refl in
+        unfold computing calm calmly in treads f may 0 (omega arith) 1 (W r₃ a w y 0x0252 c bytes busy) (kept refl refl refl) refl refl in
         let second : Path f may (W r₃ a w 0 0x0253 (from 0) bytes (busy - 1)) 1 (W 8 a w 0 0x0254 (from 8) bytes (busy - 1 - 1)) =
-        unfold computing calm calmly in treads f may 0 (omega arith) 1 (W r₃ a w 0 0x0253 (from 0) bytes (busy - 1)) (kept refl refl) refl refl in
+        unfold computing calm calmly in treads f may 0 (omega arith) 1 (W r₃ a w 0 0x0253 (from 0) bytes (busy - 1)) (kept refl refl refl) refl refl in
         then (rw z at first) second
 
     -- ADD R2, R2, R2 and ADD R1, R1, #0.
@@ -249,7 +249,7 @@ module _ (user : Bool) (s : Start) (x : Eight (s .machine .regs)) where
         let y : wrap (r₂ + r₂) ≡ r₂ * 2 = omega arith in
         let z : wrap (r₁ + 0) ≡ r₁ = omega arith in
         let l : Path f may (W r₃ a r₁ r₂ 0x0254 c bytes busy) 2 (W r₃ a (wrap (r₁ + 0)) (wrap (r₂ + r₂)) 0x0256 (from (wrap (r₁ + 0))) bytes (busy - 1 - 1)) =
-        unfold computing calm calmly in treads f may 0 (omega arith) 2 (W r₃ a r₁ r₂ 0x0254 c bytes busy) (kept refl refl) refl refl in
+        unfold computing calm calmly in treads f may 0 (omega arith) 2 (W r₃ a r₁ r₂ 0x0254 c bytes busy) (kept refl refl refl) refl refl in
         rw (y, z) at l
 
     -- BRzp is taken: ADD R1, R1, R1; ADD R3, R3, #-1.
@@ -268,8 +268,8 @@ module _ (user : Bool) (s : Start) (x : Eight (s .machine .regs)) where
         leads = unfold computing calm calmly in
             below-two
             (λ (x : ℕ). Path f may (W r₃ a r₁ r₂ 0x0256 (from x) bytes busy) 3 (W (wrap (r₃ + 65535)) a (wrap (r₁ + r₁)) r₂ 0x025A (from (wrap (r₃ + 65535))) bytes (busy - 1 - 1 - 1)))
-            (treads f may 0 (omega arith) 3 (W r₃ a r₁ r₂ 0x0256 (from 0) bytes busy) (kept refl refl) refl refl)
-            (treads f may 0 (omega arith) 3 (W r₃ a r₁ r₂ 0x0256 (from 1) bytes busy) (kept refl refl) refl refl)
+            (treads f may 0 (omega arith) 3 (W r₃ a r₁ r₂ 0x0256 (from 0) bytes busy) (kept refl refl refl) refl refl)
+            (treads f may 0 (omega arith) 3 (W r₃ a r₁ r₂ 0x0256 (from 1) bytes busy) (kept refl refl refl) refl refl)
 
     -- It is not: ADD R2, R2, #1 too.
     set-bit : (r₃ a r₁ r₂ : ℕ) (bytes : List ℕ) (busy : ℕ) → r₂ < 0x8000 → 0 < r₃ → r₃ < 65536
@@ -280,7 +280,7 @@ module _ (user : Bool) (s : Start) (x : Eight (s .machine .regs)) where
         let u : wrap (r₂ + 1) ≡ r₂ + 1 = omega arith in
         let l : Path f may (W r₃ a r₁ r₂ 0x0256 (from 0x8000) bytes busy) 4 (W (wrap (r₃ + 65535)) a (wrap (r₁ + r₁)) (wrap (r₂ + 1)) 0x025A (from (wrap (r₃ + 65535))) bytes
         (busy - 1 - 1 - 1 - 1)) =
-        unfold computing calm calmly in treads f may 0 (omega arith) 4 (W r₃ a r₁ r₂ 0x0256 (from 0x8000) bytes busy) (kept refl refl) refl refl in
+        unfold computing calm calmly in treads f may 0 (omega arith) 4 (W r₃ a r₁ r₂ 0x0256 (from 0x8000) bytes busy) (kept refl refl refl) refl refl in
         rw (y, z, u) at l
       where
         twice : (n : ℕ) → n + n ≡ n * 2
@@ -346,7 +346,7 @@ module _ (user : Bool) (s : Start) (x : Eight (s .machine .regs)) where
         let n : b .busy - 1 ≡ 0 = omega (arith, b .few) in
         let branch : Path f may (W 0 a (r₁ * 2 % 65536) (r₂ * 2 + r₁ / 0x8000) 0x025A (from 0) bytes (b .busy)) 1 (W 0 a (r₁ * 2 % 65536) (r₂ * 2 + r₁ / 0x8000) 0x025B (from 0) bytes (b .busy - 1)) =
         unfold computing calm calmly in
-        treads f may 0 (omega arith) 1 (W 0 a (r₁ * 2 % 65536) (r₂ * 2 + r₁ / 0x8000) 0x025A (from 0) bytes (b .busy)) (kept refl refl) refl refl in
+        treads f may 0 (omega arith) 1 (W 0 a (r₁ * 2 % 65536) (r₂ * 2 + r₁ / 0x8000) 0x025A (from 0) bytes (b .busy)) (kept refl refl refl) refl refl in
         (r₁ * 2 % 65536, rw z (then (b .leads) (rw n at branch)))
 
     more-bits : (i : ℕ) → Shifts i → Shifts (suc i)
@@ -362,7 +362,7 @@ module _ (user : Bool) (s : Start) (x : Eight (s .machine .regs)) where
         let r₂′ : ℕ = r₂ * 2 + r₁ / 0x8000 in
         let branch : Path f may (W (suc i) a r₁′ r₂′ 0x025A (from 1) bytes (b .busy)) 1 (W (suc i) a r₁′ r₂′ 0x0254 (from 1) bytes (b .busy - 1)) =
         unfold computing calm calmly in
-        treads f may 0 (omega arith) 1 (W (suc i) a r₁′ r₂′ 0x025A (from 1) bytes (b .busy)) (kept refl refl) refl refl in
+        treads f may 0 (omega arith) 1 (W (suc i) a r₁′ r₂′ 0x025A (from 1) bytes (b .busy)) (kept refl refl refl) refl refl in
         let known-branch : Path f may (W (suc i) a r₁′ r₂′ 0x025A (from (suc i)) bytes (b .busy)) 1 (W (suc i) a r₁′ r₂′ 0x0254 (from 1) bytes 0) =
         then (known (suc i) a r₁′ r₂′ 0x025A (from (suc i)) (from 1) bytes (b .busy)
         (positive (suc i) (omega arith) (omega arith))) (rw n at branch) in
@@ -381,7 +381,7 @@ module _ (user : Bool) (s : Start) (x : Eight (s .machine .regs)) where
     tests a r y bytes below =
         let z : wrap (y + 0) ≡ y = omega arith in
         let l : Path f may (W 0 a r y 0x025B (from 0) bytes 0) 1 (W 0 a r (wrap (y + 0)) 0x025C (from (wrap (y + 0))) bytes 0) =
-        unfold computing calm calmly in treads f may 0 (omega arith) 1 (W 0 a r y 0x025B (from 0) bytes 0) (kept refl refl) refl refl in
+        unfold computing calm calmly in treads f may 0 (omega arith) 1 (W 0 a r y 0x025B (from 0) bytes 0) (kept refl refl refl) refl refl in
         rw z at l
 
     -- ADD R0, R0, #1 and BRnzp.
@@ -390,7 +390,7 @@ module _ (user : Bool) (s : Start) (x : Eight (s .machine .regs)) where
     goes-on r₃ a r₁ r₂ c bytes busy below =
         let z : wrap (a + 1) ≡ suc a = omega arith in
         let l : Path f may (W r₃ a r₁ r₂ 0x0260 c bytes busy) 2 (W r₃ (wrap (a + 1)) r₁ r₂ 0x0242 (from (wrap (a + 1))) bytes (busy - 1 - 1)) =
-        unfold computing calm calmly in treads f may 0 (omega arith) 2 (W r₃ a r₁ r₂ 0x0260 c bytes busy) (kept refl refl) refl refl in
+        unfold computing calm calmly in treads f may 0 (omega arith) 2 (W r₃ a r₁ r₂ 0x0260 c bytes busy) (kept refl refl refl) refl refl in
         rw z at l
 
     -- At the look, with these bytes shown.
@@ -518,15 +518,15 @@ module _ (user : Bool) (s : Start) (x : Eight (s .machine .regs)) where
           → Path f may (W r₃ b 0 r₂ 0x024B (from 0) bytes busy) 6 (steppedBy 6 f (W r₃ b 0 r₂ 0x024B (from 0) bytes busy))
       unfolding computing calm calmly
       restores r₃ b r₂ bytes busy =
-          treads f may 0 (omega arith) 6 (W r₃ b 0 r₂ 0x024B (from 0) bytes busy) (kept refl refl) refl refl
+          treads f may 0 (omega arith) 6 (W r₃ b 0 r₂ 0x024B (from 0) bytes busy) (kept refl refl refl) refl refl
 
       -- The refusal: the registers are restored, and STOP halts.
       stops : (r₃ b r₁ r₂ : ℕ) (c : Known) (bytes : List ℕ)
           → Path f may (W r₃ b r₁ r₂ 0x0268 c bytes 0) 7 (steppedBy 7 f (W r₃ b r₁ r₂ 0x0268 c bytes 0))
       unfolding computing calm calmly
-      stops r₃ b r₁ r₂ c bytes = treads f may 0 (omega arith) 7 (W r₃ b r₁ r₂ 0x0268 c bytes 0) (kept refl refl) refl refl
+      stops r₃ b r₁ r₂ c bytes = treads f may 0 (omega arith) 7 (W r₃ b r₁ r₂ 0x0268 c bytes 0) (kept refl refl refl) refl refl
 
--- ---- the theorem
+-- ---- the way
 
 -- The display has got ready by the end.
 runs-out : (busy look : ℕ) → busy ≤ 6 → busy - look - 1 - 1 - 1 - 1 - 1 - 1 - 1 - 1 ≡ 0

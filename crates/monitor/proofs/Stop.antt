@@ -41,7 +41,7 @@ module _ (vector : ℕ) (user : Bool) (s : Start) (n : ℕ) (b : Begins (withVec
   unfolding computing
   at-stop =
       runs quiet f (begins-sound s n b) 0 (omega arith) 2
-      (begun s x 0x027C pc) (kept refl refl) refl .on (omega arith) a
+      (begun s x 0x027C pc) (kept refl refl refl) refl .on (omega arith) a
 
   stop-halts : Halts s n 3 [] (s .machine .devices .busy - 3) 2
   unfolding computing
@@ -162,7 +162,7 @@ module _ (s : Start) (n k : ℕ) (bytes : List ℕ) (busy used : ℕ) (words : H
     unfolding computing
     at-stop-again =
         runs (quiet-steps s′ n′ 3 0 (g .accepted) (omega arith) none) after sound 0 (omega arith) 3 waiting
-        (record { eight = refl; six = λ h. absurd (omega arith) })
+        (record { eight = refl; six = λ h. absurd (omega arith); few = omega arith })
         refl .on (omega arith) at-waiting
 
     halts-again : HaltsAgain s′ n′
