@@ -1,5 +1,5 @@
 -- Laws of the test: watched words, states, rows, vectors, room.
-use Prim.Native.Nat.{ℕ, zero, suc, _+_, _-_, _*_, _/_, _%_, _≤_, _<_, min}
+use Prim.Native.Nat.{ℕ, zero, suc, _+_, _-_, _/_, _%_, _≤_, _<_, min}
 use native.Mathlib.Omega.{arith}
 use native.Mathlib.Decide.{decLe}
 use mathlib.Core.Path.{_≡_, refl, sym, ap, _∙_}
@@ -8,20 +8,14 @@ use mathlib.Core.List.{List, [], _∷_}
 use borrow.Author.Tests.{le-leb, lt-leb, ne-eqb}
 use lib.Dec.{eqb, leb, ltb}
 use lib.ListN.{length, getD, set, take, drop, length-take, length-drop, length-set}
-use lib.Seq.{drop-cons, drop-drop, drop-length, getD-take, getD-drop, getD-set-same, getD-set-other, ext-getD}
-use Rattle.word.specs.Reading.{readOf}
-use Rattle.word.specs.declared.Instruction.{Instruction}
-use Rattle.machine.proofs.Tests.{and-false}
+use lib.Seq.{drop-cons, drop-length, getD-take, getD-drop, getD-set-same, getD-set-other, ext-getD}
 use Rattle.sitting.specs.Values.{Value, any, implies, valueBy}
-use Rattle.sitting.specs.Test.{Claim, State, Row, Cell, fixed, own, hidden, cellAt, isOwn, isKept, allKept, valueIn}
+use Rattle.sitting.specs.Test.{Claim, Cell, fixed, own, hidden, cellAt, isOwn, isKept, allKept}
 use Rattle.sitting.specs.Test.{sound}
-use Rattle.sitting.specs.Test.{harmless, allHarmless, isEmpty, rowHolds, rowsHold, accepts, onEntry, leadsIn}
-use Rattle.sitting.specs.Test.{allLeadIn}
-use Rattle.sitting.specs.Test.{isReturn, leadsBack, vectorsHold, roomHolds, passes}
-use Rattle.claims.specs.Encoding.{cellOf, cellsOf, valueOf, valuesOf, stateOf, statesOf, rowOf, rowsOf, startOf}
+use Rattle.sitting.specs.Test.{accepts, onEntry, leadsIn}
+use Rattle.sitting.specs.Test.{isReturn, leadsBack, roomHolds}
+use Rattle.claims.specs.Encoding.{cellOf, cellsOf, valueOf, valuesOf, stateOf}
 use Rattle.claims.proofs.ValueLaws.{by-kind, by-test}
-use Rattle.claims.proofs.StateLaws.{start-is}
-use Rattle.certify.specs.Parts.{stateHolds}
 
 -- ---- watched words
 
@@ -124,17 +118,6 @@ module _ (c : Claim) (v : ℕ) (vs : List Value) where
             | no m ↦ false≢true (sound-below e (omega arith) ∙ h)
           ]
 
--- A state of a row, by its two parts.
-pub holds-no-stack : (c : Claim) (pc : ℕ) (i : Instruction) (σ : State) → sound c (valueIn (σ .regs) 6)
-    (σ .words) ≡ false
-    → false ≡ stateHolds c pc i σ
-holds-no-stack c pc i σ h = rw h refl
-
-pub holds-harmless : (c : Claim) (pc : ℕ) (i : Instruction) (σ : State) → sound c (valueIn (σ .regs) 6)
-    (σ .words) ≡ true
-    → harmless c pc i σ ≡ stateHolds c pc i σ
-holds-harmless c pc i σ h = rw h refl
-
 pub words-of : (t : List ℕ) → stateOf t .words ≡ valuesOf (drop 9 t)
 unfolding stateOf
 words-of t = refl
@@ -168,76 +151,6 @@ all-copied table at t l f =
     (λ k b.
     let m : k < 17 = omega (arith, f .size) in
     f .done k m ∙ rw (getD-take 17 (drop at table) k 0 m, getD-drop at table k 0) refl)
-
--- ---- rows
-
-module _ (c : Claim) (pc : ℕ) (i : Instruction) (table : List ℕ) where
-  pub harmless-step : (k end : ℕ) → k < end
-      → allHarmless c pc i (statesOf (end - k) (drop (k * 17) table))
-      ≡ (stateHolds c pc i (stateOf (take 17 (drop (k * 17) table)))
-      && allHarmless c pc i (statesOf (end - (k + 1)) (drop ((k + 1) * 17) table)))
-  unfolding allHarmless statesOf
-  harmless-step k end l =
-      let n : end - k ≡ suc (end - (k + 1)) = omega arith in
-      let e : k * 17 + 17 ≡ (k + 1) * 17 = omega arith in
-      let d : drop 17 (drop (k * 17) table) ≡ drop ((k + 1) * 17) table =
-      drop-drop 17 (k * 17) table ∙ ap (λ (m : ℕ). drop m table) e in
-      rw (n, d) refl
-
-  pub harmless-end : (n : ℕ) (ns : List ℕ) → n ≡ 0 → allHarmless c pc i (statesOf n ns) ≡ true
-  unfolding allHarmless statesOf
-  harmless-end n ns e = rw e refl
-
-has-states : (n : ℕ) (ns : List ℕ) → 0 < n → false ≡ isEmpty (statesOf n ns)
-unfolding isEmpty statesOf
-has-states zero ns l = absurd (omega arith)
-has-states (suc n) ns l = refl
-
-no-states : (n : ℕ) (ns : List ℕ) → n ≡ 0 → true ≡ isEmpty (statesOf n ns)
-unfolding isEmpty statesOf
-no-states zero ns e = refl
-no-states (suc n) ns e = absurd (omega arith)
-
-module _ (c : Claim) (pc : ℕ) (x : Cell) (k w : ℕ) (e : x ≡ cellOf k w) where
-  pub row-fixed : (row : Row) → k ≡ 1 → allHarmless c pc (readOf w) row ≡ rowHolds c pc x row
-  unfolding rowHolds cellOf
-  row-fixed row z = rw (e, z) refl
-
-  row-other : (row : Row) → (k ≡ 1 → ⊥) → isEmpty row ≡ rowHolds c pc x row
-  unfolding rowHolds cellOf
-  row-other row n =
-      rw (e, ne-eqb k 1 n)
-      (by-test (λ (y : Cell). isEmpty row ≡ rowHolds c pc y row) (eqb k 2) {x = own} {y = hidden} (λ z. refl)
-      (λ z. refl))
-
-  pub row-fetched : (n : ℕ) (ns : List ℕ) → (k ≡ 1 → ⊥) → 0 < n → false ≡ rowHolds c pc x (statesOf n ns)
-  row-fetched n ns m l = has-states n ns l ∙ row-other (statesOf n ns) m
-
-  pub row-empty : (n : ℕ) (ns : List ℕ) → (k ≡ 1 → ⊥) → n ≡ 0 → true ≡ rowHolds c pc x (statesOf n ns)
-  row-empty n ns m z = no-states n ns z ∙ row-other (statesOf n ns) m
-
-pub rows-step : (c : Claim) (table ends : List ℕ) (j : ℕ) → j < length ends
-    → rowsHold c (0x0200 + j) (rowsOf table (startOf 0 ends j) (drop j ends))
-    ≡ (rowHolds c (0x0200 + j) (cellAt (c .cells) (0x0200 + j)) (rowOf table (startOf 0 ends j) (getD ends j 0))
-    && rowsHold c (0x0200 + (j + 1)) (rowsOf table (startOf 0 ends (j + 1)) (drop (j + 1) ends)))
-unfolding rowsHold rowsOf
-rows-step c table ends j l =
-    let a : suc j ≡ j + 1 = omega arith in
-    let b : suc (0x0200 + j) ≡ 0x0200 + (j + 1) = omega arith in
-    let x : drop j ends ≡ getD ends j 0 ∷ drop (j + 1) ends =
-    drop-cons ends j 0 l ∙ ap (λ (n : ℕ). getD ends j 0 ∷ drop n ends) a in
-    let y : getD ends j 0 ≡ startOf 0 ends (j + 1) = start-is ends 0 j l ∙ ap (startOf 0 ends) a in
-    rw (x, ← b, ← y) refl
-
-pub rows-end : (c : Claim) (table ends : List ℕ) (pc start j : ℕ) → length ends ≤ j
-    → rowsHold c pc (rowsOf table start (drop j ends)) ≡ true
-rows-end c table ends pc start j l = rw (past ends j l) (unfold rowsHold rowsOf in refl)
-  where
-    past : (l : List ℕ) (n : ℕ) → length l ≤ n → drop n l ≡ []
-    past [] zero h = refl
-    past [] (suc n) h = refl
-    past (x ∷ xs) zero h = absurd (omega arith)
-    past (x ∷ xs) (suc n) h = past xs n (omega arith)
 
 -- ---- cells
 
@@ -303,19 +216,6 @@ module _ (c : Claim) (x : Cell) (k w : ℕ) (e : x ≡ cellOf k w) where
     pub back-fixed : l ≡ 1 → eqb m 0x8000 ≡ leadsBack c x
     back-fixed n = a-return l m n ∙ (rw (h, f) at (back-of z))
 
-pub all-more : (c : Claim) (a : ℕ) → allLeadIn c a ≡ true → leadsIn c (cellAt (c .cells) a) ≡ true
-    → allLeadIn c (a + 1) ≡ true
-unfolding allLeadIn
-all-more c a h e = let z : a + 1 ≡ suc a = omega arith in rw (z, h, e) refl
-
-pub not-all : (c : Claim) (a n : ℕ) → a < n → leadsIn c (cellAt (c .cells) a) ≡ false → allLeadIn c n ≡ false
-unfolding allLeadIn
-not-all c a zero l e = absurd (omega arith)
-not-all c a (suc n) l e = elim (decLe n a) [
-  | yes b ↦ let z : n ≡ a = omega arith in rw (z, e) refl
-  | no b ↦ rw (not-all c a n (omega arith) e) (and-false (leadsIn c (cellAt (c .cells) n)))
-]
-
 -- ---- room
 
 module _ (c : Claim) where
@@ -326,27 +226,3 @@ module _ (c : Claim) where
   pub room-of : length (c .cells) + 4 ≤ c .lowest → leb (c .lowest) 0x2FFE ≡ roomHolds c
   unfolding roomHolds
   room-of l = rw (le-leb (length (c .cells) + 4) (c .lowest) l) refl
-
-  -- The parts of the test.
-  pub passes-room : roomHolds c ≡ false → false ≡ passes c
-  unfolding passes
-  passes-room h = rw h refl
-
-  module _ (h : roomHolds c ≡ true) where
-    pub passes-vector : allLeadIn c 0x0103 ≡ false → false ≡ passes c
-    unfolding passes vectorsHold
-    passes-vector e = rw (h, e) refl
-
-    module _ (e : allLeadIn c 0x0103 ≡ true) where
-      pub passes-keyboard : leadsBack c (cellAt (c .cells) 0x0180) ≡ false → false ≡ passes c
-      unfolding passes vectorsHold
-      passes-keyboard k = rw (h, e, k) refl
-
-      module _ (k : leadsBack c (cellAt (c .cells) 0x0180) ≡ true) where
-        pub passes-timer : leadsBack c (cellAt (c .cells) 0x0181) ≡ false → false ≡ passes c
-        unfolding passes vectorsHold
-        passes-timer t = rw (h, e, k, t) refl
-
-        pub passes-rows : leadsBack c (cellAt (c .cells) 0x0181) ≡ true → rowsHold c 0x0200 (c .table) ≡ passes c
-        unfolding passes vectorsHold
-        passes-rows t = rw (h, e, k, t) refl

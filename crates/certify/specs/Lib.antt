@@ -1,3 +1,3 @@
--- The test of a claim in code: what its answer means (Answer), and what a function below it needs (Parts).
+-- The test of a claim in code: what it answers (Finding), and what its answer means (Answer).
+pub mod Finding
 pub mod Answer
-pub mod Parts

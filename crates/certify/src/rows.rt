@@ -1,23 +1,19 @@
 // The rows of the table, one for each word from x0200 on.
 use crate::Certified;
-use crate::Found;
+use crate::finding::nothing_wrong;
+use crate::finding::wrong;
 use crate::state::wrong_in;
 use claims::cells::kind_at;
 use claims::cells::word_at;
 use claims::states::end_in;
 use claims::states::start_of;
-use claims::states::wide;
 ghost use mathlib.Core.Path.{_≡_};
-ghost use Prim.Native.Nat.{_+_, _-_, _*_, _≤_, _<_};
-ghost use lib.Dec.{eqb};
+ghost use Prim.Native.Nat.{_+_, _-_, _*_, _/_, _≤_, _<_, min};
 ghost use lib.ListN.{length, getD, drop};
 ghost use Rattle.word.specs.Reading.{readOf};
-ghost use Rattle.sitting.specs.Test.{cellAt, allHarmless, rowHolds, rowsHold};
-ghost use Rattle.claims.specs.Encoding.{cellOf, cellsOf, statesOf, rowOf, rowsOf, startOf, claimOf};
-
-fn narrow(x: usize) -> u32 {
-    if x < 4294967296 { x as u32 } else { 4294967295 }
-}
+ghost use Rattle.sitting.specs.Test.{cellAt};
+ghost use Rattle.claims.specs.Encoding.{cellOf, cellsOf, statesOf, rowOf, startOf, claimOf};
+ghost use Rattle.certify.specs.Finding.{wrongInRow, wrongAt, wrongInRows};
 
 // The first of these states with which something is wrong.
 fn wrong_in_row(
@@ -29,30 +25,25 @@ fn wrong_in_row(
     table: &[u32],
     pc: u16,
     w: u16,
-    start: usize,
-    end: usize,
-) -> Found
+    start: u32,
+    end: u32,
+) -> Certified
     requires { ⌜ length (now watched) ≡ 8 ⌝ }
     requires { ⌜ end * 17 ≤ length (now table) ⌝ }
-    ensures { λ r. ⌜ eqb (r .finding) 0 ≡ allHarmless (claimOf (now (memory .entry)) (now (kinds .entry)) lowest
-        (now (watched .entry)) (now (ends .entry)) (now (table .entry))) pc (readOf w)
+    ensures { λ r. ⌜ r ≡ wrongInRow (claimOf (now (memory .entry)) (now (kinds .entry)) lowest
+        (now (watched .entry)) (now (ends .entry)) (now (table .entry))) pc (readOf w) start
         (statesOf (end - start) (drop (start * 17) (now (table .entry)))) ⌝ }
 {
     let mut k = start;
     while k < end {
-        let finding = wrong_in(memory, kinds, lowest, watched, ends, table, pc, w, k);
+        let found = wrong_in(memory, kinds, lowest, watched, ends, table, pc, w, k);
+        let finding = found.finding;
         if finding != 0 {
-            return Found {
-                finding,
-                state: narrow(k),
-            };
+            return found;
         }
         k += 1;
     }
-    Found {
-        finding: 0,
-        state: 0,
-    }
+    nothing_wrong()
 }
 
 // What the word of row j is, as a number.
@@ -68,6 +59,13 @@ fn kind_of_row(memory: &[u16], kinds: &[u8], j: usize) -> u8
     kind_at(memory, kinds, (0x0200 + j) as u16)
 }
 
+// A row that ends past the table ends with it.
+fn cut(table: &[u32], end: u32) -> u32
+    ensures { λ r. ⌜ r ≡ min end (length (now (table .entry)) / 17) ⌝ }
+{
+    end_in(table, end) as u32
+}
+
 // Row j: a word that may change, or is secret, is never fetched.
 fn wrong_at(
     memory: &[u16],
@@ -77,17 +75,18 @@ fn wrong_at(
     ends: &[u32],
     table: &[u32],
     j: usize,
-) -> Found
+) -> Certified
     requires { ⌜ length (now watched) ≡ 8 ⌝ }
     requires { ⌜ length (cellsOf (now kinds) (now memory)) ≤ 0x3000 ⌝ }
     requires { ⌜ j < length (now ends) ⌝ }
-    ensures { λ r. ⌜ eqb (r .finding) 0 ≡ rowHolds (claimOf (now (memory .entry)) (now (kinds .entry)) lowest
+    ensures { λ r. ⌜ r ≡ wrongAt (claimOf (now (memory .entry)) (now (kinds .entry)) lowest
         (now (watched .entry)) (now (ends .entry)) (now (table .entry))) (0x0200 + j)
         (cellAt (cellsOf (now (kinds .entry)) (now (memory .entry))) (0x0200 + j))
+        (startOf 0 (now (ends .entry)) j)
         (rowOf (now (table .entry)) (startOf 0 (now (ends .entry)) j) (getD (now (ends .entry)) j 0)) ⌝ }
 {
-    let start = wide(start_of(ends, j));
-    let end = end_in(table, ends[j]);
+    let start = start_of(ends, j);
+    let end = cut(table, ends[j]);
     if kind_of_row(memory, kinds, j) == 1 {
         let pc = ((0x0200 + j) % 65536) as u16;
         let w = word_at(memory, pc);
@@ -105,25 +104,9 @@ fn wrong_at(
         );
     }
     if start < end {
-        return Found {
-            finding: 5,
-            state: narrow(start),
-        };
+        return wrong(5, 0x0200 + j, start);
     }
-    Found {
-        finding: 0,
-        state: 0,
-    }
-}
-
-fn at_row(j: usize, finding: u32, state: u32) -> Certified
-    ensures { λ r. ⌜ r .finding ≡ finding ⌝ }
-{
-    Certified {
-        finding,
-        address: narrow(j) % 65536 + 0x0200,
-        state,
-    }
+    nothing_wrong()
 }
 
 // The first row with which something is wrong.
@@ -137,22 +120,18 @@ pub fn wrong_in_rows(
 ) -> Certified
     requires { ⌜ length (now watched) ≡ 8 ⌝ }
     requires { ⌜ length (cellsOf (now kinds) (now memory)) ≤ 0x3000 ⌝ }
-    ensures { λ r. ⌜ eqb (r .finding) 0 ≡ rowsHold (claimOf (now (memory .entry)) (now (kinds .entry)) lowest
-        (now (watched .entry)) (now (ends .entry)) (now (table .entry))) 0x0200
-        (rowsOf (now (table .entry)) 0 (now (ends .entry))) ⌝ }
+    ensures { λ r. ⌜ r ≡ wrongInRows (claimOf (now (memory .entry)) (now (kinds .entry)) lowest
+        (now (watched .entry)) (now (ends .entry)) (now (table .entry))) (now (table .entry)) 0x0200 0
+        (now (ends .entry)) ⌝ }
 {
     let mut j = 0;
     while j < ends.len() {
         let found = wrong_at(memory, kinds, lowest, watched, ends, table, j);
         let finding = found.finding;
         if finding != 0 {
-            return at_row(j, finding, found.state);
+            return found;
         }
         j += 1;
     }
-    Certified {
-        finding: 0,
-        address: 0,
-        state: 0,
-    }
+    nothing_wrong()
 }

@@ -1,18 +1,21 @@
 // One state of the table: its stack is known, and the instruction from it is harmless.
+use crate::Certified;
+use crate::finding::nothing_wrong;
+use crate::finding::wrong;
 use claims::cells::kind_at;
 use claims::states::register;
+use claims::states::wide;
 use claims::values::low_word;
 use claims::values::says_all;
 use following::instruction::is_harmless;
 ghost use mathlib.Core.Path.{_≡_};
 ghost use mathlib.Core.List.{List};
 ghost use Prim.Native.Nat.{ℕ, _+_, _*_, _≤_};
-ghost use lib.Dec.{eqb};
 ghost use lib.ListN.{length, take, drop};
 ghost use Rattle.word.specs.Reading.{readOf};
 ghost use Rattle.sitting.specs.Test.{Row, isKept, allKept, sound, valueIn};
 ghost use Rattle.claims.specs.Encoding.{valueOf, valuesOf, stateOf, claimWith, claimOf};
-ghost use Rattle.certify.specs.Parts.{stateHolds};
+ghost use Rattle.certify.specs.Finding.{wrongIn};
 
 // What an interrupt's two words cannot change: nothing is known of a watched word, or it is one of the monitor's own,
 // or of the stack from R6 on.
@@ -83,7 +86,7 @@ fn copy_state(table: &[u32], at: usize, t: &mut [u32])
     }
 }
 
-// What is wrong with state k: 0 nothing, 6 its stack, 7 the instruction.
+// What is wrong with state k: its stack, or the instruction.
 pub fn wrong_in(
     memory: &[u16],
     kinds: &[u8],
@@ -93,22 +96,22 @@ pub fn wrong_in(
     table: &[u32],
     pc: u16,
     w: u16,
-    k: usize,
-) -> u32
+    k: u32,
+) -> Certified
     requires { ⌜ length (now watched) ≡ 8 ⌝ }
     requires { ⌜ (k + 1) * 17 ≤ length (now table) ⌝ }
-    ensures { λ r. ⌜ eqb r 0 ≡ stateHolds (claimOf (now (memory .entry)) (now (kinds .entry)) lowest
-        (now (watched .entry)) (now (ends .entry)) (now (table .entry))) pc (readOf w)
+    ensures { λ r. ⌜ r ≡ wrongIn (claimOf (now (memory .entry)) (now (kinds .entry)) lowest (now (watched .entry))
+        (now (ends .entry)) (now (table .entry))) pc (readOf w) k
         (stateOf (take 17 (drop (k * 17) (now (table .entry))))) ⌝ }
 {
     let mut t = [0; 17];
-    copy_state(table, k * 17, &mut t);
+    copy_state(table, wide(k) * 17, &mut t);
     if !is_sound(&t, memory, kinds, lowest, watched) {
-        return 6;
+        return wrong(6, pc as usize, k);
     }
     let i = word::reading::read(w);
     if !is_harmless(&mut t, memory, kinds, lowest, watched, ends, table, pc, i) {
-        return 7;
+        return wrong(7, pc as usize, k);
     }
-    0
+    nothing_wrong()
 }

@@ -1,4 +1,7 @@
 // The vectors, and the room between the monitor's words and its stack.
+use crate::Certified;
+use crate::finding::nothing_wrong;
+use crate::finding::wrong;
 use claims::cells::kind_at;
 use claims::cells::word_at;
 use claims::states::accepts;
@@ -6,10 +9,10 @@ ghost use mathlib.Core.Path.{_≡_};
 ghost use mathlib.Core.Bool.{true};
 ghost use mathlib.Core.List.{List};
 ghost use Prim.Native.Nat.{ℕ, _≤_, min};
-ghost use lib.Dec.{eqb};
 ghost use lib.ListN.{length};
-ghost use Rattle.sitting.specs.Test.{Row, cellAt, accepts, onEntry, leadsIn, allLeadIn, leadsBack, roomHolds};
+ghost use Rattle.sitting.specs.Test.{Row, cellAt, accepts, onEntry, leadsIn, leadsBack, roomHolds};
 ghost use Rattle.claims.specs.Encoding.{cellsOf, claimWith, claimOf};
+ghost use Rattle.certify.specs.Finding.{wrongVector, wrongInterrupt, wrongVectors};
 
 // The table knows no more there than what is known on entry from User mode.
 fn accepts_entry(ends: &[u32], table: &[u32], w: u16) -> bool
@@ -51,24 +54,24 @@ fn leads_in(memory: &[u16], kinds: &[u8], ends: &[u32], table: &[u32], a: u16) -
     accepts_entry(ends, table, word_at(memory, a))
 }
 
-// The first of the vectors x0000 to x0102 that does not; x0103 where all do.
-pub fn wrong_vector(memory: &[u16], kinds: &[u8], ends: &[u32], table: &[u32]) -> u16
-    ensures { λ r. ⌜ ((lowest : ℕ) (watched : List ℕ) → length watched ≡ 8 → eqb r 0x0103
-        ≡ allLeadIn (claimOf (now (memory .entry)) (now (kinds .entry)) lowest watched (now (ends .entry))
+// The first of the vectors x0000 to x0102 that does not.
+fn wrong_vector(memory: &[u16], kinds: &[u8], ends: &[u32], table: &[u32]) -> Certified
+    ensures { λ r. ⌜ ((lowest : ℕ) (watched : List ℕ) → length watched ≡ 8 → r
+        ≡ wrongVector (claimOf (now (memory .entry)) (now (kinds .entry)) lowest watched (now (ends .entry))
         (now (table .entry))) 0x0103) ⌝ }
 {
     let mut a = 0;
     while a < 0x0103 {
         if !leads_in(memory, kinds, ends, table, a) {
-            return a;
+            return wrong(3, a as usize, 0);
         }
         a += 1;
     }
-    a
+    nothing_wrong()
 }
 
 // An interrupt's vector word leads to a lone RTI.
-pub fn leads_back(memory: &[u16], kinds: &[u8], ends: &[u32], table: &[u32], a: u16) -> bool
+fn leads_back(memory: &[u16], kinds: &[u8], ends: &[u32], table: &[u32], a: u16) -> bool
     ensures { λ r. ⌜ ((lowest : ℕ) (watched : List ℕ) → length watched ≡ 8 → r
         ≡ leadsBack (claimOf (now (memory .entry)) (now (kinds .entry)) lowest watched (now (ends .entry))
         (now (table .entry))) (cellAt (cellsOf (now (kinds .entry)) (now (memory .entry))) a)) ⌝ }
@@ -84,6 +87,36 @@ pub fn leads_back(memory: &[u16], kinds: &[u8], ends: &[u32], table: &[u32], a: 
         return false;
     }
     word_at(memory, w) == 0x8000
+}
+
+fn wrong_interrupt(memory: &[u16], kinds: &[u8], ends: &[u32], table: &[u32], a: u16) -> Certified
+    ensures { λ r. ⌜ ((lowest : ℕ) (watched : List ℕ) → length watched ≡ 8 → r
+        ≡ wrongInterrupt (claimOf (now (memory .entry)) (now (kinds .entry)) lowest watched (now (ends .entry))
+        (now (table .entry))) a) ⌝ }
+{
+    if leads_back(memory, kinds, ends, table, a) {
+        return nothing_wrong();
+    }
+    wrong(4, a as usize, 0)
+}
+
+// The first vector with which something is wrong: of traps and exceptions, of the keyboard, of the timer.
+pub fn wrong_vectors(memory: &[u16], kinds: &[u8], ends: &[u32], table: &[u32]) -> Certified
+    ensures { λ r. ⌜ ((lowest : ℕ) (watched : List ℕ) → length watched ≡ 8 → r
+        ≡ wrongVectors (claimOf (now (memory .entry)) (now (kinds .entry)) lowest watched (now (ends .entry))
+        (now (table .entry)))) ⌝ }
+{
+    let of_traps = wrong_vector(memory, kinds, ends, table);
+    let finding = of_traps.finding;
+    if finding != 0 {
+        return of_traps;
+    }
+    let of_keyboard = wrong_interrupt(memory, kinds, ends, table, 0x0180);
+    let finding = of_keyboard.finding;
+    if finding != 0 {
+        return of_keyboard;
+    }
+    wrong_interrupt(memory, kinds, ends, table, 0x0181)
 }
 
 fn smaller(a: usize, b: usize) -> usize

@@ -1,8 +1,7 @@
 // The test of any class's monitor for hosts in C and Rust. The call accepts every argument.
 use certify::Certified;
 ghost use mathlib.Core.Path.{_≡_};
-ghost use lib.Dec.{eqb};
-ghost use Rattle.certify.specs.Answer.{certifiedBy};
+ghost use Rattle.certify.specs.Finding.{certifyOf};
 
 #[no_mangle]
 pub extern "C" fn lc3_certify(
@@ -13,8 +12,8 @@ pub extern "C" fn lc3_certify(
     ends: &[u32],
     table: &[u32],
 ) -> Certified
-    ensures { λ r. ⌜ eqb (r .finding) 0 ≡ certifiedBy (now (memory .entry)) (now (kinds .entry)) lowest
-        (now (watched .entry)) (now (ends .entry)) (now (table .entry)) ⌝ }
+    ensures { λ r. ⌜ r ≡ certifyOf (now (memory .entry)) (now (kinds .entry)) lowest (now (watched .entry))
+        (now (ends .entry)) (now (table .entry)) ⌝ }
 {
     certify::certify(memory, kinds, lowest, watched, ends, table)
 }

@@ -5,49 +5,36 @@ use native.Mathlib.Omega.{arith}
 use mathlib.Core.Path.{_≡_, _∙_}
 use lib.ListN.{getD}
 use Rattle.claims.specs.Encoding.{rowOf, startOf, claimOf}
-use Rattle.certify.proofs.Laws.{row-fixed, row-fetched, row-empty}
+use Rattle.certify.proofs.FindingLaws.{row-fixed, row-fetched, row-empty}
 use Rattle.certify.proofs.rows.wrong_at.Statement.{statement}
 use Rattle.certify.proofs.rows.wrong_at.Tie as tie
 
 returns : tie.Need-returns
-returns c = let a = c .before .before .before .before .before .before .before .before .before .before .before
-    .before .before .args in
+returns c = let a = c .before .before .before .before .before .before .before .before .before .before .before .before .args in
     let b = c .before .before .before .kind-of-row .ensures .1 (omega arith) in
     let z : (0x0200 + a .j) % 65536 ≡ 0x0200 + a .j = omega (arith, b) in
     c .wrong-in-row .ensures
-    ∙ rw (
-      c .before .before .before .before .end-in .ensures,
-      c .before .before .before .before .before .before
-          .wide .ensures,
-      c .before .before .before .before .before .before .before .start-of .ensures,
-      c .before
-          .word-at .ensures,
-      z,
-    )
-    (row-fixed (claimOf (a .memory .now) (a .kinds .now) (a .lowest) (a .watched .now) (a .ends .now)
-    (a .table .now)) (0x0200 + a .j) _ (c .before .before .before .kind-of-row .result) (getD (a .memory .now)
-    (0x0200 + a .j) 0) (c .before .before .before .kind-of-row .ensures .0)
+    ∙ rw (c .before .before .before .before .cut .ensures, c .before .before .before .before .before .before .start-of .ensures, c .before .word-at .ensures, z)
+    (row-fixed (claimOf (a .memory .now) (a .kinds .now) (a .lowest) (a .watched .now) (a .ends .now) (a .table .now)) (0x0200 + a .j) _ (c .before .before .before .kind-of-row .result) (getD (a .memory .now) (0x0200 + a .j) 0)
+    (c .before .before .before .kind-of-row .ensures .0) (startOf 0 (a .ends .now) (a .j))
     (rowOf (a .table .now) (startOf 0 (a .ends .now) (a .j)) (getD (a .ends .now) (a .j) 0)) (omega arith))
 
 returns-2 : tie.Need-returns-2
-returns-2 c = let a = c .before .before .before .before .before .before .before .before .before .before .before
-    .before .before .args in
-    row-fetched (claimOf (a .memory .now) (a .kinds .now) (a .lowest) (a .watched .now) (a .ends .now)
-    (a .table .now)) (0x0200 + a .j) _ (c .before .before .before .kind-of-row .result) (getD (a .memory .now)
-    (0x0200 + a .j) 0) (c .before .before .before .kind-of-row .ensures .0) _ _
-    (λ e. omega arith) (omega arith)
+returns-2 c = let a = c .before .before .before .before .before .before .before .before .before .before .before .before .args in
+    c .wrong .ensures
+    ∙ rw (c .before .before .before .before .before .before .start-of .ensures)
+    (row-fetched (claimOf (a .memory .now) (a .kinds .now) (a .lowest) (a .watched .now) (a .ends .now) (a .table .now)) (0x0200 + a .j) _ (c .before .before .before .kind-of-row .result) (getD (a .memory .now) (0x0200 + a .j) 0)
+    (c .before .before .before .kind-of-row .ensures .0) (startOf 0 (a .ends .now) (a .j)) _ _ (λ e. omega arith) (omega arith))
 
 returns-3 : tie.Need-returns-3
-returns-3 c = let a = c .before .before .before .before .before .before .before .before .before .before .before
-    .before .args in
-    row-empty (claimOf (a .memory .now) (a .kinds .now) (a .lowest) (a .watched .now) (a .ends .now)
-    (a .table .now)) (0x0200 + a .j) _ (c .before .before .kind-of-row .result) (getD (a .memory .now)
-    (0x0200 + a .j) 0) (c .before .before .kind-of-row .ensures .0) _ _
-    (λ e. omega arith) (omega arith)
+returns-3 c = let a = c .before .before .before .before .before .before .before .before .before .before .before .before .args in
+    c .nothing-wrong .ensures
+    ∙ row-empty (claimOf (a .memory .now) (a .kinds .now) (a .lowest) (a .watched .now) (a .ends .now) (a .table .now)) (0x0200 + a .j) _ (c .before .before .before .kind-of-row .result) (getD (a .memory .now) (0x0200 + a .j) 0)
+    (c .before .before .before .kind-of-row .ensures .0) (startOf 0 (a .ends .now) (a .j)) _ _ (λ e. omega arith) (omega arith)
 
 pub wrong-at-spec : {M : Type 1} → statement M
 wrong-at-spec =
     tie.close
-    (tie.spec (λ c κs. search needs) (λ c κs. search needs) (λ c. search needs) (λ c. search needs)
-    (λ c κs. search needs) (λ c κs. search needs) (λ c. search needs) (λ c. search needs) (λ c κs. search needs)
-    (λ c κs. search needs) returns (λ c κs. search needs) returns-2 returns-3)
+    (tie.spec (λ c κs. search needs) (λ c. search needs) (λ c. search needs) (λ c κs. search needs)
+    (λ c κs. search needs) (λ c. search needs) (λ c. search needs) (λ c κs. search needs) (λ c κs. search needs)
+    returns (λ c. search needs) (λ c κs. search needs) returns-2 (λ c κs. search needs) returns-3)

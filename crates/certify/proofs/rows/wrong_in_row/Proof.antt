@@ -3,20 +3,19 @@ use borrow.Author.Needs.{needs}
 use Prim.Native.Nat.{_-_, _*_}
 use native.Mathlib.Omega.{arith}
 use mathlib.Core.Path.{_≡_, refl, sym, _∙_}
-use borrow.Author.Tests.{eq-eqb, ne-eqb}
 use lib.ListN.{drop}
 use Rattle.word.specs.Reading.{readOf}
-use Rattle.sitting.specs.Test.{allHarmless}
 use Rattle.claims.specs.Encoding.{statesOf, claimOf}
-use Rattle.certify.proofs.Laws.{harmless-step, harmless-end}
+use Rattle.certify.specs.Finding.{wrongInRow}
+use Rattle.certify.proofs.FindingLaws.{found-first, found-second, states-step, states-end}
 use Rattle.certify.proofs.rows.wrong_in_row.Statement.{statement}
 use Rattle.certify.proofs.rows.wrong_in_row.Tie as tie
 
 abbrev Inv-loop : tie.InvT-loop
 Inv-loop memory kinds lowest watched ends table pc w start end k₀ k =
-    allHarmless (claimOf memory kinds lowest watched ends table) pc (readOf w)
+    wrongInRow (claimOf memory kinds lowest watched ends table) pc (readOf w) start
     (statesOf (end - start) (drop (start * 17) table))
-    ≡ allHarmless (claimOf memory kinds lowest watched ends table) pc (readOf w)
+    ≡ wrongInRow (claimOf memory kinds lowest watched ends table) pc (readOf w) k
     (statesOf (end - k) (drop (k * 17) table))
 
 abbrev μ-loop : tie.MeasureT-loop
@@ -26,32 +25,28 @@ loop-holds : tie.Need-loop-holds Inv-loop μ-loop
 loop-holds c = refl
 
 returns : tie.Need-returns Inv-loop μ-loop
-returns c = let a = c .before .before .before .before .before .before .before .before .before .before .args in
-    let l = c .before .before .before .before .loop in
-    ne-eqb (c .before .before .wrong-in .result) 0 (λ e. omega arith)
-    ∙ sym (l .inv ∙ (harmless-step (claimOf (a .memory .now) (a .kinds .now) (a .lowest) (a .watched .now)
-    (a .ends .now) (a .table .now)) (a .pc) (readOf (a .w)) (a .table .now) (l .k) (a .end) (omega arith)
-    ∙ rw (
-      ← c .before .before .wrong-in .ensures,
-      ne-eqb (c .before .before .wrong-in .result) 0
-          (λ e. omega arith),
-    ) refl))
+returns c = let a = c .before .before .before .before .before .before .before .before .before .args in
+    let l = c .before .before .before .loop in
+    rw (
+      l .inv,
+      states-step (claimOf (a .memory .now) (a .kinds .now) (a .lowest) (a .watched .now) (a .ends .now) (a .table .now)) (a .pc) (readOf (a .w)) (a .table .now) (l .k) (a .end) (omega arith),
+      ← c .before .wrong-in .ensures,
+    ) (found-first (c .before .wrong-in .result) _ (λ e. omega arith))
 
 loop-again : tie.Need-loop-again Inv-loop μ-loop
 loop-again c = let a = c .before .before .before .before .before .before .before .before .before .args in
     let l = c .before .before .before .loop in
-    l .inv ∙ (harmless-step (claimOf (a .memory .now) (a .kinds .now) (a .lowest) (a .watched .now) (a .ends .now)
-    (a .table .now)) (a .pc) (readOf (a .w)) (a .table .now) (l .k) (a .end) (omega arith)
-    ∙ rw (← c .before .wrong-in .ensures, eq-eqb (c .before .wrong-in .result) 0 (omega arith)) refl)
+    l .inv ∙ (states-step (claimOf (a .memory .now) (a .kinds .now) (a .lowest) (a .watched .now) (a .ends .now) (a .table .now)) (a .pc) (readOf (a .w)) (a .table .now) (l .k) (a .end) (omega arith)
+    ∙ rw (← c .before .wrong-in .ensures) (sym (found-second (c .before .wrong-in .result) _ (omega arith))))
 
 returns-2 : tie.Need-returns-2 Inv-loop μ-loop
-returns-2 c = let a = c .before .before .before .before .before .before .before .args in
-    let l = c .before .loop in
-    sym (l .inv ∙ harmless-end (claimOf (a .memory .now) (a .kinds .now) (a .lowest) (a .watched .now)
-    (a .ends .now) (a .table .now)) (a .pc) (readOf (a .w)) (a .table .now) _ _ (omega arith))
+returns-2 c = let a = c .before .before .before .before .before .before .before .before .args in
+    let l = c .before .before .loop in
+    c .nothing-wrong .ensures
+    ∙ (states-end (claimOf (a .memory .now) (a .kinds .now) (a .lowest) (a .watched .now) (a .ends .now) (a .table .now)) (a .pc) (readOf (a .w)) (a .table .now) (l .k) _ _ (omega arith) ∙ sym (l .inv))
 
 pub wrong-in-row-spec : {M : Type 1} → statement M
 wrong-in-row-spec =
     tie.close
-    (tie.spec Inv-loop μ-loop loop-holds (λ c κs. search needs) (λ c κs. search needs) returns (λ c. search needs)
-    (λ c. search needs) loop-again returns-2)
+    (tie.spec Inv-loop μ-loop loop-holds (λ c κs. search needs) returns (λ c. search needs) (λ c. search needs)
+    loop-again (λ c κs. search needs) returns-2)
