@@ -324,8 +324,8 @@ class Test:
         return next(wrong, (CERTIFIED, 0, 0))
 
     def wrong_in(self, at: int) -> Iterator[tuple[int, int, int]]:
-        """What is wrong in a row, state by state."""
-        pc = 0x0200 + at
+        """What is wrong in a row, state by state. Rows past xFFFF are of no word: 65,536."""
+        pc = min(0x0200 + at, 65536)
         word = self.fixed(pc)
         for place, state in enumerate(self.rows[at], self.firsts[at]):
             if word is None:

@@ -7,7 +7,7 @@ import random
 import unittest
 from array import array
 from dataclasses import replace
-from typing import Sequence
+from typing import Any, Sequence
 
 import fanthrig
 from fanthrig import Certified, Finding
@@ -121,6 +121,38 @@ class Hostile(unittest.TestCase):
             answer = fanthrig.certify(part, some, rng.getrandbits(16), watched, ends, table)
             self.assertFalse(answer)
             self.assertEqual((part, ends, table, watched), before)
+
+    def test_every_shorter_claim(self) -> None:
+        """A claim that holds, with each of its parts cut to every shorter length."""
+        made = certificate_of(of_class())
+        parts = [
+            array("H", made.words),
+            array("B", made.kinds),
+            array("H", made.watched),
+            array("I", made.ends),
+            array("I", made.table),
+        ]
+
+        def tested(words: Any, kinds: Any, watched: Any, ends: Any, table: Any) -> Certified:
+            return fanthrig.certify(words, kinds, made.lowest, watched, ends, table)
+
+        self.assertTrue(tested(*parts))
+        for at, part in enumerate(parts):
+            for length in range(len(part)):
+                self.assertFalse(tested(*parts[:at], part[:length], *parts[at + 1 :]))
+
+    def test_rows_past_the_last_word(self) -> None:
+        """A state that is of no word is told as such, and not as one of another word's."""
+        made = certificate_of([ready_made()])
+        count, entry = made.states, (*[1 << 16] * 6, 0x22FFE, 1 << 16, 0, *[1 << 16] * 8)
+        for row, address in ((0xFDFF, 0xFFFF), (0xFE00, 65536), (0x10000, 65536), (0x20000, 65536)):
+            ends = (*made.ends, *[count] * (row - len(made.ends)))
+            empty = replace(made, ends=ends)
+            self.assertTrue(empty.tested())
+            wrong = replace(made, ends=(*ends, count + 1), table=(*made.table, *entry))
+            answer = by_call(wrong)
+            self.assertEqual(answer, Certified(Finding.WORD, address, count))
+            self.assertEqual(answer, by_python(wrong))
 
     def test_nothing_at_all(self) -> None:
         nothing, numbers = array("H"), array("I")
