@@ -299,7 +299,7 @@ enum {
 /* What lc3_certify answers. Where the finding names no word or no state, the number is 0. */
 typedef struct {
     uint32_t finding; /* LC3_CERTIFIED, or what is wrong */
-    uint32_t address; /* the word */
+    uint32_t address; /* the word; 65,536 for a state of a row past xFFFF, which is of no word */
     uint32_t state;   /* the state, counted from 0 over all rows of the table */
 } lc3_certified;
 

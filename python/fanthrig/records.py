@@ -411,7 +411,8 @@ _FINDING_TEXTS = {
 @dataclass(frozen=True)
 class Certified:
     """What the test of a monitor answers: its finding, and where there is one the address of the
-    word and the number of the state in the table, counted from 0."""
+    word and the number of the state in the table, counted from 0. A row past xFFFF is of no word:
+    its address is 65,536."""
 
     finding: Finding
     address: int = 0

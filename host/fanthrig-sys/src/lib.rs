@@ -174,7 +174,7 @@ impl Routines {
 pub struct Certified {
     /// `LC3_CERTIFIED`, or what is wrong first.
     pub finding: u32,
-    /// The word.
+    /// The word; 65,536 for a state of a row past xFFFF, which is of no word.
     pub address: u32,
     /// The state, counted from 0 over all rows of the table.
     pub state: u32,

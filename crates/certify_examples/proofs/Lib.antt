@@ -1,0 +1,2 @@
+-- The answers are as the rows say: each of them is computed.
+pub mod Examples

@@ -1,0 +1,1 @@
+// No code: what `certify` answers of a class's monitor, computed.
