@@ -116,13 +116,18 @@ class Side:
         self.lines = self.log.buffer_info()[0], len(self.log)
         self.record = RecordStruct()
 
-    def start(self, file: ctypes.Array[ctypes.c_char], length: int, kbsr: int) -> None:
-        """Starts a candidate's file."""
+    def start(
+        self, file: ctypes.Array[ctypes.c_char], length: int, kbsr: int, interval: int
+    ) -> None:
+        """Starts a candidate's file; where there is an interval the timer may interrupt."""
         at = ctypes.addressof(file), length
         started = LIBRARY.lc3_start_user(*at, *self.at, fanthrig.USER_STACK)
         assert started.refusal == 0
         self.record = started.record
         self.record.kbsr = kbsr
+        if interval:
+            self.record.timer_status = 0x4000
+            self.record.timer_interval = self.record.timer_count = interval
 
     def run(self, times: array[int], keys: array[int], logged: bool) -> tuple[object, ...]:
         """Runs on, and answers all that a host sees of it."""
@@ -176,9 +181,10 @@ class Pair:
         """Has both sit with a program for a few calls; tells what differs, or nothing."""
         rng, length = self.rng, len(program)
         file = ctypes.create_string_buffer(program, length)
-        kbsr = rng.choice([0] * 15 + [0x4000])
+        kbsr = rng.choice([0] * 7 + [0x4000])
+        interval = rng.choice([0] * 7 + [rng.randint(1, 40)])
         for side in self.sides:
-            side.start(file, length, kbsr)
+            side.start(file, length, kbsr, interval)
         for _ in range(rng.randint(1, 2)):
             clock = int(self.sides[0].record.clock)
             times = array("Q", sorted(clock + rng.randrange(STEPS) for _ in range(3)))

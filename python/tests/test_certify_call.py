@@ -133,8 +133,8 @@ class Hostile(unittest.TestCase):
             array("I", made.table),
         ]
 
-        def tested(words: Any, kinds: Any, watched: Any, ends: Any, table: Any) -> Certified:
-            return fanthrig.certify(words, kinds, made.lowest, watched, ends, table)
+        def tested(words: Any, kinds: Any, *rest: Any) -> Certified:
+            return fanthrig.certify(words, kinds, made.lowest, *rest)
 
         self.assertTrue(tested(*parts))
         for at, part in enumerate(parts):

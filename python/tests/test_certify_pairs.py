@@ -6,6 +6,7 @@ from __future__ import annotations
 import os
 import random
 import unittest
+from array import array
 
 from fanthrig.certifying import Certificate, NotCertified, certificate_of
 from fanthrig.certifying.claims import claim_of
@@ -14,6 +15,7 @@ from fanthrig.certifying.making import made_of
 from .certify_support import File, Pair, example, memory_with, of_class, randomly_altered
 from .certify_support import ready_made
 from .hostile import hostile
+from .test_certify_call import altered
 
 # Alterations, and the programs beside each that is certified.
 ALTERATIONS, PROGRAMS = 200, 1000
@@ -62,6 +64,20 @@ class Pairs(unittest.TestCase):
         # Both kinds are met often, so that the test says something.
         self.assertGreater(certified, ALTERATIONS // 8)
         self.assertGreater(ALTERATIONS - certified, ALTERATIONS // 8)
+
+    def test_claims_that_are_altered(self) -> None:
+        """A certificate edited by hand that the proved test accepts holds for what it claims."""
+        rng, certified = random.Random(SEED), 0
+        whole = [certificate_of([ready_made()]), certificate_of(of_class())]
+        for number in range(5 * ALTERATIONS):
+            made = altered(rng, rng.choice(whole))
+            if made.tested() and made not in whole:
+                certified += 1
+                pair = Pair(rng, made, array("H", made.words))
+                programs = rng.sample(self.programs, PROGRAMS // 50)
+                with self.subTest(number=number, seed=SEED):
+                    self.assertEqual({pair.differs(program) for program in programs}, {""})
+        self.assertGreater(certified, ALTERATIONS // 8)
 
     def test_a_leak_is_seen_by_pairs(self) -> None:
         """The pairs themselves are worth something: beside leaky.obj, of which a certificate is

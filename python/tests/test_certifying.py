@@ -339,6 +339,54 @@ class Command(Folder):
         said = self.certify("--fixed", "x2027", *leaky, marking)
         self.assertIn("marking.obj: every word is secret but x2027\n", said)
 
+    def forged(self, made: Certificate, *files: object) -> str:
+        """What is said of a certificate that somebody has handed over, beside the answers."""
+        table = self.file("forged.cert", made.data())
+        names = [*files, EXAMPLES / "monitor.obj"]
+        self.assertIn("\nsecret: ", self.certify("--table", table, *names))
+        return self.certify("--table", table, *names, EXAMPLES / "marking.obj", code=1)
+
+    def test_certificates_that_claim_less(self) -> None:
+        """The proved test holds for what they claim; but the answers are no secrets by them."""
+        leaky = ["--monitor", EXAMPLES / "leaky.obj"]
+        files = [example("monitor"), example("leaky")]
+        for cell in (Cell.OWN, Cell.FIXED):
+            declared = [Declared(range(0x2027, 0x2028), cell)]
+            made = certificate_of(files, [example("marking")], declared)
+            if cell is Cell.FIXED:
+                beside = "x2027: is x0000, and x0042 in the certificate"
+                table = self.file("fixed.cert", made.data())
+                names = [*leaky, EXAMPLES / "monitor.obj"]
+                self.assertIn(beside, self.certify("--table", table, *names, code=1))
+                said = self.certify("--table", table, *names, EXAMPLES / "marking.obj", code=1)
+            else:
+                said = self.forged(made, *leaky)
+            text = "x2027: .*marking.obj has this word, and the certificate does not keep it secret"
+            self.assertRegex(said, text)
+
+    def test_certificates_with_a_stack_over_secrets(self) -> None:
+        made = replace(certificate_of(of_class()), lowest=0x1000)
+        self.assertTrue(made.tested())
+        said = self.forged(made, "--monitor", EXAMPLES / "service.obj")
+        self.assertIn("marking.obj has x2000 to x202A, words of the monitor's stack", said)
+
+    def test_certificates_of_other_words(self) -> None:
+        """Each fixed word of a certificate is compared with the monitor's that is named."""
+        made = certificate_of(of_class())
+        for address in (0x0000, 0x0102, 0x0215, 0x0303):
+            words = list(made.words)
+            words[address] ^= 1
+            table = self.file("other.cert", replace(made, words=tuple(words)).data())
+            names = ["--monitor", EXAMPLES / "service.obj", EXAMPLES / "monitor.obj"]
+            said = self.certify("--table", table, *names, code=1)
+            self.assertIn(f"x{address:04X}: is x", said)
+
+    def test_certificates_that_are_too_long(self) -> None:
+        table = self.file("long.cert", b" " * ((1 << 24) + 1))
+        done = ran("certify", "--table", table)
+        self.assertEqual((done.code, done.out), (3, b""))
+        self.assertIn("it is longer than 16 MiB", done.err)
+
     def mark(self, *arguments: object) -> tuple[int, str, str]:
         """What ``lc3 mark`` says of hello.obj beside the class's monitor."""
         expected = '[{"name": "one", "expected": "Hello, world!\\nHalted\\n"}]'
@@ -391,7 +439,7 @@ class Command(Folder):
         rti = self.file("rti.obj", object_file(SERVICE, "RTI"))
         said = self.mark("--with", rti)
         self.assertEqual(said[:2], (3, ""))
-        self.assertIn("rti.obj has this word, which routines go on to: it is no secret", said[2])
+        self.assertIn("rti.obj has this word, and the certificate does not keep it secret", said[2])
 
     def test_cases_leave_the_monitor_alone(self) -> None:
         case = '[{"name": "one", "end": "any halt", "before": {"%s": 7}}]'

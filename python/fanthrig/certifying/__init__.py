@@ -24,7 +24,7 @@ Of each part one module has the work: ``claims`` (which words are fixed, own or 
 
 from .certificate import Certificate, CertificateError
 from .claims import Cell, Declared, words_of
-from .making import certificate_of, check_secret, check_test, differences
+from .making import certificate_of, check_secret, check_test, check_whole, differences
 from .problems import NotCertified, Problem
 
 __all__ = [
@@ -37,6 +37,7 @@ __all__ = [
     "certificate_of",
     "check_secret",
     "check_test",
+    "check_whole",
     "differences",
     "words_of",
 ]

@@ -157,6 +157,16 @@ def check_secret(made: Certificate, others: Sequence[Program]) -> None:
             raise NotCertified([Problem(reached[0], text, instead)])
 
 
+def check_whole(made: Certificate, others: Sequence[Program], instead: str) -> None:
+    """That every word of the files beside the monitor is secret."""
+    secret = set(made.words_of(Cell.SECRET))
+    for program in others:
+        known = [address for address in program.addresses if address not in secret]
+        if known:
+            text = f"{program.subject} has this word, and the certificate does not keep it secret"
+            raise NotCertified([Problem(known[0], text, instead)])
+
+
 def differences(made: Certificate, words: Sequence[int]) -> Iterator[Problem]:
     """The fixed words of a certificate that memory does not have."""
     for address, kind in enumerate(made.kinds[:USER_ORIGIN]):

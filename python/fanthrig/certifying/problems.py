@@ -54,6 +54,8 @@ ALL_VECTORS = (
 )
 LONE_RTI = "lead x0180 and x0181 to a word x8000, RTI: a candidate enables no device"
 ANEW = "name the monitor that the certificate was made of, or make it anew"
+NOT_BESIDE = "leave the file out if its words need not be secret, or make the certificate anew"
+OF_MONITOR = "name the file by --monitor, if a routine goes on to it"
 LOWER = "give it an origin below"
 FEWER = (
     "keep return addresses and pointers on the stack, where different routines use the same words: "

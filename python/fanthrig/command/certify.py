@@ -8,8 +8,9 @@ from textwrap import fill
 from typing import Iterator, Sequence
 
 from ..certifying import Cell, Certificate, CertificateError, Declared, NotCertified, Problem
-from ..certifying import certificate_of, check_secret, check_test, differences
+from ..certifying import certificate_of, check_secret, check_test, check_whole, differences
 from ..certifying.claims import claim_of, told
+from ..certifying.problems import NOT_BESIDE
 from ..recording import Program
 from ..telling import counted, plain
 from ..writing import write_file
@@ -70,7 +71,8 @@ def _declared(options: argparse.Namespace) -> list[Declared]:
 
 def _saved(path: str, monitor: Sequence[File], others: Sequence[File]) -> Certificate:
     """The certificate of a file, which holds for the files that are named, where any are; or
-    ``NotCertified``."""
+    ``NotCertified``. Who made it may have claimed less than one thinks: so every word of the files
+    beside the monitor is to be secret by it."""
     try:
         made = Certificate.of(whole_file(path))
     except CertificateError as error:
@@ -81,6 +83,7 @@ def _saved(path: str, monitor: Sequence[File], others: Sequence[File]) -> Certif
         if wrong:
             raise NotCertified(wrong)
         check_secret(made, claim.others)
+        check_whole(made, claim.others, NOT_BESIDE)
     check_test(made)
     return made
 

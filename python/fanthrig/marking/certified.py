@@ -6,23 +6,13 @@ from typing import Sequence
 
 from ..certifying.certificate import Certificate
 from ..certifying.claims import Cell
-from ..certifying.making import check_secret, check_test, differences
-from ..certifying.problems import NotCertified, Problem
+from ..certifying.making import check_secret, check_test, check_whole, differences
+from ..certifying.problems import OF_MONITOR, NotCertified
 from ..recording import Program
 from ..records import Edition
 from ..sitting import Sitting
 from .cases import Case
 from .options import Options
-
-
-def check_whole(made: Certificate, beside: Sequence[Program]) -> None:
-    """That every word of the files beside the monitor is secret."""
-    secret = set(made.words_of(Cell.SECRET))
-    for program in beside:
-        known = [address for address in program.addresses if address not in secret]
-        if known:
-            text = f"{program.subject} has this word, which routines go on to: it is no secret"
-            raise NotCertified([Problem(known[0], text, "name the file by --monitor")])
 
 
 def check_certificate(
@@ -47,7 +37,7 @@ def check_certificate(
             raise NotCertified(wrong)
         check_test(made)
         check_secret(made, beside)
-        check_whole(made, beside)
+        check_whole(made, beside, OF_MONITOR)
     except NotCertified as error:
         raise NotCertified(error.problems, sitting.programs[0].subject) from None
     for case in cases:
