@@ -26,13 +26,13 @@ export const USER_ORIGIN = 0x3000;
 export const USER_END = 0xfe00; // the first address behind User mode's
 export const USER_STACK = 0xfdff;
 
-// The negative stops are a sitting's own: no call answers them.
 // What is found wrong first with a claim about a monitor.
 export const Finding = {
     CERTIFIED: 0, WRONG_WATCHED: 1, WRONG_ROOM: 2, WRONG_VECTOR: 3, WRONG_INTERRUPT: 4, WRONG_WORD: 5, WRONG_STACK: 6,
     WRONG_INSTRUCTION: 7,
 };
 
+// The negative stops are a sitting's own: no call answers them.
 export const Stop = { DONE: 0, HALTED: 1, OUTPUT_FULL: 2, LOG_FULL: 3, BREAKPOINT: -1, INTERRUPTED: -2 };
 
 export const STOP_TEXTS = {

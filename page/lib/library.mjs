@@ -48,8 +48,15 @@ export class Library {
 
     // Numbers of the struct that was answered last.
 
-    long(at) { return Number(this.view(this.answer, ANSWER_BYTES).getBigUint64(at, true)); }
-    short(at) { return this.view(this.answer, ANSWER_BYTES).getUint32(at, true); }
+    long(at) { return Number(this.answered.getBigUint64(at, true)); }
+    short(at) { return this.answered.getUint32(at, true); }
+
+    // A view of that struct, which is made anew where memory has grown.
+    get answered() {
+        const { buffer } = this.calls.memory;
+        if (this.seen?.buffer !== buffer) this.seen = new DataView(buffer, this.answer, ANSWER_BYTES);
+        return this.seen;
+    }
 
     version() { return this.calls.lc3_version(); }
 
@@ -70,7 +77,7 @@ export class Library {
         return { words: this.short(48), refusal: this.short(52) };
     }
 
-    put(record) { this.bytes(record, RECORD_BYTES).set(this.bytes(this.answer, RECORD_BYTES)); }
+    put(record) { this.bytes(0).copyWithin(record, this.answer, this.answer + RECORD_BYTES); }
 
     // Runs. `lent` has memory, times, keys and output, each with its length. The record is the call's own to alter,
     // and is then set to the one that is answered.
@@ -158,13 +165,18 @@ export class Library {
     // Tests a claim about a monitor. `claim` has lowest, and memory, kinds, watched, ends and table, each with its
     // length. A finding of 0 says that it holds; no claim is refused.
     certify(claim) {
-        const words = buffers(claim, ["memory", "kinds"]), rows = buffers(claim, ["watched", "ends", "table"]);
-        this.calls.lc3_certify(this.answer, ...words, claim.lowest, ...rows);
+        const { memory, memoryLength, kinds, kindsLength, lowest, watched, watchedLength } = claim;
+        const { ends, endsLength, table, tableLength } = claim;
+        const words = [memory, BigInt(memoryLength), kinds, BigInt(kindsLength)];
+        const rows = [watched, BigInt(watchedLength), ends, BigInt(endsLength), table, BigInt(tableLength)];
+        this.calls.lc3_certify(this.answer, ...words, lowest, ...rows);
         return { finding: this.short(0), address: this.short(4), state: this.short(8) };
     }
 }
 
-// Lent buffers with their lengths: those of a run or a step, in the order of the header, or those named.
-function buffers(lent, names = ["memory", "times", "keys", "output"]) {
-    return names.flatMap((name) => [lent[name], BigInt(lent[`${name}Length`])]);
+// The lent buffers of a run or a step with their lengths, in the order of the header. Hosts make millions of steps by
+// single calls, so they are written out.
+function buffers({ memory, memoryLength, times, timesLength, keys, keysLength, output, outputLength }) {
+    const words = [memory, BigInt(memoryLength), times, BigInt(timesLength)];
+    return [...words, keys, BigInt(keysLength), output, BigInt(outputLength)];
 }

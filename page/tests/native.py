@@ -234,7 +234,7 @@ def asked_sitting(number: int) -> dict[str, Any]:
     if number < len(names):
         file, user, second = (EXAMPLES / f"{names[number]}.obj").read_bytes(), number != 3, False
     else:
-        file, user, second = program(), RNG.random() < 0.7, RNG.random() < 0.2
+        file, user, second = program(), RNG.random() < 0.7, RNG.random() < 0.15
     monitor = not second and RNG.random() < 0.95
     options = {"user": user, "edition": 2 if second else 3, "monitor": monitor}
     return {"file": file.hex(), **options, "anywhere": number == 3}
@@ -252,6 +252,15 @@ def alter(sitting: Sitting, doing: dict[str, Any]) -> None:
         doing["refusal"] = int(refused.number)
 
 
+# The steps of a run. By the second edition's rules the last steps are made again one at a time to
+# find by which of them the program was left; most of their runs are short, and the longest goes
+# further than is looked back.
+STEPS = {
+    Edition.THIRD: [0, 1, 2, 7, 100, 1000, 30000, 70000],
+    Edition.SECOND: [0, 1, 2, 7, 30, 100, 100, 300, 1000, 9000],
+}
+
+
 def do(sitting: Sitting, number: int) -> dict[str, Any]:
     """Types, alters and runs, and tells what was done and what came of it."""
     typed = RNG.randbytes(RNG.choice([0, 0, 1, 3, 40])) + (b"To be." if number < 5 else b"")
@@ -262,7 +271,7 @@ def do(sitting: Sitting, number: int) -> dict[str, Any]:
     if RNG.random() < 0.2:
         doing["press"] = [RNG.randrange(256), sitting.clock + RNG.choice([0, 3, 500])]
         sitting.press(bytes([doing["press"][0]]), doing["press"][1])
-    steps = doing["steps"] = RNG.choice([0, 1, 2, 7, 100, 1000, 30000, 70000])
+    steps = doing["steps"] = RNG.choice(STEPS[sitting.edition])
     single = doing["single"] = RNG.random() < 0.1
     report = sitting.step() if single else sitting.run(steps)
     doing["made"], doing["stop"] = report.steps, int(report.stop)
