@@ -1,4 +1,4 @@
-"""python3 -m mutants [--root DIR] [--extra] [--list] [CRATE/MODULE[.NAME] ..]
+"""python3 -m mutants [--root DIR] [--extra] [--list] [--known FILE ..] [CRATE/MODULE[.NAME] ..]
 
 Alters every definition, or those named, and prints the score, what survives, and what of
 unchanged.txt is out of date.
@@ -14,7 +14,7 @@ import sys
 from collections import Counter
 from dataclasses import replace
 from pathlib import Path
-from typing import Dict, Iterator, List, Optional
+from typing import Dict, Iterator, List, Optional, Tuple
 
 from .alterations import Alteration, Alterer
 from .conditions import Conditions, allow_conditions
@@ -36,6 +36,8 @@ def options() -> argparse.Namespace:
                         help='also values that lose bits, and needless conditions')
     parser.add_argument('--list', action='store_true', help='print the alterations and judge none')
     parser.add_argument('--verdicts', default=os.devnull, help='write each verdict to this file')
+    parser.add_argument('--known', action='append', default=[], type=Path, metavar='FILE',
+                        help='verdicts of an earlier run on the same files: not judged again')
     return parser.parse_args()
 
 
@@ -111,10 +113,23 @@ def score(verdicts: List[Verdict], known: Dict[str, str]) -> List[str]:
     return lines
 
 
-def judged(judge: Judge, alterations: Iterator[Alteration], record: str) -> Iterator[Verdict]:
+def earlier(files: List[Path]) -> Dict[str, Tuple[str, str]]:
+    """The verdicts that earlier runs wrote down: kind and statement of each alteration."""
+    found: Dict[str, Tuple[str, str]] = {}
+    for line in (line for file in files for line in file.read_text().splitlines()):
+        kind, by, alteration = line.split(' | ', 2)
+        found[alteration] = (kind, by)
+    return found
+
+
+def judged(judge: Judge, alterations: Iterator[Alteration], chosen: argparse.Namespace
+           ) -> Iterator[Verdict]:
     """The verdicts, each written down as soon as it is known."""
-    with open(record, 'w', buffering=1) as file:
-        for verdict in map(judge.verdict, alterations):
+    known = earlier(chosen.known)
+    with open(chosen.verdicts, 'w', buffering=1) as file:
+        for alteration in alterations:
+            verdict = (Verdict(alteration, *known[str(alteration)]) if str(alteration) in known
+                       else judge.verdict(alteration))
             if verdict.kind != NO_DEFINITION:
                 file.write(f'{verdict.kind} | {verdict.by} | {verdict.alteration}\n')
                 yield verdict
@@ -132,7 +147,7 @@ def judge_all(chosen: argparse.Namespace) -> int:
     print(f'{len(found.tables)} rows; {len(found.laws)} theorems on samples; '
           f'{len(found.untried)} not tried on samples')
     alterations = all_alterations(repository, chosen.names, chosen.extra)
-    verdicts = list(judged(judge, alterations, chosen.verdicts))
+    verdicts = list(judged(judge, alterations, chosen))
     known = reasons()
     print('\n'.join(score(verdicts, known)))
     surviving = {str(v.alteration) for v in verdicts if v.kind == SURVIVES}

@@ -20,6 +20,7 @@ from .syntax import Node
 
 SECONDS = 10                                   # for one definition; one that has no end is noticed
 SLOW = 0.5                                     # seconds beyond which a theorem is not tried
+QUICK = 0.05                                   # seconds up to which a statement may be asked first
 # Rows that take long, and the crates whose definitions they are for: no others are tried with them.
 LONG, OF_RUNS = 'numbers/Counts.ManySteps', ('run', 'logging')
 ROW, THEOREM, SURVIVES, NO_DEFINITION = 'row', 'theorem', 'survives', 'no definition'
@@ -106,13 +107,14 @@ class Judge:
             raise NameError(old.name)
 
     def refusing(self, tried: List[Statement], altered: Definition) -> str:
-        """The first statement that does not hold; it is asked first the next time."""
+        """The first statement that does not hold; if quick, it is asked first the next time."""
         self.program.remembered.clear()
         of_runs = altered.module.crate in OF_RUNS
         for at, statement in enumerate(tried):
             if statement.name.startswith(LONG) and not of_runs:
                 continue
             if altered.number in statement.reach and not statement.holds():
-                tried.insert(0, tried.pop(at))
+                if statement.seconds <= QUICK:
+                    tried.insert(0, tried.pop(at))
                 return statement.name
         return ''

@@ -28,8 +28,8 @@ AT_ONCE: Dict[Tuple[str, str], Callable[..., Value]] = {
     ('Registers', 'which'): which,
     ('Characters', 'codesIn'): lambda text: tuple(map(ord, text)),
 }
-# Runs by their last step ask for the same run again and again.
-REMEMBERED = ('runBy', 'loggedRunOf', 'nextStepBy', 'entriesOf')
+# Runs by their last step ask for the same run again and again, and steps for the same words.
+REMEMBERED = ('runBy', 'loggedRunOf', 'nextStepBy', 'entriesOf', 'readOf')
 
 Names = Dict[str, str]
 Sampler = Callable[[List[Tuple[str, str]], Callable[..., Value]], bool]
