@@ -1,7 +1,7 @@
 -- What a call that counts bytes answers a host, with the output that it leaves, as the record of the crate `line`.
 use Prim.Native.Nat.{ℕ}
 use mathlib.Core.List.{List}
-use Rattle.line.specs.Answer.{Answer}
+use Rattle.lines.specs.Answer.{Answer}
 use Rattle.lc3_lines.specs.declared.Lc3Counted.{Lc3Counted}
 
 abbrev pub answeredWith : Lc3Counted → List ℕ → Answer

@@ -1,13 +1,13 @@
 // Lines of text for hosts in C and Rust: the line of a word (request 1), its length (request 6) and the lines of a
 // range of memory (request 5). Every call accepts every argument; the refusals are those of include/fanthrig/lc3.h.
 use line::lengths::line_length;
-use line::line::line;
-use line::page::page;
+use lines::line;
+use lines::page::page;
 ghost use mathlib.Core.Path.{_≡_};
 ghost use lib.ListN.{length};
 ghost use Rattle.line.specs.Line.{lineOf};
-ghost use Rattle.line.specs.Answer.{textAnswer};
-ghost use Rattle.line.specs.Page.{pageOf};
+ghost use Rattle.lines.specs.Answer.{textAnswer};
+ghost use Rattle.lines.specs.Page.{pageOf};
 ghost use Rattle.lc3_lines.specs.Counted.{answeredWith};
 
 // A byte count and 0, or 0 and the number of the refusal.

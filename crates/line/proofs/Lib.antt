@@ -1,8 +1,6 @@
 -- The proofs of the statements in specs/Theorems.antt, and the laws that the functions' proofs cite.
-mod Answering
 mod ShapeLaws
 pub mod ReadingBack
 pub mod DistinctLines
 pub mod LongestLine
 pub mod Examples
-pub mod PageLaws

@@ -20,7 +20,7 @@ ghost use Rattle.line.specs.Shapes.{properLine, relativeLine, basedLine,
 ghost use Rattle.line.specs.Shapes.{brLine, callLine, jumpLine, notLine};
 
 // A word with wrong fixed bits is data.
-pub(crate) fn put_line(output: &mut [u8], at: usize, word: u16) -> usize
+pub fn put_line(output: &mut [u8], at: usize, word: u16) -> usize
     requires { ⌜ Room at (lineOf word) (now output) ⌝ }
     ensures { λ r. ⌜ Put at (lineOf word) (now (output .entry)) r (now (output .exit)) ⌝ }
 {

@@ -16,7 +16,7 @@ use Rattle.monitor.specs.Routines.{routineWords, monitorWords}
 use Rattle.monitor.specs.Install.{vectorsOf, installOf}
 use Rattle.text.specs.Operands.{digits, decimal}
 use Rattle.line.specs.Line.{lineOf}
-use Rattle.line.specs.Page.{linesOf, pageOf}
+use Rattle.lines.specs.Page.{linesOf, pageOf}
 use Rattle.numbers.specs.Buffers.{LinesAndPages, ObjectFiles, MonitorRefusals, MonitorInPlace}
 use Rattle.numbers.specs.Buffers.{LastStepLogged, BuffersHold}
 

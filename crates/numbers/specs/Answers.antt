@@ -18,7 +18,7 @@ use Rattle.logging.specs.LoggedRun.{Logged, withLog}
 use Rattle.logging.specs.LoggedCall.{loggedEndOf}
 use Rattle.object.specs.Calls.{loading, saving}
 use Rattle.start.specs.Start.{starting}
-use Rattle.line.specs.Answer.{answered as lineAnswered}
+use Rattle.lines.specs.Answer.{answered as lineAnswered}
 use Rattle.lc3_machine.specs.Answer.{Answered, answerOf, reportOf, reported, answered}
 use Rattle.lc3_logging.specs.LoggedAnswer.{LoggedAnswered, loggedAnswerOf, loggedAnswered}
 use Rattle.lc3_objects.specs.Answers.{hostStarting, hostSaving}

@@ -17,8 +17,8 @@ use Rattle.monitor.specs.Vectors.{ours}
 use Rattle.monitor.specs.Install.{filling, vectorsOf, installOf}
 use Rattle.text.specs.Characters.{codesIn}
 use Rattle.line.specs.Line.{lineOf}
-use Rattle.line.specs.Answer.{Answer, textAnswer}
-use Rattle.line.specs.Page.{pageOf}
+use Rattle.lines.specs.Answer.{Answer, textAnswer}
+use Rattle.lines.specs.Page.{pageOf}
 
 abbrev pub answer : ℕ → ℕ → List ℕ → Answer
 answer count refusal output = record { count = count; refusal = refusal; output = output }

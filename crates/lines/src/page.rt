@@ -1,13 +1,13 @@
 // A whole page of lines (request 5): the lines of a range of memory, one after the other.
-use super::Counted;
-use super::lengths::line_length;
-use super::putting::put_line;
+use crate::Counted;
+use line::lengths::line_length;
+use line::putting::put_line;
 ghost use mathlib.Core.Path.{_≡_};
 ghost use Prim.Native.Nat.{_≤_};
 ghost use lib.ListN.{length};
 ghost use Rattle.text.specs.Placing.{Put};
-ghost use Rattle.line.specs.Answer.{answered, textAnswer};
-ghost use Rattle.line.specs.Page.{linesOf, pageOf};
+ghost use Rattle.lines.specs.Answer.{answered, textAnswer};
+ghost use Rattle.lines.specs.Page.{linesOf, pageOf};
 
 // The lines of `count` words from `first` on, from the output's start; the rest stays as lent. A page that is turned
 // away leaves the output untouched.

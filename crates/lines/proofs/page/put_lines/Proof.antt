@@ -1,4 +1,4 @@
--- `line::page::put_lines` meets its contract: after each turn of the loop the lines passed stand in the output.
+-- `lines::page::put_lines` meets its contract: after each turn of the loop the lines passed stand in the output.
 use Prim.Native.Nat.{ℕ, suc, zero-le, _+_, _-_, _≤_}
 use native.Mathlib.Omega.{arith}
 use native.Mathlib.Numerals.{add-one}
@@ -9,11 +9,11 @@ use lib.Seq.{take-length}
 use borrow.Author.Needs.{needs}
 use Rattle.text.specs.Placing.{Put}
 use Rattle.text.proofs.Placing.{put-nothing, then}
 use Rattle.line.specs.Line.{lineOf}
-use Rattle.line.specs.Page.{linesOf}
-use Rattle.line.proofs.PageLaws.{line-more, lines-within}
-use Rattle.line.proofs.page.put_lines.Statement.{statement}
-use Rattle.line.proofs.page.put_lines.Tie as tie
+use Rattle.lines.specs.Page.{linesOf}
+use Rattle.lines.proofs.PageLaws.{line-more, lines-within}
+use Rattle.lines.proofs.page.put_lines.Statement.{statement}
+use Rattle.lines.proofs.page.put_lines.Tie as tie
 
 abbrev Inv-loop : tie.InvT-loop
 Inv-loop words output₀ done₀ at₀ output done at =

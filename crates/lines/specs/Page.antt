@@ -4,8 +4,8 @@ use mathlib.Core.Bool.{cond, not}
 use mathlib.Core.List.{List, [], _∷_, _++_}
 use lib.Dec.{eqb, ltb}
 use lib.ListN.{length, take, drop}
 use Rattle.line.specs.Line.{lineOf}
-use Rattle.line.specs.Answer.{Answer, textAnswer, refused}
+use Rattle.lines.specs.Answer.{Answer, textAnswer, refused}
 
 -- the lines of words, one after the other
 unfoldable pub linesOf : List ℕ → List ℕ

@@ -1,13 +1,13 @@
--- `line::page::page` meets its contract: each test is the definition's, in the same order.
+-- `lines::page::page` meets its contract: each test is the definition's, in the same order.
 use Prim.Native.Nat.{_+_, _-_, _≤_}
 use native.Mathlib.Omega.{arith}
 use mathlib.Core.Path.{_≡_, sym, _∙_}
 use borrow.Author.Needs.{needs}
 use borrow.Author.Tests.{eq-eqb, ne-eqb, lt-ltb}
-use Rattle.line.specs.Page.{pageOf}
-use Rattle.line.proofs.PageLaws.{in-memory}
-use Rattle.line.proofs.page.page.Statement.{statement}
-use Rattle.line.proofs.page.page.Tie as tie
+use Rattle.lines.specs.Page.{pageOf}
+use Rattle.lines.proofs.PageLaws.{in-memory}
+use Rattle.lines.proofs.page.page.Statement.{statement}
+use Rattle.lines.proofs.page.page.Tie as tie
 
 returns : tie.Need-returns
 unfolding pageOf

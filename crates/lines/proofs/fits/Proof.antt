@@ -1,4 +1,4 @@
--- `line::line::fits` meets its contract: by the longest line, or by the length.
+-- `lines::fits` meets its contract: by the longest line, or by the length.
 use native.Mathlib.Omega.{arith}
 use mathlib.Core.Path.{sym, ap}
 use lib.Dec.{leb}
@@ -6,10 +6,10 @@ use lib.ListN.{length}
 use Prim.Native.Nat.{ℕ}
 use borrow.Author.Needs.{needs}
 use borrow.Author.Tests.{le-leb}
 use Rattle.line.specs.Line.{lineOf}
 use Rattle.line.proofs.LongestLine.{longest-line}
-use Rattle.line.proofs.line.fits.Statement.{statement}
-use Rattle.line.proofs.line.fits.Tie as tie
+use Rattle.lines.proofs.fits.Statement.{statement}
+use Rattle.lines.proofs.fits.Tie as tie
 
 returns : tie.Need-returns
 returns c =

@@ -1,11 +1,11 @@
--- `line::page::lines` meets its contract: the length is tested, then the lines are put at the output's start.
+-- `lines::page::lines` meets its contract: the length is tested, then the lines are put at the output's start.
 use native.Mathlib.Omega.{arith}
 use mathlib.Core.Path.{sym}
 use borrow.Author.Needs.{needs}
-use Rattle.line.specs.Page.{linesOf}
-use Rattle.line.proofs.Answering.{too-long, written}
-use Rattle.line.proofs.page.lines.Statement.{statement}
-use Rattle.line.proofs.page.lines.Tie as tie
+use Rattle.lines.specs.Page.{linesOf}
+use Rattle.lines.proofs.Answering.{too-long, written}
+use Rattle.lines.proofs.page.lines.Statement.{statement}
+use Rattle.lines.proofs.page.lines.Tie as tie
 
 returns : tie.Need-returns
 returns c =

@@ -9,10 +9,10 @@ use lib.Dec.{eqb, ltb}
 use lib.ListN.{length, getD, take, drop, length-append, take-append-drop}
 use lib.Seq.{take-add, take-suc, drop-drop, drop-cons}
 use borrow.Author.Tests.{eq-eqb, le-ltb, le-leb}
 use Rattle.line.specs.Line.{lineOf}
-use Rattle.line.specs.Answer.{textAnswer, refused}
-use Rattle.line.specs.Page.{linesOf, pageText, pageOf}
-use Rattle.line.specs.Theorems.{PageSplits, PageOfOne, PageOfNone}
+use Rattle.lines.specs.Answer.{textAnswer, refused}
+use Rattle.lines.specs.Page.{linesOf, pageText, pageOf}
+use Rattle.lines.specs.Theorems.{PageSplits, PageOfOne, PageOfNone}
 
 pub lines-append : (a b : List ℕ) → linesOf (a ++ b) ≡ linesOf a ++ linesOf b
 unfolding linesOf

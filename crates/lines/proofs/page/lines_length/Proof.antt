@@ -1,4 +1,4 @@
--- `line::page::lines_length` meets its contract: the length is that of the lines passed, each of at most 17 bytes.
+-- `lines::page::lines_length` meets its contract: the length is that of the lines passed, each of at most 17 bytes.
 use Prim.Native.Nat.{ℕ, suc, zero-le, _+_, _-_, _*_, _≤_}
 use native.Mathlib.Omega.{arith}
 use native.Mathlib.Numerals.{add-one}
@@ -7,12 +7,12 @@ use mathlib.Core.List.{List}
 use lib.ListN.{length, getD, take, length-append}
 use lib.Seq.{take-length}
 use borrow.Author.Needs.{needs}
 use Rattle.line.specs.Line.{lineOf}
-use Rattle.line.specs.Page.{linesOf}
+use Rattle.lines.specs.Page.{linesOf}
 use Rattle.line.proofs.LongestLine.{longest-line}
-use Rattle.line.proofs.PageLaws.{line-more}
-use Rattle.line.proofs.page.lines_length.Statement.{statement}
-use Rattle.line.proofs.page.lines_length.Tie as tie
+use Rattle.lines.proofs.PageLaws.{line-more}
+use Rattle.lines.proofs.page.lines_length.Statement.{statement}
+use Rattle.lines.proofs.page.lines_length.Tie as tie
 
 abbrev Inv-loop : tie.InvT-loop
 Inv-loop words done₀ length₀ done total =

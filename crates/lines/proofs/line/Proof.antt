@@ -1,14 +1,14 @@
--- `line::line::line` meets its contract: where the line fits, it is put at the output's start.
+-- `lines::line` meets its contract: where the line fits, it is put at the output's start.
 use Prim.Native.Nat.{_≤_, _<_}
 use native.Mathlib.Omega.{arith}
 use mathlib.Core.Path.{sym, _∙_}
 use lib.ListN.{length}
 use borrow.Author.Needs.{needs}
 use borrow.Author.Tests.{not-true, not-false, leb-true, leb-false}
 use Rattle.line.specs.Line.{lineOf}
-use Rattle.line.proofs.Answering.{too-long, written}
-use Rattle.line.proofs.line.line.Statement.{statement}
-use Rattle.line.proofs.line.line.Tie as tie
+use Rattle.lines.proofs.Answering.{too-long, written}
+use Rattle.lines.proofs.line.Statement.{statement}
+use Rattle.lines.proofs.line.Tie as tie
 
 does-not-fit : (c : tie.Then1)
     → (let a = c .before .before .before .args in length (a .output .now) < length (lineOf (a .word)))

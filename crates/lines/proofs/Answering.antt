@@ -6,7 +6,7 @@ use mathlib.Core.List.{List, _++_}
 use lib.ListN.{length, drop}
 use borrow.Author.Tests.{le-leb, lt-leb}
 use Rattle.text.specs.Placing.{Put}
-use Rattle.line.specs.Answer.{refused, textAnswer}
+use Rattle.lines.specs.Answer.{refused, textAnswer}
 
 pub too-long : (text output : List ℕ) → length output < length text → textAnswer text output ≡ refused 16 output
 too-long text output p = simp (lt-leb (length text) (length output) p)

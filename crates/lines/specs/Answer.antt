@@ -4,7 +4,7 @@ use mathlib.Core.Bool.{cond}
 use mathlib.Core.List.{List, _++_}
 use lib.Dec.{leb}
 use lib.ListN.{length, drop}
-use Rattle.line.specs.declared.Counted.{Counted}
+use Rattle.lines.specs.declared.Counted.{Counted}
 
 pub record Answer : Type 0 where
   pub count : ℕ
