@@ -5,6 +5,9 @@ import { join } from "node:path";
 import { Browser, PATIENCE, pause } from "./driver.mjs";
 import { seconds, served } from "./support.mjs";
 
+const WRITE = "const at = (id) => document.getElementById(id), write = (text) => { at('tab-program').click();"
+    + "at('source').value = text; at('source').dispatchEvent(new Event('input')); }";
+
 export class Desk {
     // `way` is file or http; `downloads` is a folder of its own that the browser saves files in.
     static async start(way, page, downloads) {
@@ -14,9 +17,10 @@ export class Desk {
         return desk;
     }
 
+    // Opens the page anew. The address has a number, for one that differs behind # alone would not be loaded again.
     async open(name, url = this.url) {
-        await this.browser.go("about:blank");
-        await this.browser.go(url + (name && `#${name}`));
+        this.opened = (this.opened ?? 0) + 1;
+        await this.browser.go(`${url}?${this.opened}${name && `#${name}`}`);
         await this.ready();
     }
 
@@ -49,14 +53,15 @@ export class Desk {
         return names.join("\n");
     }
 
-    async write(text) {
-        await this.browser.click("#tab-program");
-        await this.change("source", text);
-    }
+    // Writes a text into the page, and loads it.
 
-    async load(text) {
-        await this.write(text);
-        await this.browser.click("#load-program");
+    write(text) { return this.browser.run(`${WRITE}; write(arguments[0])`, text); }
+    load(text) { return this.browser.run(`${WRITE}; write(arguments[0]); at('load-program').click()`, text); }
+
+    // Loads texts one after the other; what the page tells of the next step of each.
+    nextOf(texts) {
+        return this.browser.run(`${WRITE}; return arguments[0].map((text) => { write(text); at('load-program').click();`
+            + "return at('next').textContent; })", texts);
     }
 
     // The bytes of a file that the browser saves, once it is whole.

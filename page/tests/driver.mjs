@@ -5,7 +5,7 @@ import { writeFile } from "node:fs/promises";
 // How long a test waits for the page, in milliseconds: a host that does other work as well is slow.
 export const PATIENCE = 120_000;
 
-export const pause = (ms) => new Promise((resolve) => { setTimeout(resolve, ms); });
+export const pause = (ms) => new Promise((resolve) => { setTimeout(resolve, ms); }); // between two looks at a file
 
 export class Browser {
     // Starts a browser of its own; `downloads` is the folder that files are saved in.
@@ -61,12 +61,13 @@ export class Browser {
     text(css) { return this.run("return document.querySelector(arguments[0]).textContent", css); }
     value(css) { return this.run("return document.querySelector(arguments[0]).value", css); }
 
-    async wait(script, ms = PATIENCE) {
-        const until = Date.now() + ms;
-        while (!(await this.run(`return ${script}`))) {
-            if (Date.now() > until) throw new Error(`waited in vain for ${script}: ${await this.text("#status")}`);
-            await pause(40);
-        }
+    // Waits until something holds. The page itself looks for it, so that a test goes on at once and asks but once.
+    async wait(condition, ms = PATIENCE) {
+        const script = `const [until, done] = [performance.now() + arguments[0], arguments[1]], look = () => {
+            if (${condition}) done(true); else if (performance.now() > until) done(false); else setTimeout(look, 5); };
+            look()`;
+        if (await this.ask("POST", "/execute/async", { script, args: [ms] })) return;
+        throw new Error(`waited in vain for ${condition}: ${await this.text("#status")}`);
     }
 
     async find(css) {

@@ -1,4 +1,4 @@
-// What engine.mjs and figures.mjs have the browser do, with the library of the page.
+// What page.mjs and figures.mjs have the browser do, with the library of the page.
 const Library = lc3.sitting.library.constructor;
 const library = new Library(lc3.module);
 const places = {

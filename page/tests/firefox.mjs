@@ -29,7 +29,7 @@ class Firefox {
     // Firefox writes the port that it has chosen to its profile.
     async connected() {
         for (const until = Date.now() + PATIENCE; Date.now() < until;) {
-            await pause(200);
+            await pause(50);
             const port = Number(await readFile(join(this.profile, "MarionetteActivePort"), "utf8").catch(() => 0));
             if (!port) continue;
             const socket = connect(port, "127.0.0.1");
@@ -72,10 +72,8 @@ class Firefox {
     text(css) { return this.run("return document.querySelector(arguments[0]).textContent", css); }
 
     async wait(script) {
-        for (const until = Date.now() + PATIENCE; !(await this.run(`return ${script}`));) {
+        for (const until = Date.now() + PATIENCE; !(await this.run(`return ${script}`));)
             if (Date.now() > until) throw new Error(`waited in vain for ${script}: ${await this.text("#status")}`);
-            await pause(50);
-        }
     }
 
     until(text) {
@@ -89,10 +87,10 @@ class Firefox {
     }
 
     async end() {
-        await this.ask("Marionette:Quit", { flags: ["eForceQuit"] }).catch(() => null);
+        const ended = new Promise((resolve) => { this.process.once("exit", resolve); });
+        await this.ask("Marionette:Quit", { flags: ["eForceQuit"] }).catch(() => this.process.kill());
         this.socket.destroy();
-        this.process.kill();
-        await pause(500);
+        await ended;
         await rm(this.profile, { recursive: true, force: true });
     }
 }

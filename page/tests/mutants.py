@@ -4,14 +4,15 @@
 
 FOLDER has what the tests need: answers.jsonl, runs.txt and longs.txt, as page/tests/run.sh makes
 them. Of each alteration it is told by which test it is found; FUNCTION, such as lc3_run_long, has
-the instructions of this export alone altered. The same count and seed give the same alterations of
-the same library: docs/landings/23-page.md used 110 and 40. It needs wasm2wat and wat2wasm of
-Debian's package wabt, takes long, and is no part of the gate.
+the instructions of this export and of what it calls alone altered. The same count and seed give the
+same alterations of the same library: docs/landings/23-page.md used 110 and 40. It needs wasm2wat
+and wat2wasm of Debian's package wabt, takes long, and is no part of the gate.
 """
 
 from __future__ import annotations
 
 import hashlib
+import os
 import random
 import re
 import subprocess
@@ -61,14 +62,16 @@ OTHERS = {
 CONSTANT = re.compile(r"(i(?:32|64)\.const) (-?\d+)")
 FUNCTION = re.compile(r"  \(func \(;(\d+);\)")
 EXPORT = re.compile(r'  \(export "(\w+)" \(func (\d+)\)\)')
-AT_ONCE = 12  # alterations that are tried at a time
+CALL = re.compile(r"\bcall (\d+)")
+AT_ONCE = os.cpu_count() or 1  # alterations that are tried at a time
 
 
 class Text:
     """The library as text, with the function of each line."""
 
     def __init__(self, only: str = "") -> None:
-        """The lines, and the places that can be altered: of one export alone where it is named."""
+        """The lines, and the places that can be altered: of one export and of what it calls alone,
+        where one is named."""
         said = subprocess.run(["wasm2wat", LIBRARY], capture_output=True, text=True, check=True)
         self.lines = said.stdout.split("\n")
         names = {number: name for name, number in EXPORT.findall(said.stdout)}
@@ -77,11 +80,25 @@ class Text:
             found = FUNCTION.match(line)
             current = found[1] if found else current
             self.functions.append(names.get(current, f"function {current}"))
+        wanted = self._called_by(only, names) if only else set(self.functions)
         self.places = [
             at
             for at, line in enumerate(self.lines)
-            if self._may_be_altered(line) and only in ("", self.functions[at])
+            if self._may_be_altered(line) and self.functions[at] in wanted
         ]
+
+    def _called_by(self, name: str, names: dict[str, str]) -> set[str]:
+        """An export and the functions that it calls, and that these call."""
+        calls: dict[str, set[str]] = {}
+        for function, line in zip(self.functions, self.lines):
+            called = CALL.findall(line)
+            others = {names.get(number, f"function {number}") for number in called}
+            calls.setdefault(function, set()).update(others)
+        found, more = {name}, {name}
+        while more:
+            more = set().union(*(calls[one] for one in more)) - found
+            found |= more
+        return found
 
     @staticmethod
     def _may_be_altered(line: str) -> bool:
@@ -126,7 +143,9 @@ class Tests:
         calls = [line for line in lines if not line.startswith(('{"call":"m', '{"call":"sitting"'))]
         others = [line for line in lines if line.startswith('{"call":"monitor')]
         if part:
-            calls, sittings = calls[::8], sittings[:50]
+            claim = '{"call":"claim"'  # what is told of others is told of it
+            calls = [line for at, line in enumerate(calls) if at % 8 == 0 or line.startswith(claim)]
+            sittings = sittings[:50]
         for name, some in {"calls": [*calls, *others], "sittings": sittings}.items():
             text = "".join([*memory, *some])
             (self._folder / f"{name}.jsonl").write_text(text, encoding="utf-8")

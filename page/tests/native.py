@@ -11,8 +11,8 @@ import json
 import random
 import sys
 from array import array
-from dataclasses import astuple, replace
-from itertools import product
+from dataclasses import astuple
+from itertools import product, zip_longest
 from pathlib import Path
 from typing import Any, Callable, TextIO
 
@@ -22,6 +22,8 @@ from fanthrig._library import LIBRARY, InstructionStruct
 from fanthrig.certifying import Certificate, certificate_of
 from fanthrig.command.messages import end_line
 from fanthrig.formats import is_swapped, is_text, other_format
+from tests.certify_support import of_class, ready_made
+from tests.test_certify_call import altered
 
 EXAMPLES = Path(__file__).resolve().parent.parent.parent / "examples"
 ROUTINES = "getc out puts input putsp halt trap exception interrupt".split()
@@ -167,30 +169,33 @@ def put_monitor(out: Out, count: int) -> None:
         out.put("vectors", **asked, refusal=refusal, output=digest(output))
 
 
+PARTS_OF_A_CLAIM = ("kinds", "words", "watched", "ends", "table")
+
+
 def put_claims(out: Out, count: int) -> None:
-    """Claims about the ready-made monitor: one that holds, and others with something else in it."""
-    memory = array("H", bytes(131072))
-    calls.monitor(memory)
-    made = certificate_of([("monitor.obj", calls.save(memory, 0, fanthrig.MONITOR_WORDS))])
-    put_claim(out, made)
-    for _ in range(count):
-        part = RNG.choice(["kinds", "words", "watched", "ends", "table"])
-        numbers = list(getattr(made, part))
-        most = {"kinds": 3, "words": 65536, "watched": 65536}.get(part, 1 << 20)
-        numbers[RNG.randrange(len(numbers))] = RNG.randrange(most)
-        if RNG.random() < 0.2:
-            del numbers[RNG.randrange(len(numbers)) :]
-        other = bytes(numbers) if part == "kinds" else tuple(numbers)
-        put_claim(out, replace(made, **{part: other}, lowest=made.lowest - RNG.randrange(2)))
+    """Claims about two monitors: one that holds, and others with something else in it."""
+    for files in ([ready_made()], of_class()):
+        made = certificate_of(files)
+        parts = {name: list(getattr(made, name)) for name in PARTS_OF_A_CLAIM}
+        out.put("claim", **parts, lowest=made.lowest)
+        put_claim(out, made, made)
+        for _ in range(count):
+            other = altered(RNG, made)
+            put_claim(out, made, other if RNG.random() < 0.8 else altered(RNG, other))
 
 
-def put_claim(out: Out, made: Certificate) -> None:
-    """A claim, and what the test answers."""
-    answer = made.tested()
-    names = ("kinds", "words", "watched", "ends", "table")
-    parts = {name: list(getattr(made, name)) for name in names}
+def put_claim(out: Out, made: Certificate, other: Certificate) -> None:
+    """What the test answers to a claim, which is told by what differs from another: of each part
+    its length, and the numbers that are others by their places."""
+    parts: dict[str, Any] = {}
+    for name in PARTS_OF_A_CLAIM:
+        old, new = getattr(made, name), getattr(other, name)
+        if old != new:
+            pairs = enumerate(zip_longest(old[: len(new)], new))
+            parts[name] = [len(new), [[at, number] for at, (was, number) in pairs if was != number]]
+    answer = other.tested()
     found = [int(answer.finding), answer.address, answer.state]
-    out.put("certify", **parts, lowest=made.lowest, found=found)
+    out.put("certify", parts=parts, lowest=other.lowest, found=found)
 
 
 def put_formats(out: Out) -> None:
@@ -346,7 +351,7 @@ def write(path: str, sittings: int) -> None:
         put_starts(out, memory, 500)
         put_pages(out, memory, 500)
         put_monitor(out, 200)
-        put_claims(out, 200)
+        put_claims(out, 2000)
         put_formats(out)
         put_places(out, 500)
         for number in range(sittings):

@@ -1,21 +1,25 @@
-// The page in a real browser, every feature:     node page.mjs file|http PAGE.html DOWNLOADS [NAME]
+// The page in a real browser, every feature:     node page.mjs file|http PAGE.html DOWNLOADS [--runs RUNS.txt] [NAME]
 //
 // The page is opened from the disk, or from a server of this process. DOWNLOADS is a folder of its own that the browser
-// saves files in. NAME, a part of a test's name, has that test run alone.
+// saves files in. Runs of the reference are made in the browser's own engine where RUNS.txt has them. NAME, a part of a
+// test's name, has that test run alone.
 import { strict as assert } from "node:assert";
 import { readFile, writeFile } from "node:fs/promises";
 import { join, resolve } from "node:path";
 import { fileURLToPath } from "node:url";
+import { parseArgs } from "node:util";
 import { Desk } from "./desk.mjs";
-import { ROOT, lc3 } from "./support.mjs";
+import { ROOT, lc3, linesOf } from "./support.mjs";
 
-const [way, page, folder, only = ""] = process.argv.slice(2), downloads = resolve(folder);
+const { values: options, positionals } = parseArgs({ options: { runs: { type: "string" } }, allowPositionals: true });
+const [way, page, folder, only = ""] = positionals, downloads = resolve(folder);
 const { equal, ok, match, deepEqual } = assert;
 const desk = await Desk.start(way, page, downloads), { browser: b, url } = desk;
 const bound = (name) => (...args) => desk[name](...args);
 const [open, status, display, sitting, until] = ["open", "status", "display", "sitting", "until"].map(bound);
 const [change, drop, files, write, load, saved] = ["change", "drop", "files", "write", "load", "saved"].map(bound);
 const example = (name) => fileURLToPath(new URL(`examples/${name}`, ROOT));
+const RUNS = 2000, AT_ONCE = 250; // runs of the reference, and how many are handed over at once
 const [DOWN, ENTER, HOME, ESCAPE, LEFT] = ["\uE015", "\uE007", "\uE011", "\uE00C", "\uE012"];
 
 const ENDS = {
@@ -26,6 +30,25 @@ const ENDS = {
         "halted by HALT; 916 steps; PC x3008: TRAP x25"],
     answers: ["The first answer is:\n", "stopped by the access exception; 339 steps; PC x3002: LDI R0, #2"],
 };
+
+// Programs, and what is told of the first step of each.
+const NEXT = [
+    ["LD R2, #1", /LD loads the word at x3002, x0000, into R2\. The codes become Z\./],
+    ["LDI R2, #0\n.FILL x4000",
+        /LDI takes the address x4000 from x3001 and loads the word at x4000, x0000, into R2/],
+    ["ST R6, #1", /ST stores R6 \(xFDFF\) at x3002, in the place of x0000\./],
+    ["ADD R1, R6, #-1", /ADD adds R6 \(xFDFF\) and minus 1: xFDFE goes into R1\. The codes become N\./],
+    ["BRn #3", /BR: N is not set, so the next instruction follows, at x3001\./],
+    ["BRnz #3", /BR: Z is set, so PC becomes x3004\./],
+    ["PUTS",
+        /TRAP x22 \(PUTS\)\. PC and PSR are pushed on the supervisor stack, at x2FFE and x2FFF; PC becomes x02/],
+    ["RTI", /The privilege exception: RTI in User mode\..*the word at x0100; Supervisor mode/],
+    [".FILL xD000", /The illegal opcode exception: opcode 1101 is reserved/],
+    ["LDI R0, #0\n.FILL xFE00",
+        /The access exception: KBSR \(xFE00\) is privileged, and the machine is in User mode/],
+    ["LEA R0, #5", /LEA puts the address x3006 into R0\. The codes stay\./],
+    ["JSR #5", /R7 becomes x3001, the address of the next instruction, and PC x3006/],
+];
 
 const TESTS = {
     async "every example ends as the command's does, in its words"() {
@@ -205,26 +228,9 @@ const TESTS = {
         equal(await fields(), "opcode 1001 NOT; DR 001 R1; SR 010 R2; fixed 111111");
     },
     async "what the next step will do is told in words"() {
-        const next = async (program, words) => {
-            await load(`x3000\n${program}`);
-            match(await b.text("#next"), words);
-        };
         await open("");
-        await next("LD R2, #1\n", /LD loads the word at x3002, x0000, into R2\. The codes become Z\./);
-        await next("LDI R2, #0\n.FILL x4000\n",
-            /LDI takes the address x4000 from x3001 and loads the word at x4000, x0000, into R2/);
-        await next("ST R6, #1\n", /ST stores R6 \(xFDFF\) at x3002, in the place of x0000\./);
-        await next("ADD R1, R6, #-1\n", /ADD adds R6 \(xFDFF\) and minus 1: xFDFE goes into R1\. The codes become N\./);
-        await next("BRn #3\n", /BR: N is not set, so the next instruction follows, at x3001\./);
-        await next("BRnz #3\n", /BR: Z is set, so PC becomes x3004\./);
-        await next("PUTS\n",
-            /TRAP x22 \(PUTS\)\. PC and PSR are pushed on the supervisor stack, at x2FFE and x2FFF; PC becomes x02/);
-        await next("RTI\n", /The privilege exception: RTI in User mode\..*the word at x0100; Supervisor mode/);
-        await next(".FILL xD000\n", /The illegal opcode exception: opcode 1101 is reserved/);
-        await next("LDI R0, #0\n.FILL xFE00\n",
-            /The access exception: KBSR \(xFE00\) is privileged, and the machine is in User mode/);
-        await next("LEA R0, #5\n", /LEA puts the address x3006 into R0\. The codes stay\./);
-        await next("JSR #5\n", /R7 becomes x3001, the address of the next instruction, and PC x3006/);
+        const told = await desk.nextOf(NEXT.map(([program]) => `x3000\n${program}\n`));
+        for (const [at, [, words]] of NEXT.entries()) match(told[at], words);
     },
     async "a program is written in three forms, kept, and saved"() {
         await open("");
@@ -354,10 +360,14 @@ const TESTS = {
         await open("sieve");
         await change("speed", 5); // 10 a second
         match(await b.value("#rate"), /^10 a second/);
+        await b.run("globalThis.drawn = 0; new MutationObserver(() => { globalThis.drawn++; })"
+            + ".observe(document.getElementById('log'), { childList: true })");
         const begun = Date.now();
         await b.click("#run");
         await b.wait("lc3.sitting.clock >= 8");
         await b.click("#run");
+        const [drawn, steps] = await b.run("return [globalThis.drawn, lc3.sitting.clock]");
+        ok(drawn <= steps + 1, `${drawn} times drawn for ${steps} steps and the stop`); // and not in every frame
         // On a host that is busy the clicks take their time too.
         const made = await sitting("clock"), most = 10 * ((Date.now() - begun) / 1000) + 5;
         ok(made <= most, `${made} steps, and ${most} at most`);
@@ -372,7 +382,7 @@ const TESTS = {
         await b.click("#run");
         await b.wait("lc3.sitting.clock > 3e6");
         const begun = Date.now(), from = await sitting("clock");
-        await b.wait(`lc3.sitting.clock > ${from + 2e8}`);
+        await b.wait(`lc3.sitting.clock > ${from + 5e7}`);
         const made = (await sitting("clock")) - from, rate = made / (Date.now() - begun) / 1000;
         await b.click("#run");
         match(await status(), /^stopped by you/);
@@ -433,6 +443,17 @@ const TESTS = {
         await b.click("#run");
         await until("halted by HALT");
         await b.cdp("Emulation.clearDeviceMetricsOverride");
+    },
+    async "the browser's own engine makes runs of the reference"() {
+        if (!options.runs) return;
+        await open("");
+        const script = await readFile(new URL("engine.js", import.meta.url), "utf8"), lines = [];
+        for await (const line of linesOf(options.runs)) if (lines.push(line) === RUNS) break;
+        let calls = 0;
+        for (let at = 0; at < RUNS; at += AT_ONCE)
+            calls += await b.run(`${script}; return compare(arguments[0])`, lines.slice(at, at + AT_ONCE));
+        ok(calls > RUNS);
+        console.log(`    ${RUNS} runs of the reference in Chromium ${b.version} itself, ${calls} calls: all equal`);
     },
     async "nothing was asked for from anywhere, and nothing was complained of"() {
         const requests = (await b.log("performance")).map((entry) => JSON.parse(entry.message).message)

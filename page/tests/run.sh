@@ -15,33 +15,35 @@ has() { command -v "$1" >/dev/null; }
 missing() { echo "page-test: $1 not installed: the page was NOT tried in $2"; }
 
 mkdir "$work/said"
+names=
 beside() { # NAME COMMAND...: begins something that runs beside; what it says is kept under its name
     name=$1
     shift
     "$@" >"$work/said/$name" 2>&1 &
     others="$others $!"
+    names="$names $name"
 }
 
-all_beside() { # waits for what runs beside, and shows what each of these NAMEs has said
+all_beside() { # waits for what runs beside, and shows what each has said
     failed=
     for other in $others; do wait "$other" || failed=yes; done
+    for name in $names; do cat "$work/said/$name"; done
     others=
-    for name in "$@"; do cat "$work/said/$name"; done
+    names=
     [ -z "$failed" ] || exit 1
 }
 
-in_chromium() { # the page over file:// and http and in hostile hands, all at once, since each of them mostly waits
+in_chromium() { # the page over file:// and http and in hostile hands
     mkdir "$work/file" "$work/http" "$work/hostile"
-    beside over-file node page/tests/page.mjs file $page "$work/file"
+    beside over-file node page/tests/page.mjs file $page "$work/file" --runs "$work/runs.txt"
     beside over-http node page/tests/page.mjs http $page "$work/http"
     beside in-hostile-hands node page/tests/hostile.mjs $page "$work/hostile"
-    all_beside over-file over-http in-hostile-hands
-    node page/tests/engine.mjs $page "$work/runs.txt"
 }
 
-in_browsers() { # the page in each browser that there is
+in_browsers() { # the page in each browser that there is, all at once: what one waits for is another's time
     if has chromium && has chromedriver; then in_chromium; else missing "chromium or chromedriver is" Chromium; fi
-    if has firefox-esr; then node page/tests/firefox.mjs $page; else missing "firefox-esr is" Firefox; fi
+    if has firefox-esr; then beside firefox node page/tests/firefox.mjs $page; else missing "firefox-esr is" Firefox; fi
+    all_beside
 }
 
 page/tests/refused.sh
@@ -54,5 +56,5 @@ node page/tests/windows.mjs
 python3 page/tests/native.py write "$work/answers.jsonl" 300
 node page/tests/native.mjs --recordings "$work/recordings" "$work/answers.jsonl"
 python3 page/tests/native.py read "$work/recordings"
-all_beside runs
+all_beside
 in_browsers

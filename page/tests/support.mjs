@@ -21,8 +21,9 @@ export function linesOf(file) { return createInterface({ input: createReadStream
 export async function served(way, page) {
     if (way === "file") return [pathToFileURL(resolve(page)).href, null];
     const text = await readFile(page), server = createServer((request, response) => {
-        const found = ["/lc3.html", "/sandboxed.html"].includes(request.url), type = "text/html; charset=utf-8";
-        const more = request.url === "/sandboxed.html" ? { "Content-Security-Policy": "sandbox allow-scripts" } : {};
+        const [path] = request.url.split("?"), type = "text/html; charset=utf-8";
+        const found = ["/lc3.html", "/sandboxed.html"].includes(path);
+        const more = path === "/sandboxed.html" ? { "Content-Security-Policy": "sandbox allow-scripts" } : {};
         response.writeHead(found ? 200 : 404, { "Content-Type": type, ...more }).end(found ? text : "");
     });
     await new Promise((done) => { server.listen(0, "127.0.0.1", done); });

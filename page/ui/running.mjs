@@ -75,18 +75,19 @@ function slowly(now, speed) {
     running.owed = Math.min(running.owed + ((now - running.since) / 1000) * speed, speed / 4 + 1);
     const whole = Math.floor(Math.max(running.owed, 0));
     running.owed -= whole;
-    const stop = whole ? sitting.run(whole, running.calls?.after) : Stop.DONE;
+    if (!whole) return [Stop.DONE, null];
+    const stop = sitting.run(whole, running.calls?.after);
     return [stop, stop === Stop.DONE && !running.calls?.met ? sitting.idle() : null];
 }
 
 function frame(now) {
-    const { running } = seat, speed = rate();
+    const { running, sitting } = seat, { clock } = sitting, speed = rate();
     const [stop, idle] = speed === Infinity ? fullSpeed(now) : slowly(now, speed);
     running.since = now;
     if (stop !== Stop.DONE || running.calls?.met) return ended(stop);
     if (idle === "waiting") return wait();
     if (idle) return ended(stop, LOOPS);
-    if (speed !== Infinity || now - running.drawn > DRAWN_EVERY) {
+    if (sitting.clock > clock && (speed !== Infinity || now - running.drawn > DRAWN_EVERY)) {
         running.drawn = now;
         tell("Running.");
         drawAll(speed <= 60);
