@@ -14,8 +14,9 @@ from array import array
 from dataclasses import astuple
 from itertools import product, zip_longest
 from pathlib import Path
-from typing import Any, Callable, TextIO
+from typing import Any, Callable, Iterable, TextIO
 
+import claims
 import fanthrig
 from fanthrig import Edition, LineError, Mode, PlaceError, Record, Refused, Sitting, calls
 from fanthrig._library import LIBRARY, InstructionStruct
@@ -172,16 +173,23 @@ def put_monitor(out: Out, count: int) -> None:
 PARTS_OF_A_CLAIM = ("kinds", "words", "watched", "ends", "table")
 
 
-def put_claims(out: Out, count: int) -> None:
-    """Claims about two monitors: one that holds, and others with something else in it."""
-    for files in ([ready_made()], of_class()):
-        made = certificate_of(files)
-        parts = {name: list(getattr(made, name)) for name in PARTS_OF_A_CLAIM}
-        out.put("claim", **parts, lowest=made.lowest)
-        put_claim(out, made, made)
-        for _ in range(count):
-            other = altered(RNG, made)
-            put_claim(out, made, other if RNG.random() < 0.8 else altered(RNG, other))
+def put_claims(out: Out, count: int, instructions: int) -> None:
+    """Claims: one about each of two monitors that holds, so many others with something else in it;
+    and claims about so many single instructions."""
+    wholes = [certificate_of([ready_made()]), certificate_of(of_class())]
+    for made in wholes:
+        put_others(out, made, (altered(RNG, made) for _ in range(count)))
+        put_others(out, made, (altered(RNG, altered(RNG, made)) for _ in range(count // 4)))
+    put_others(out, claims.base(), claims.claims(RNG, instructions))
+
+
+def put_others(out: Out, made: Certificate, others: Iterable[Certificate]) -> None:
+    """A claim that holds, and others that are told by what differs from it."""
+    parts = {name: list(getattr(made, name)) for name in PARTS_OF_A_CLAIM}
+    out.put("claim", **parts, lowest=made.lowest)
+    put_claim(out, made, made)
+    for other in others:
+        put_claim(out, made, other)
 
 
 def put_claim(out: Out, made: Certificate, other: Certificate) -> None:
@@ -351,7 +359,7 @@ def write(path: str, sittings: int) -> None:
         put_starts(out, memory, 500)
         put_pages(out, memory, 500)
         put_monitor(out, 200)
-        put_claims(out, 2000)
+        put_claims(out, 400, 8000)
         put_formats(out)
         put_places(out, 500)
         for number in range(sittings):
