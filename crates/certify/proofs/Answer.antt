@@ -115,7 +115,8 @@ certifies-what-passes memory kinds lowest watched ends table =
     nothing-by-both (unless (eqb (length watched) 8) (wrong 1 0 0)) (wrongWith c ends table)
     ∙ rw (
       nothing-if (eqb (length watched) 8) 1 0 0 refl,
-      nothing-by-both (unless (roomHolds c) (wrong 2 0 0)) (orElse (wrongVectors c) (wrongInRows c table 0x0200 0 ends)),
+      nothing-by-both (unless (roomHolds c) (wrong 2 0 0)) (orElse (wrongVectors c) (wrongInRows c table 0x0200 0
+          ends)),
       nothing-if (roomHolds c) 2 0 0 refl,
       nothing-by-both (wrongVectors c) (wrongInRows c table 0x0200 0 ends),
       all-vectors-nothing c,

@@ -107,6 +107,8 @@ pub findings-are-true : FindingsAreTrue
 unfolding certifyOf wrongWith startOf
 findings-are-true memory kinds lowest watched ends table =
     let c : Claim = claimOf memory kinds lowest watched ends table in
-    true-by-both c ends table _ _ (true-unless c ends table (eqb (length watched) 8) (wrong 1 0 0) (λ e. not-eight-watched refl e))
+    true-by-both c ends table _ _ (true-unless c ends table (eqb (length watched) 8) (wrong 1 0 0) (λ e.
+    not-eight-watched refl e))
     (true-by-both c ends table _ _ (true-unless c ends table (roomHolds c) (wrong 2 0 0) (λ e. no-room refl e))
-    (true-by-both c ends table _ _ (all-vectors-true c ends table) (rows-true c ends table (length ends) 0 (omega arith))))
+    (true-by-both c ends table _ _ (all-vectors-true c ends table) (rows-true c ends table (length ends) 0 (omega
+    arith))))

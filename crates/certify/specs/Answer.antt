@@ -1,7 +1,6 @@
 -- One page for an examiner's reviewer: what is claimed of a class's monitor, and what is concluded of whole sittings
--- beside it where `certify` finds nothing wrong. docs/CERTIFY.md says it in words; the rules M6.1, M8 and M30 are those
--- of docs/MACHINE.md. Where something is found
--- wrong, specs/Wrong.antt says what that means.
+-- beside it where `certify` finds nothing wrong. M31 of docs/MACHINE.md has the rules, and docs/CERTIFY.md says it in
+-- words. Where something is found wrong, specs/Wrong.antt says what that means.
 use Prim.Native.Nat.{ℕ}
 use mathlib.Core.Path.{_≡_}
 use mathlib.Core.Bool.{Bool, true, cond, _&&_, _||_, not}
@@ -20,10 +19,11 @@ use Rattle.certify.specs.Finding.{certifyOf}
 
 -- ---- what is claimed
 
--- Three of the things that `certify` is lent are the claim. `memory` has the words. `kinds` has a number for each word
--- from x0000 on: 1, it is fixed, and never changes; 2, it is the monitor's own, which the routines may write; any other
--- number, or none, it is secret. `lowest` is the lowest word of the routines' stack, which ends at x2FFF. By `watched`,
--- `ends` and `table` nothing is claimed: they show the test what is known at each word, and any tool may make them.
+-- Three of the things that `certify` is lent are the claim (M31.1). `memory` has the words. `kinds` has a number for
+-- each word from x0000 on: 1, it is fixed, and never changes; 2, it is the monitor's own, which the routines may write;
+-- any other number, or none, it is secret. `lowest` is the lowest word of the routines' stack, which ends at x2FFF. By
+-- `watched`, `ends` and `table` nothing is claimed: they show the test what is known at each word, and any tool may
+-- make them.
 abbrev pub isFixedBy : List ℕ → ℕ → Bool
 isFixedBy kinds a = eqb (getD kinds a 0) 1
 
@@ -53,7 +53,7 @@ FixedStay kinds before after = (a : ℕ) → isFixedBy kinds a ≡ true → Same
 
 -- Take any other memory that is equal to it but for secret words. Every call, after whatever earlier calls, is answered
 -- alike on both: with equal records, counts, stops, outputs and logs, and memories that are equal but for secret words.
--- And it leaves every secret word and every fixed word as it was (M30; `TellsNothing` in crates/sitting).
+-- And it leaves every secret word and every fixed word as it was (M31.5, M30.3; `TellsNothing` in crates/sitting).
 abbrev pub CertifyingIsEnough : Type 0
 CertifyingIsEnough =
     (memory kinds : List ℕ) (lowest : ℕ) (watched ends table : List ℕ)
@@ -65,7 +65,7 @@ CertifyingIsEnough =
     (answerAfter earlier call m memory) (answerAfter earlier call m other)
 
 -- And no good claim is refused: the finding is 0 exactly where eight words are watched and the claim passes the test
--- (crates/sitting/specs/Test.antt).
+-- (M31.2; crates/sitting/specs/Test.antt).
 abbrev pub CertifiesWhatPasses : Type 0
 CertifiesWhatPasses =
     (memory kinds : List ℕ) (lowest : ℕ) (watched ends table : List ℕ)

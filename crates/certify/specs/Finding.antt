@@ -1,5 +1,5 @@
--- What `certify` answers: what is wrong first with a claim, at which word and in which state. The parts of the test
--- (crates/sitting/specs/Test.antt) are tried one after the other, and the rows and states in the order of the table.
+-- What `certify` answers (M31.4): what is wrong first with a claim, at which word and in which state. The parts of the
+-- test (crates/sitting/specs/Test.antt) are tried one after the other, and the states in the order of the table.
 use Prim.Native.Nat.{ℕ, zero, suc, min}
 use mathlib.Core.Bool.{Bool, cond}
 use mathlib.Core.List.{List, [], _∷_}

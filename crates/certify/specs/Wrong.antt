@@ -1,4 +1,4 @@
--- Whatever `certify` finds wrong is wrong: what each finding says of the claim is true, at the word and in the state that
+-- Whatever `certify` finds wrong is wrong: what a finding says of the claim is true, at the word and in the state that
 -- are named.
 use Prim.Native.Nat.{ℕ, _+_, _*_, _/_, _≤_, _<_, min}
 use mathlib.Core.Path.{_≡_}

@@ -1,18 +1,12 @@
 -- The answers: by computing them.
-use Prim.Native.Nat.{_+_}
-use mathlib.Core.Path.{_≡_, refl}
-use mathlib.Core.List.{List, [], _∷_, _++_}
-use lib.ListN.{replicate, take}
-use Rattle.machine.specs.Rows.{withWord}
+use mathlib.Core.Path.{refl}
 use Rattle.sitting.specs.Values.{valueBy}
 use Rattle.sitting.proofs.Ours.{testing}
-use Rattle.claims.specs.Encoding.{cellOf, cellsOf, valueOf, valuesOf, stateOf, statesOf, rowsOf, claimWith}
-use Rattle.certify.specs.Finding.{nothingWrong, wrong, unless, orElse, wrongVector, wrongInterrupt, wrongVectors, wrongIn}
-use Rattle.certify.specs.Finding.{wrongInRow, wrongAt, wrongInRows, wrongWith, certifyOf}
-use Rattle.certify_examples.specs.Monitor.{classWords, classKinds, classWatched, entry, classRows, endsFrom}
-use Rattle.certify_examples.specs.Monitor.{joined}
-use Rattle.certify_examples.specs.Examples.{answerOf, answerFor, answerWith, rowsWith, unknownStack, knownBelow}
-use Rattle.certify_examples.specs.Examples.{ExamplesHold}
+use Rattle.claims.specs.Encoding.{cellOf, cellsOf, valueOf, valuesOf, stateOf, statesOf, rowsOf}
+use Rattle.certify.specs.Finding.{wrong, unless, orElse, wrongVector, wrongInterrupt, wrongVectors, wrongIn, wrongInRow}
+use Rattle.certify.specs.Finding.{wrongAt, wrongInRows, wrongWith, certifyOf}
+use Rattle.certify_examples.specs.Monitor.{classWords, classKinds, classWatched, classRows, endsFrom, joined}
+use Rattle.certify_examples.specs.Examples.{answerOf, rowsWith, ExamplesHold}
 
 -- To unfold this is to compute an answer.
 unfoldable pub computing : Unit {0}

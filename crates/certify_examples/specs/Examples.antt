@@ -3,7 +3,7 @@
 use Prim.Native.Nat.{ℕ, _+_}
 use mathlib.Core.Path.{_≡_}
 use mathlib.Core.List.{List, [], _∷_, _++_}
-use lib.ListN.{length, replicate, take}
+use lib.ListN.{replicate, take}
 use Rattle.machine.specs.Rows.{withWord}
 use Rattle.claims.specs.Encoding.{claimWith}
 use Rattle.certify.specs.declared.Certified.{Certified}
@@ -78,13 +78,15 @@ pub record ExamplesHold : Type 0 where
   -- the last vector of an exception leads to a word without a row; a trap's below x0200; one is secret
   pub no-row : answerWith 0x0102 0x0227 ≡ wrong 3 0x0102 0
   pub too-low : answerWith 0x00FF 0x0100 ≡ wrong 3 0x00FF 0
-  pub secret-vector : answerOf classWords (withWord classKinds 0x0030 0) 0x2FFC classWatched classRows ≡ wrong 3 0x0030 0
+  pub secret-vector : answerOf classWords (withWord classKinds 0x0030 0) 0x2FFC classWatched classRows
+      ≡ wrong 3 0x0030 0
   -- an interrupt leads to more than an RTI
   pub keyboard : answerWith 0x0180 0x0200 ≡ wrong 4 0x0180 0
   pub timer : answerWith 0x0181 0x0222 ≡ wrong 4 0x0181 0
   -- an instruction in a word that routines may write; a state for SAVE1; one past xFFFF, of no word
   pub own-code : answerOf classWords (withWord classKinds 0x0205 2) 0x2FFC classWatched classRows ≡ wrong 5 0x0205 10
-  pub own-state : answerOf classWords classKinds 0x2FFC classWatched (rowsWith [] (replicate 7 [] ++ ((entry ∷ []) ∷ [])))
+  pub own-state :
+      answerOf classWords classKinds 0x2FFC classWatched (rowsWith [] (replicate 7 [] ++ ((entry ∷ []) ∷ [])))
       ≡ wrong 5 0x022E 53
   pub of-no-word : wrongInRows (claimWith [] [] 0x2FFC classWatched []) entry 0x20000 0 (1 ∷ [])
       ≡ record { finding = 5; address = 65536; state = 0 }

@@ -1,6 +1,6 @@
 -- A class's monitor in the book's style, and the table of what is known at each of its words. It has what our own does
--- without: words in which registers are kept, a word that counts, subroutines one inside another, a table of pointers, a
--- TRAP in a routine; and an answer of the examiner's in the midst of its words.
+-- without: words in which registers are kept, a word that counts, subroutines one inside another, a table of pointers,
+-- a TRAP in a routine; and an answer of the examiner's in the midst of its words.
 use Prim.Native.Nat.{ℕ, _+_}
 use mathlib.Core.List.{List, [], _∷_, _++_}
 use lib.ListN.{length, replicate}

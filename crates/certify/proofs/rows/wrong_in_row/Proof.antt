@@ -29,21 +29,24 @@ returns c = let a = c .before .before .before .before .before .before .before .b
     let l = c .before .before .before .loop in
     rw (
       l .inv,
-      states-step (claimOf (a .memory .now) (a .kinds .now) (a .lowest) (a .watched .now) (a .ends .now) (a .table .now)) (a .pc) (readOf (a .w)) (a .table .now) (l .k) (a .end) (omega arith),
+      states-step (claimOf (a .memory .now) (a .kinds .now) (a .lowest) (a .watched .now) (a .ends .now) (a .table
+          .now)) (a .pc) (readOf (a .w)) (a .table .now) (l .k) (a .end) (omega arith),
       ← c .before .wrong-in .ensures,
     ) (found-first (c .before .wrong-in .result) _ (λ e. omega arith))
 
 loop-again : tie.Need-loop-again Inv-loop μ-loop
 loop-again c = let a = c .before .before .before .before .before .before .before .before .before .args in
     let l = c .before .before .before .loop in
-    l .inv ∙ (states-step (claimOf (a .memory .now) (a .kinds .now) (a .lowest) (a .watched .now) (a .ends .now) (a .table .now)) (a .pc) (readOf (a .w)) (a .table .now) (l .k) (a .end) (omega arith)
+    l .inv ∙ (states-step (claimOf (a .memory .now) (a .kinds .now) (a .lowest) (a .watched .now) (a .ends .now) (a
+    .table .now)) (a .pc) (readOf (a .w)) (a .table .now) (l .k) (a .end) (omega arith)
     ∙ rw (← c .before .wrong-in .ensures) (sym (found-second (c .before .wrong-in .result) _ (omega arith))))
 
 returns-2 : tie.Need-returns-2 Inv-loop μ-loop
 returns-2 c = let a = c .before .before .before .before .before .before .before .before .args in
     let l = c .before .before .loop in
     c .nothing-wrong .ensures
-    ∙ (states-end (claimOf (a .memory .now) (a .kinds .now) (a .lowest) (a .watched .now) (a .ends .now) (a .table .now)) (a .pc) (readOf (a .w)) (a .table .now) (l .k) _ _ (omega arith) ∙ sym (l .inv))
+    ∙ (states-end (claimOf (a .memory .now) (a .kinds .now) (a .lowest) (a .watched .now) (a .ends .now) (a .table
+    .now)) (a .pc) (readOf (a .w)) (a .table .now) (l .k) _ _ (omega arith) ∙ sym (l .inv))
 
 pub wrong-in-row-spec : {M : Type 1} → statement M
 wrong-in-row-spec =

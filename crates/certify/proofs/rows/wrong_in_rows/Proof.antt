@@ -27,21 +27,24 @@ returns c = let a = c .before .before .before .before .before .before .before .b
     let l = c .before .before .before .loop in
     rw (
       l .inv,
-      rows-step (claimOf (a .memory .now) (a .kinds .now) (a .lowest) (a .watched .now) (a .ends .now) (a .table .now)) (a .table .now) (a .ends .now) (l .j) (omega arith),
+      rows-step (claimOf (a .memory .now) (a .kinds .now) (a .lowest) (a .watched .now) (a .ends .now) (a .table
+          .now)) (a .table .now) (a .ends .now) (l .j) (omega arith),
       ← c .before .wrong-at .ensures,
     ) (found-first (c .before .wrong-at .result) _ (λ e. omega arith))
 
 loop-again : tie.Need-loop-again Inv-loop μ-loop
 loop-again c = let a = c .before .before .before .before .before .before .before .before .before .args in
     let l = c .before .before .before .loop in
-    l .inv ∙ (rows-step (claimOf (a .memory .now) (a .kinds .now) (a .lowest) (a .watched .now) (a .ends .now) (a .table .now)) (a .table .now) (a .ends .now) (l .j) (omega arith)
+    l .inv ∙ (rows-step (claimOf (a .memory .now) (a .kinds .now) (a .lowest) (a .watched .now) (a .ends .now) (a
+    .table .now)) (a .table .now) (a .ends .now) (l .j) (omega arith)
     ∙ rw (← c .before .wrong-at .ensures) (sym (found-second (c .before .wrong-at .result) _ (omega arith))))
 
 returns-2 : tie.Need-returns-2 Inv-loop μ-loop
 returns-2 c = let a = c .before .before .before .before .before .before .before .before .args in
     let l = c .before .before .loop in
     c .nothing-wrong .ensures
-    ∙ (rows-end (claimOf (a .memory .now) (a .kinds .now) (a .lowest) (a .watched .now) (a .ends .now) (a .table .now)) (a .table .now) (a .ends .now) _ _ (l .j) (omega arith) ∙ sym (l .inv))
+    ∙ (rows-end (claimOf (a .memory .now) (a .kinds .now) (a .lowest) (a .watched .now) (a .ends .now) (a .table
+    .now)) (a .table .now) (a .ends .now) _ _ (l .j) (omega arith) ∙ sym (l .inv))
 
 pub wrong-in-rows-spec : {M : Type 1} → statement M
 wrong-in-rows-spec =

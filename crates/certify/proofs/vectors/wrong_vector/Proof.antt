@@ -29,14 +29,17 @@ returns c = λ lowest watched h.
     let a = c .before .before .before .before .before .before .before .before .before .args in
     let l = c .before .before .before .before .loop in
     c .wrong .ensures
-    ∙ vectors-first (claimOf (a .memory .now) (a .kinds .now) lowest watched (a .ends .now) (a .table .now)) (l .a) 0x0103 (omega arith) (l .inv .1 lowest watched h)
-    (sym (c .before .before .leads-in .ensures lowest watched h) ∙ not-true (c .before .before .leads-in .result) (c .before .if1 .taken))
+    ∙ vectors-first (claimOf (a .memory .now) (a .kinds .now) lowest watched (a .ends .now) (a .table .now)) (l .a)
+    0x0103 (omega arith) (l .inv .1 lowest watched h)
+    (sym (c .before .before .leads-in .ensures lowest watched h) ∙ not-true (c .before .before .leads-in .result) (c
+    .before .if1 .taken))
 
 loop-again : tie.Need-loop-again Inv-loop μ-loop
 loop-again c = let a = c .before .before .before .before .before .before .before .before .args in
     let l = c .before .before .before .loop in (
       omega arith,
-      λ lowest watched h. vectors-more (claimOf (a .memory .now) (a .kinds .now) lowest watched (a .ends .now) (a .table .now)) (l .a)
+      λ lowest watched h. vectors-more (claimOf (a .memory .now) (a .kinds .now) lowest watched (a .ends .now) (a
+          .table .now)) (l .a)
           (l .inv .1 lowest watched h) (sym (c .before .leads-in .ensures lowest watched h) ∙ not-false
           (c .before .leads-in .result) (c .if1 .left)),
     )
