@@ -557,13 +557,13 @@ module _ (f : Frame) (sound : Sound f) (v : View) (fine : cellsFine (f .words) (
 -- ---- one step, and several
 
 -- A test of the stack, taken apart.
-record OnStack (f : Frame) (v : View) (n : ℤ) : Type 0 where
-  some : 0 < v .depth
-  few : v .depth ≤ f .words
-  least : 1 ≤ slotOf (v .depth) n
-  most : slotOf (v .depth) n ≤ f .words
+pub record OnStack (f : Frame) (v : View) (n : ℤ) : Type 0 where
+  pub some : 0 < v .depth
+  pub few : v .depth ≤ f .words
+  pub least : 1 ≤ slotOf (v .depth) n
+  pub most : slotOf (v .depth) n ≤ f .words
 
-on-stack : (f : Frame) (v : View) (n : ℤ) → onStack f v n ≡ true → OnStack f v n
+pub on-stack : (f : Frame) (v : View) (n : ℤ) → onStack f v n ≡ true → OnStack f v n
 on-stack f v n h =
     let i : ℕ = slotOf (v .depth) n in
     let outer = both-true (leb 1 (v .depth) && leb (v .depth) (f .words)) (leb 1 i && leb i (f .words)) h in

@@ -1,0 +1,3 @@
+-- A routine that was interrupted on the way goes on where it was.
+pub mod Leaving
+pub mod Following

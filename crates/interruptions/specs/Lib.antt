@@ -1,0 +1,1 @@
+-- What a routine does that was interrupted on the way.

@@ -1,0 +1,1 @@
+// The monitor's routines, interrupted on the way by a class's own interrupt routine. The crate has no code.
