@@ -77,7 +77,7 @@ pub record Like (f : Frame) (mem before : List ℕ) (w : View) (x : Rest) : Type
   pub busy : x .busy ≤ w .busy
   pub slots : (i : ℕ) → holds (w .cells) i ≡ true → i ≤ w .depth → slotWith (f .sp) mem (x .cells) i ≡ slotAt f w i
 
-holds-fine : (d : ℕ) (cells : List Cell) → cellsFine d cells ≡ true → (i : ℕ) → holds cells i ≡ true → i ≤ d
+pub holds-fine : (d : ℕ) (cells : List Cell) → cellsFine d cells ≡ true → (i : ℕ) → holds cells i ≡ true → i ≤ d
 holds-fine d [] fine i h = absurd (true≢false (sym h))
 holds-fine d (c ∷ cells) fine i h =
     let w = cells-fine d c cells fine in
@@ -85,6 +85,15 @@ holds-fine d (c ∷ cells) fine i h =
     either (eqb i (c .slot)) (holds cells i) h
     (λ e. let z : i ≡ c .slot = eqb-true i (c .slot) e in omega arith)
     (λ e. holds-fine d cells (w .2) i e)
+
+pub holds-least : (d : ℕ) (cells : List Cell) → cellsFine d cells ≡ true → (i : ℕ) → holds cells i ≡ true → 1 ≤ i
+holds-least d [] fine i h = absurd (true≢false (sym h))
+holds-least d (c ∷ cells) fine i h =
+    let w = cells-fine d c cells fine in
+    let least : 1 ≤ c .slot = w .0 in
+    either (eqb i (c .slot)) (holds cells i) h
+    (λ e. let z : i ≡ c .slot = eqb-true i (c .slot) e in omega arith)
+    (λ e. holds-least d cells (w .2) i e)
 
 module _ {r : Start} {since bound : ℕ} (quiet : Quiet r since bound) (f : Frame) (mem out before : List ℕ)
     (sound : Sound (beside f mem out)) (total : length (f .output) ≡ length before + length out) (may : ℕ → Bool)
@@ -98,7 +107,7 @@ module _ {r : Start} {since bound : ℕ} (quiet : Quiet r since bound) (f : Fram
   unfolding wordWith
   own-word w v a own = rw own
 
-  own-plan : (w : View) (x : Rest) → usable f (w .pc) ≡ true → planAt g (twin w x) ≡ planAt f w
+  pub own-plan : (w : View) (x : Rest) → usable f (w .pc) ≡ true → planAt g (twin w x) ≡ planAt f w
   unfolding planAt
   own-plan w x own =
       ap (λ (word : ℕ). planOf (w .regs) (w .pc) (codesFor (w .codes) (readOf word)) (readOf word))

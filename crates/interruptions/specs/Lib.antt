@@ -1,1 +1,2 @@
 -- What a routine does that was interrupted on the way.
+pub mod GoesOn

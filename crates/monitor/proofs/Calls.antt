@@ -77,7 +77,7 @@ was-uninterrupted {s} n accepted le a = record {
 -- ---- the words stored
 
 module _ {words sp : ℕ} (apart : StackApart words sp) (mem : List ℕ) where
-  words-below : (cells : List Cell) → cellsFine words cells ≡ true
+  pub words-below : (cells : List Cell) → cellsFine words cells ≡ true
       → take (sp - words) (memoryWith sp mem cells) ≡ take (sp - words) mem
   words-below [] h = refl
   words-below (c ∷ cells) h =
@@ -85,7 +85,7 @@ module _ {words sp : ℕ} (apart : StackApart words sp) (mem : List ℕ) where
       take-set-le (sp - words) (memoryWith sp mem cells) (sp - c .slot) (c .value) (omega (arith, w .1))
       ∙ words-below cells (w .2)
 
-  words-above : (cells : List Cell) → cellsFine words cells ≡ true → drop sp (memoryWith sp mem cells) ≡ drop sp mem
+  pub words-above : (cells : List Cell) → cellsFine words cells ≡ true → drop sp (memoryWith sp mem cells) ≡ drop sp mem
   words-above [] h = refl
   words-above (c ∷ cells) h =
       let w = cells-fine words c cells h in
@@ -334,11 +334,11 @@ backView uses words user s v =
 
 -- RTI leaves R6 and Saved_SSP as they were, in either mode.
 module _ (ssp usp six sp : ℕ) where
-  six-is-restored : (user : Bool) → sp ≡ cond user ssp six → cond user (cond user six usp) sp ≡ six
+  pub six-is-restored : (user : Bool) → sp ≡ cond user ssp six → cond user (cond user six usp) sp ≡ six
   six-is-restored true e = refl
   six-is-restored false e = e
 
-  ssp-is-restored : (user : Bool) → sp ≡ cond user ssp six → cond user sp ssp ≡ ssp
+  pub ssp-is-restored : (user : Bool) → sp ≡ cond user ssp six → cond user sp ssp ≡ ssp
   ssp-is-restored true e = e
   ssp-is-restored false e = refl
 

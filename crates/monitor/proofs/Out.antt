@@ -22,11 +22,11 @@ use Rattle.monitor.proofs.UseLaws.{with-vector-below, out-below}
 use Rattle.monitor.proofs.Instructions.{kept, steppedBy, one-more-byte, computing}
 use Rattle.monitor.proofs.Entries.{calledFrame, Polls, within}
 use Rattle.monitor.proofs.Calls.{begins-sound, quiet-steps, was-uninterrupted, Eight, eight, begun}
-use Rattle.monitor.proofs.Calls.{routine-begins, AtReturn, backFrame, backView, at-back}
+use Rattle.monitor.proofs.Calls.{routine-begins, backFrame, backView, at-back}
 use Rattle.monitor.proofs.Calls.{comes-back, none-read}
-use Rattle.monitor.proofs.Paths.{calm, calmly, Path, attends, then, treads, walks}
+use Rattle.monitor.proofs.Paths.{calm, calmly, Ends, Path, attends, then, treads, walks}
 
-abbrev uses : ℕ → Bool
+abbrev pub uses : ℕ → Bool
 uses = withVector 0x21 outCode
 
 module _ (user : Bool) (s : Start) (x : Eight (s .machine .regs)) where
@@ -43,7 +43,7 @@ module _ (user : Bool) (s : Start) (x : Eight (s .machine .regs)) where
   ready : View
   ready = within polling (withRegister (polling .regs) 1 0x8000) 0x0208 (from 0x8000) 0
 
-  returning : View
+  pub returning : View
   returning = steppedBy 3 f ready
 
   polls : Polls f polling 1 0x0206
@@ -64,12 +64,26 @@ module _ (user : Bool) (s : Start) (x : Eight (s .machine .regs)) where
     unfolding polling ready returning computing calm calmly
     to-return = treads f may 1 free 3 ready (kept refl refl refl) refl refl
 
-    routine : Path f may (begun s x 0x0204 (next (s .machine .pc))) (2 + (waitSteps (busy - 1 - 1 - 1) + 3)) returning
+    pub routine : Path f may (begun s x 0x0204 (next (s .machine .pc))) (2 + (waitSteps (busy - 1 - 1 - 1) + 3)) returning
     routine = then to-poll (then to-ready to-return)
 
-  at-return : AtReturn uses 3 user s returning
+  pub ends : Ends uses 3 user s returning
   unfolding returning ready polling computing
-  at-return = record { plan = refl; six = refl; pc = refl; psr = refl; fine = refl; going = refl }
+  ends = record {
+    returns = record { plan = refl; six = refl; pc = refl; psr = refl; fine = refl; going = refl };
+    own = refl;
+    pc-stored = refl;
+    psr-stored = refl;
+    depth = refl;
+  }
+
+  pub restored : set (returning .regs) 6 (getD (s .machine .regs) 6 0) ≡ s .machine .regs
+  unfolding returning ready polling computing
+  restored = rw (x .are)
+
+  pub the-byte : returning .bytes ≡ (getD (s .machine .regs) 0 0 % 256) ∷ []
+  unfolding returning ready polling computing
+  the-byte = rw (x .are)
 
 wait-at-most : (busy : ℕ) → waitSteps busy ≤ busy + 3
 unfolding waitSteps
@@ -103,14 +117,6 @@ module _ (user : Bool) (s : Start) (n : ℕ) (c : Calls 0x21 outCode 3 user s n)
       walks quiet (f user s x) (begins-sound s n (c .begins)) (routine user s x (λ a. false) free) .on (omega arith)
       (routine-begins outCode 3 user s n (j + 1) x 0x21 0x0204 c (omega arith) quiet (omega arith) (omega arith) refl)
 
-  restored : set (returning user s x .regs) 6 (getD (s .machine .regs) 6 0) ≡ s .machine .regs
-  unfolding returning ready polling computing
-  restored = rw (x .are)
-
-  the-byte : returning user s x .bytes ≡ (getD (s .machine .regs) 0 0 % 256) ∷ []
-  unfolding returning ready polling computing
-  the-byte = rw (x .are)
-
   five : returning user s x .busy - 1 ≡ 5
   unfolding returning ready polling computing
   five = refl
@@ -121,13 +127,13 @@ module _ (user : Bool) (s : Start) (n : ℕ) (c : Calls 0x21 outCode 3 user s n)
 
   at-end : At s 0 (j + 1) (backFrame uses 3 user s) (backView uses 3 user s (returning user s x))
   at-end =
-      at-back uses 3 user s n j (returning user s x) (c .begins) (omega arith) quiet at-rti (at-return user s x) enough
+      at-back uses 3 user s n j (returning user s x) (c .begins) (omega arith) quiet at-rti (ends user s x .returns) enough
 
   resumed : Resumes s n (j + 1) ((getD (s .machine .regs) 0 0 % 256) ∷ []) 5 3 (s .machine .regs) (notRead s)
   resumed =
-      subst (λ (bytes : List ℕ). Resumes s n (j + 1) bytes 5 3 (s .machine .regs) (notRead s)) the-byte
-      (comes-back uses 3 user s n j (returning user s x) (c .begins) (omega arith) quiet at-rti (at-return user s x)
-      enough (s .machine .regs) restored 5 five (notRead s)
+      subst (λ (bytes : List ℕ). Resumes s n (j + 1) bytes 5 3 (s .machine .regs) (notRead s)) (the-byte user s x)
+      (comes-back uses 3 user s n j (returning user s x) (c .begins) (omega arith) quiet at-rti (ends user s x .returns)
+      enough (s .machine .regs) (restored user s x) 5 five (notRead s)
       (none-read s (returning user s x) (untouched .0) (untouched .1)))
 
 pub out-resumes : OutResumes

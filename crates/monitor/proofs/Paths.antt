@@ -25,7 +25,8 @@ use Rattle.monitor.proofs.Intact.{cellsFine, cells-fine, usable, wordAt
 use Rattle.monitor.proofs.Instructions.{Sound, planAt, changed, valued, Use, loadsSlot, storesSlot, movesStack}
 use Rattle.monitor.proofs.Instructions.{leavesStack, elsewhere, slotOf, useAt, stepped, mayStep, Kept, word-is}
 use Rattle.monitor.proofs.Instructions.{by-plan, keeps-once, steps-once, steppedBy, maySteps}
-use Rattle.monitor.proofs.Entries.{within, Polls, waits, recoded}
+use Rattle.monitor.proofs.Entries.{calledFrame, within, Polls, waits, recoded}
+use Rattle.monitor.proofs.Calls.{AtReturn}
 
 -- ---- what a step rests on
 
@@ -67,6 +68,14 @@ calmly (suc n) f v = calm f v && calmly n f (stepped f v)
 pub record Readable (words sp a : ℕ) : Type 0 where
   pub plain : a < 0xFE00
   pub outside : sp - words ≤ a → sp ≤ a
+
+-- The end of a way: RTI, with what the entry pushed on top of the stack.
+pub record Ends (uses : ℕ → Bool) (words : ℕ) (user : Bool) (s : Start) (end : View) : Type 0 where
+  pub returns : AtReturn uses words user s end
+  pub own : usable (calledFrame uses words user s) (end .pc) ≡ true
+  pub pc-stored : holds (end .cells) 2 ≡ true
+  pub psr-stored : holds (end .cells) 1 ≡ true
+  pub depth : end .depth ≡ 2
 
 -- ---- a way of n steps from one view to another
 

@@ -23,11 +23,11 @@ use Rattle.monitor.proofs.Execution.{Frame, Known, from, codesNumber, c
 use Rattle.monitor.proofs.Instructions.{kept, steppedBy, computing}
 use Rattle.monitor.proofs.Entries.{calledFrame, Polls}
 use Rattle.monitor.proofs.Calls.{begins-sound, quiet-steps, Eight, eight, begun, routine-begins, halts}
-use Rattle.monitor.proofs.Calls.{as-before, AtReturn, comes-back, none-read}
+use Rattle.monitor.proofs.Calls.{as-before, comes-back, none-read}
 use Rattle.monitor.proofs.Strings.{readable, in-user-mode, negative, positive, Looks, Comes, look-at, look-refused, below-two}
-use Rattle.monitor.proofs.Paths.{calm, calmly, Path, fetches, attends, no-step-more, then, knowing, treads, walks}
+use Rattle.monitor.proofs.Paths.{calm, calmly, Ends, Path, fetches, attends, no-step-more, then, knowing, treads, walks}
 
-abbrev uses : ℕ → Bool
+abbrev pub uses : ℕ → Bool
 uses = withVector 0x22 putsCode
 
 module _ (user : Bool) (s : Start) (x : Eight (s .machine .regs)) where
@@ -288,21 +288,27 @@ module _ (user : Bool) (s : Start) (x : Eight (s .machine .regs)) (mode : inUser
         look user s x may allowed mode b (all .comes .r₁) (all .comes .r₂) (all .comes .codes) (lowBytes words)
         (all .busy) (all .few) ends
 
-    returning : View
+    pub returning : View
     returning =
         steppedBy 5 (f user s x)
         (W user s x b 0 (seen .r₂) 0x0219 (from 0) (lowBytes words) (all .busy - lookSteps user b - 1))
 
-    at-return : AtReturn uses 5 user s returning
+    pub ends-there : Ends uses 5 user s returning
     unfolding returning computing
-    at-return = record { plan = refl; six = refl; pc = refl; psr = refl; fine = refl; going = refl }
+    ends-there = record {
+      returns = record { plan = refl; six = refl; pc = refl; psr = refl; fine = refl; going = refl };
+      own = refl;
+      pc-stored = refl;
+      psr-stored = refl;
+      depth = refl;
+    }
 
     restored : returning .regs
         ≡ x .r₀ ∷ x .r₁ ∷ x .r₂ ∷ x .r₃ ∷ x .r₄ ∷ x .r₅ ∷ (stackOf (s .machine) - 2) ∷ x .r₇ ∷ []
     unfolding returning computing
     restored = refl
 
-    same-registers : set (returning .regs) 6 (getD (s .machine .regs) 6 0) ≡ s .machine .regs
+    pub same-registers : set (returning .regs) 6 (getD (s .machine .regs) 6 0) ≡ s .machine .regs
     same-registers =
         ap (λ (l : List ℕ). set l 6 (getD (s .machine .regs) 6 0)) restored
         ∙ as-before (s .machine .regs) x (stackOf (s .machine) - 2)
@@ -311,16 +317,16 @@ module _ (user : Bool) (s : Start) (x : Eight (s .machine .regs)) (mode : inUser
     unfolding returning computing
     counted = runs-out (all .busy) (lookSteps user b) (all .few)
 
-    nothing-else : (returning .read ≡ 0) × (returning .status ≡ s .machine .devices .kbsr)
+    pub nothing-else : (returning .read ≡ 0) × (returning .status ≡ s .machine .devices .kbsr)
         × (returning .bytes ≡ lowBytes words)
     unfolding returning computing
     nothing-else = (refl, refl, refl)
 
     -- the steps between the trap and RTI
-    abbrev between : ℕ
+    abbrev pub between : ℕ
     between = 4 + wordSteps user left (r0 s) words + (lookSteps user b + 6)
 
-    way : Path (f user s x) may (begun s x 0x020C (next (s .machine .pc))) between returning
+    pub way : Path (f user s x) may (begun s x 0x020C (next (s .machine .pc))) between returning
     unfolding returning
     way =
         then to-look
@@ -404,7 +410,7 @@ module _ (user : Bool) (s : Start) (n : ℕ) (c : Calls 0x22 putsCode 5 user s n
       (routine-begins putsCode 5 user s n (j + 1) x 0x22 0x020C c (omega arith) quiet (omega arith) (omega arith)
       refl) in
       rw (all-steps, rest .2) at (comes-back uses 5 user s n j end (c .begins) (omega arith) quiet a
-      (at-return user s x mode few (mayReadOf user 5 s) (λ a h. h) words b string room ends zero-word)
+      (ends-there user s x mode few (mayReadOf user 5 s) (λ a h. h) words b string room ends zero-word .returns)
       (rw all-steps le) (s .machine .regs)
       (same-registers user s x mode few (mayReadOf user 5 s) (λ a h. h) words b string room ends zero-word) 0
       (counted user s x mode few (mayReadOf user 5 s) (λ a h. h) words b string room ends zero-word) (notRead s)

@@ -25,10 +25,10 @@ use Rattle.monitor.proofs.Execution.{Frame, Known, from, codesNumber, c
 use Rattle.monitor.proofs.Instructions.{kept, steppedBy, computing}
 use Rattle.monitor.proofs.Entries.{calledFrame}
 use Rattle.monitor.proofs.Calls.{begins-sound, quiet-steps, Eight, eight, begun, routine-begins, halts}
-use Rattle.monitor.proofs.Calls.{as-before, AtReturn, comes-back, none-read}
+use Rattle.monitor.proofs.Calls.{as-before, comes-back, none-read}
 use Rattle.monitor.proofs.Strings.{readable, negative, positive, Looks, Comes, look-at, look-refused}
 use Rattle.monitor.proofs.Strings.{below-two}
-use Rattle.monitor.proofs.Paths.{calm, calmly, Path, fetches, no-step-more, then, knowing, treads, walks}
+use Rattle.monitor.proofs.Paths.{calm, calmly, Ends, Path, fetches, no-step-more, then, knowing, treads, walks}
 use Rattle.monitor.proofs.Puts.{few-of}
 
 -- AND with x00FF.
@@ -68,7 +68,7 @@ high-byte w h = go (shifted 8 w 0) (both-double 8 w 0 w (omega arith) h)
     go : (r : ℕ) → (m : ℕ) × (m < 65536) × (r * 65536 + m ≡ doubled 8 w) → r ≡ w / 256
     go r (m, l, e) = omega arith
 
-abbrev uses : ℕ → Bool
+abbrev pub uses : ℕ → Bool
 uses = withVector 0x24 putspCode
 
 module _ (user : Bool) (s : Start) (x : Eight (s .machine .regs)) where
@@ -578,20 +578,26 @@ module _ (user : Bool) (s : Start) (x : Eight (s .machine .regs)) (mode : inUser
         look-at (looks user s x may allowed (all .r₃)) b (all .r₁) (all .r₂) (all .codes) (pairBytes words) (all .busy)
         user mode (all .few) 6 (stackOf (s .machine)) (allowed b ends)
 
-    returning : View
+    pub returning : View
     returning =
         steppedBy 6 (f user s x) (W user s x (all .r₃) b 0 (seen .r₂) 0x024B (from 0) (pairBytes words) (spent - 1))
 
-    at-return : AtReturn uses 6 user s returning
+    pub ends-there : Ends uses 6 user s returning
     unfolding returning computing
-    at-return = record { plan = refl; six = refl; pc = refl; psr = refl; fine = refl; going = refl }
+    ends-there = record {
+      returns = record { plan = refl; six = refl; pc = refl; psr = refl; fine = refl; going = refl };
+      own = refl;
+      pc-stored = refl;
+      psr-stored = refl;
+      depth = refl;
+    }
 
     restored : returning .regs
         ≡ x .r₀ ∷ x .r₁ ∷ x .r₂ ∷ x .r₃ ∷ x .r₄ ∷ x .r₅ ∷ (stackOf (s .machine) - 2) ∷ x .r₇ ∷ []
     unfolding returning computing
     restored = refl
 
-    same-registers : set (returning .regs) 6 (getD (s .machine .regs) 6 0) ≡ s .machine .regs
+    pub same-registers : set (returning .regs) 6 (getD (s .machine .regs) 6 0) ≡ s .machine .regs
     same-registers =
         ap (λ (l : List ℕ). set l 6 (getD (s .machine .regs) 6 0)) restored
         ∙ as-before (s .machine .regs) x (stackOf (s .machine) - 2)
@@ -600,16 +606,16 @@ module _ (user : Bool) (s : Start) (x : Eight (s .machine .regs)) (mode : inUser
     unfolding returning computing
     counted = runs-out (all .busy) (lookSteps user b) (all .few)
 
-    nothing-else : (returning .read ≡ 0) × (returning .status ≡ s .machine .devices .kbsr)
+    pub nothing-else : (returning .read ≡ 0) × (returning .status ≡ s .machine .devices .kbsr)
         × (returning .bytes ≡ pairBytes words)
     unfolding returning computing
     nothing-else = (refl, refl, refl)
 
     -- the steps between the trap and RTI
-    abbrev between : ℕ
+    abbrev pub between : ℕ
     between = 5 + pairsSteps user (r0 s) words + (lookSteps user b + 7)
 
-    way : Path (f user s x) may (begun s x 0x023D (next (s .machine .pc))) between returning
+    pub way : Path (f user s x) may (begun s x 0x023D (next (s .machine .pc))) between returning
     unfolding returning
     way =
         then to-look
@@ -692,7 +698,7 @@ module _ (user : Bool) (s : Start) (n : ℕ) (c : Calls 0x24 putspCode 6 user s 
       (routine-begins putspCode 6 user s n (j + 1) x 0x24 0x023D c (omega arith) quiet (omega arith) (omega arith)
       refl) in
       rw (all-steps, rest .2) at (comes-back uses 6 user s n j end (c .begins) (omega arith) quiet a
-      (at-return user s x mode few (mayReadOf user 6 s) (λ a h. h) words b string fit room ends zero-word)
+      (ends-there user s x mode few (mayReadOf user 6 s) (λ a h. h) words b string fit room ends zero-word .returns)
       (rw all-steps le) (s .machine .regs)
       (same-registers user s x mode few (mayReadOf user 6 s) (λ a h. h) words b string fit room ends zero-word) 0
       (counted user s x mode few (mayReadOf user 6 s) (λ a h. h) words b string fit room ends zero-word) (notRead s)
