@@ -136,223 +136,223 @@ before (joins w i j first second z) =
     }
 
 module _ {s : Start} {since bound : ℕ} (quiet : Quiet s since bound) (f : Frame) (sound : Sound f) (may : ℕ → Bool)
-    where
-  -- Where a run stands that began a way of n steps after j, and has made i of them; and the rest of the way to its end.
-  pub record Left (i n j : ℕ) (v′ : View) : Type 0 where
-    pub view : View
-    pub steps : ℕ
-    pub fewer : i + steps ≤ n
-    pub at : At s since (j + i) f view
-    pub kept : Kept f view
-    pub rest : Path f may view steps v′
+  where
+    -- Where a run stands that began a way of n steps after j, and has made i of them; and the rest of the way to its end.
+    pub record Left (i n j : ℕ) (v′ : View) : Type 0 where
+      pub view : View
+      pub steps : ℕ
+      pub fewer : i + steps ≤ n
+      pub at : At s since (j + i) f view
+      pub kept : Kept f view
+      pub rest : Path f may view steps v′
 
-  not-yet : {v v′ : View} {n : ℕ} → Path f may v n v′ → (i j : ℕ) → i ≡ 0 → Kept f v → At s since j f v → Left i n j v′
-  not-yet {v} {n = n} p i j z k a = record {
-    view = v;
-    steps = n;
-    fewer = omega arith;
-    at = (let y : j + i ≡ j = omega arith in rw y a);
-    kept = k;
-    rest = p;
-  }
+    not-yet : {v v′ : View} {n : ℕ} → Path f may v n v′ → (i j : ℕ) → i ≡ 0 → Kept f v → At s since j f v → Left i n j v′
+    not-yet {v} {n = n} p i j z k a = record {
+      view = v;
+      steps = n;
+      fewer = omega arith;
+      at = (let y : j + i ≡ j = omega arith in rw y a);
+      kept = k;
+      rest = p;
+    }
 
-  through : {v v′ : View} {n : ℕ} → Path f may v n v′ → (i j : ℕ) → i ≡ n → j + i ≤ bound → Kept f v → At s since j f v
-      → Left i n j v′
-  through {v′ = v′} {n = n} p i j z le k a = record {
-    view = v′;
-    steps = 0;
-    fewer = omega arith;
-    at = rw z (walks quiet f sound p .on (omega arith) a);
-    kept = keeps p k;
-    rest = stays refl refl;
-  }
+    through : {v v′ : View} {n : ℕ} → Path f may v n v′ → (i j : ℕ) → i ≡ n → j + i ≤ bound → Kept f v → At s since j f v
+        → Left i n j v′
+    through {v′ = v′} {n = n} p i j z le k a = record {
+      view = v′;
+      steps = 0;
+      fewer = omega arith;
+      at = rw z (walks quiet f sound p .on (omega arith) a);
+      kept = keeps p k;
+      rest = stays refl refl;
+    }
 
-  -- The same, counted from elsewhere.
-  counted : {i n j : ℕ} {v′ : View} (i′ n′ j′ : ℕ) → (l : Left i n j v′) → j + i ≡ j′ + i′ → i′ + n ≤ n′ + i
-      → Left i′ n′ j′ v′
-  counted i′ n′ j′ l z le = record {
-    view = l .view;
-    steps = l .steps;
-    fewer = omega (arith, l .fewer);
-    at = subst (λ (q : ℕ). At s since q f (l .view)) z (l .at);
-    kept = l .kept;
-    rest = l .rest;
-  }
+    -- The same, counted from elsewhere.
+    counted : {i n j : ℕ} {v′ : View} (i′ n′ j′ : ℕ) → (l : Left i n j v′) → j + i ≡ j′ + i′ → i′ + n ≤ n′ + i
+        → Left i′ n′ j′ v′
+    counted i′ n′ j′ l z le = record {
+      view = l .view;
+      steps = l .steps;
+      fewer = omega (arith, l .fewer);
+      at = subst (λ (q : ℕ). At s since q f (l .view)) z (l .at);
+      kept = l .kept;
+      rest = l .rest;
+    }
 
-  -- A way of one step, or of none.
-  short : {v v′ : View} {n : ℕ} → Path f may v n v′ → n ≤ 1 → (i j : ℕ) → i ≤ n → j + i ≤ bound → Kept f v
-      → At s since j f v → Left i n j v′
-  short {n = n} p few i j le fits k a = elim (decLe n i) [
-    | yes h ↦ through p i j (omega arith) fits k a
-    | no h ↦ not-yet p i j (omega arith) k a
-  ]
-
-  -- ---- the wait for the display
-
-  module _ (u : View) (going : u .mcr ≡ 0x8000) (fine : cellsFine (f .words) (u .cells) ≡ true) (r pc : ℕ)
-      (p : Polls f u r pc) where
-    abbrev ready : List ℕ → View
-    ready regs = within u (withRegister regs r 0x8000) (next (next pc)) (from 0x8000) 0
-
-    abbrev Waiting : ℕ → Type 0
-    Waiting busy = (regs : List ℕ) (c : Known) (i j : ℕ) → i ≤ waitSteps busy → j + i ≤ bound
-        → Kept f (within u regs pc c busy) → At s since j f (within u regs pc c busy)
-        → Left i (waitSteps busy) j (ready regs)
-
-    own : (usable f pc ≡ true) × (usable f (next pc) ≡ true)
-    own =
-        let outer = both-true (usable f pc) (usable f (next pc) && usable f (p .pointer)) (p .own) in
-        (outer .0, both-true (usable f (next pc)) (usable f (p .pointer)) (outer .1) .0)
-
-    -- BRzp, after LDI found this.
-    branch : (regs : List ℕ) (busy x to : ℕ)
-        → cond (isTaken 3 (codesFor (from x) (Br 3 (negsuc 1)))) pc (next (next pc)) ≡ to
-        → Path f may (within u regs (next pc) (from x) busy) 1 (within u regs to (from x) (busy - 1))
-    branch regs busy x to goes =
-        jumps {v = within u regs (next pc) (from x) busy} going fine (own .1) to
-        (p .branches regs (from x) busy ∙ ap (λ (a : ℕ). Jump a) goes) refl refl
-
-    -- LDI, one step.
-    polled : (regs : List ℕ) (c : Known) (busy x j : ℕ) → cond (eqb busy 0) 0x8000 0 ≡ x → j + 1 ≤ bound
-        → At s since j f (within u regs pc c busy)
-        → At s since (j + 1) f (within u (withRegister regs r x) (next pc) (from x) (busy - 1))
-    polled regs c busy x j finds le a =
-        let l : Leads s since bound f (within u regs pc c busy) 1 f
-        (within u (withRegister regs r x) (next pc) (from x) (busy - 1)) =
-        rw finds at (by-plan quiet f sound 0 (omega arith) (within u regs pc c busy) going fine (LoadBy r (p .pointer))
-        (p .loads regs c busy) (p .display)) in
-        l .on le a
-
-    whole : (busy : ℕ) (regs : List ℕ) (c : Known)
-        → Path f may (within u regs pc c busy) (waitSteps busy) (ready regs)
-    whole busy regs c = attends u going fine r pc p busy regs c refl refl refl
-
-    polled-kept : (regs : List ℕ) (c : Known) (busy x to busy′ : ℕ) → Kept f (within u regs pc c busy)
-        → Kept f (within u (withRegister regs r x) to (from x) busy′)
-    polled-kept regs c busy x to busy′ k =
-        other f (within u regs pc c busy) k r x (p .other) (within u (withRegister regs r x) to (from x) busy′) refl refl
-
-    waiting-zero : Waiting zero
-    unfolding waitSteps isTaken codesOf andBits
-    waiting-zero regs c i j le fits k a = elim (decLe 1 i) [
-      | no h ↦ not-yet (whole 0 regs c) i j (omega arith) k a
-      | yes h ↦ elim (decLe 2 i) [
-        | yes g ↦ through (whole 0 regs c) i j (omega arith) fits k a
-        | no g ↦ (
-            let z : j + i ≡ j + 1 = omega arith in
-            record {
-              view = within u (withRegister regs r 0x8000) (next pc) (from 0x8000) (0 - 1);
-              steps = 1;
-              fewer = omega arith;
-              at = rw z (polled regs c 0 0x8000 j refl (omega arith) a);
-              kept = polled-kept regs c 0 0x8000 (next pc) (0 - 1) k;
-              rest = branch (withRegister regs r 0x8000) (0 - 1) 0x8000 (next (next pc)) refl;
-            }
-            )
-      ]
+    -- A way of one step, or of none.
+    short : {v v′ : View} {n : ℕ} → Path f may v n v′ → n ≤ 1 → (i j : ℕ) → i ≤ n → j + i ≤ bound → Kept f v
+        → At s since j f v → Left i n j v′
+    short {n = n} p few i j le fits k a = elim (decLe n i) [
+      | yes h ↦ through p i j (omega arith) fits k a
+      | no h ↦ not-yet p i j (omega arith) k a
     ]
 
-    -- A turn that finds the display busy, and then the rest.
-    waiting-more : (busy left : ℕ) → left ≡ busy - 1 → waitSteps (suc busy) ≡ 2 + waitSteps left → Waiting left
-        → Waiting (suc busy)
-    unfolding isTaken codesOf andBits
-    waiting-more busy left e steps rest regs c i j le fits k a =
-        let found : cond {A = ℕ} (eqb (suc busy) 0) 0x8000 0 ≡ 0 =
-        ap (λ (b : Bool). cond {A = ℕ} b 0x8000 0) (ne-eqb (suc busy) 0 (λ q. absurd (omega arith))) in
-        let regs′ : List ℕ = withRegister regs r 0 in
-        let less : suc busy - 1 - 1 ≡ left = omega arith in
-        let same : withRegister regs′ r 0x8000 ≡ withRegister regs r 0x8000 = set-set regs (r % 8) 0 0x8000 in
-        let back : Path f may (within u regs′ (next pc) (from 0) (suc busy - 1)) 1 (within u regs′ pc (from 0) left) =
-        rw less at (branch regs′ (suc busy - 1) 0 pc refl) in
-        elim (decLe 1 i) [
-          | no h ↦ not-yet (whole (suc busy) regs c) i j (omega arith) k a
-          | yes h ↦ (
-              let b = polled regs c (suc busy) 0 j found (omega arith) a in
-              elim (decLe 2 i) [
-                | no g ↦ (
-                    let z : j + i ≡ j + 1 = omega arith in
-                    record {
-                      view = within u regs′ (next pc) (from 0) (suc busy - 1);
-                      steps = 1 + waitSteps left;
-                      fewer = omega arith;
-                      at = rw z b;
-                      kept = polled-kept regs c (suc busy) 0 (next pc) (suc busy - 1) k;
-                      rest = joins (within u regs′ pc (from 0) left) 1 (waitSteps left) back
-                          (subst (λ (l : List ℕ). Path f may (within u regs′ pc (from 0) left) (waitSteps left)
-                          (within u l (next (next pc)) (from 0x8000) 0)) same (whole left regs′ (from 0))) refl;
-                    }
-                    )
-                | yes g ↦ (
-                    let z : j + 1 + 1 + (i - 2) ≡ j + i = omega arith in
-                    let l : Left (i - 2) (waitSteps left) (j + 1 + 1) (ready regs′) = rest regs′ (from 0) (i - 2) (j + 1 + 1) (omega arith) (omega arith)
-                    (polled-kept regs c (suc busy) 0 pc left k)
-                    (walks quiet f sound back .on (omega arith) b) in
-                    subst (λ (rs : List ℕ). Left i (waitSteps (suc busy)) j
-                    (within u rs (next (next pc)) (from 0x8000) 0)) same
-                    (counted i (waitSteps (suc busy)) j l z (omega arith))
-                    )
-              ]
+    -- ---- the wait for the display
+
+    module _ (u : View) (going : u .mcr ≡ 0x8000) (fine : cellsFine (f .words) (u .cells) ≡ true) (r pc : ℕ)
+        (p : Polls f u r pc) where
+      abbrev ready : List ℕ → View
+      ready regs = within u (withRegister regs r 0x8000) (next (next pc)) (from 0x8000) 0
+
+      abbrev Waiting : ℕ → Type 0
+      Waiting busy = (regs : List ℕ) (c : Known) (i j : ℕ) → i ≤ waitSteps busy → j + i ≤ bound
+          → Kept f (within u regs pc c busy) → At s since j f (within u regs pc c busy)
+          → Left i (waitSteps busy) j (ready regs)
+
+      own : (usable f pc ≡ true) × (usable f (next pc) ≡ true)
+      own =
+          let outer = both-true (usable f pc) (usable f (next pc) && usable f (p .pointer)) (p .own) in
+          (outer .0, both-true (usable f (next pc)) (usable f (p .pointer)) (outer .1) .0)
+
+      -- BRzp, after LDI found this.
+      branch : (regs : List ℕ) (busy x to : ℕ)
+          → cond (isTaken 3 (codesFor (from x) (Br 3 (negsuc 1)))) pc (next (next pc)) ≡ to
+          → Path f may (within u regs (next pc) (from x) busy) 1 (within u regs to (from x) (busy - 1))
+      branch regs busy x to goes =
+          jumps {v = within u regs (next pc) (from x) busy} going fine (own .1) to
+          (p .branches regs (from x) busy ∙ ap (λ (a : ℕ). Jump a) goes) refl refl
+
+      -- LDI, one step.
+      polled : (regs : List ℕ) (c : Known) (busy x j : ℕ) → cond (eqb busy 0) 0x8000 0 ≡ x → j + 1 ≤ bound
+          → At s since j f (within u regs pc c busy)
+          → At s since (j + 1) f (within u (withRegister regs r x) (next pc) (from x) (busy - 1))
+      polled regs c busy x j finds le a =
+          let l : Leads s since bound f (within u regs pc c busy) 1 f
+          (within u (withRegister regs r x) (next pc) (from x) (busy - 1)) =
+          rw finds at (by-plan quiet f sound 0 (omega arith) (within u regs pc c busy) going fine (LoadBy r (p .pointer))
+          (p .loads regs c busy) (p .display)) in
+          l .on le a
+
+      whole : (busy : ℕ) (regs : List ℕ) (c : Known)
+          → Path f may (within u regs pc c busy) (waitSteps busy) (ready regs)
+      whole busy regs c = attends u going fine r pc p busy regs c refl refl refl
+
+      polled-kept : (regs : List ℕ) (c : Known) (busy x to busy′ : ℕ) → Kept f (within u regs pc c busy)
+          → Kept f (within u (withRegister regs r x) to (from x) busy′)
+      polled-kept regs c busy x to busy′ k =
+          other f (within u regs pc c busy) k r x (p .other) (within u (withRegister regs r x) to (from x) busy′) refl refl
+
+      waiting-zero : Waiting zero
+      unfolding waitSteps isTaken codesOf andBits
+      waiting-zero regs c i j le fits k a = elim (decLe 1 i) [
+        | no h ↦ not-yet (whole 0 regs c) i j (omega arith) k a
+        | yes h ↦ elim (decLe 2 i) [
+          | yes g ↦ through (whole 0 regs c) i j (omega arith) fits k a
+          | no g ↦ (
+              let z : j + i ≡ j + 1 = omega arith in
+              record {
+                view = within u (withRegister regs r 0x8000) (next pc) (from 0x8000) (0 - 1);
+                steps = 1;
+                fewer = omega arith;
+                at = rw z (polled regs c 0 0x8000 j refl (omega arith) a);
+                kept = polled-kept regs c 0 0x8000 (next pc) (0 - 1) k;
+                rest = branch (withRegister regs r 0x8000) (0 - 1) 0x8000 (next (next pc)) refl;
+              }
               )
         ]
+      ]
 
-    waiting-one : Waiting (suc zero)
-    waiting-one = waiting-more 0 0 refl (unfold waitSteps in refl) waiting-zero
+      -- A turn that finds the display busy, and then the rest.
+      waiting-more : (busy left : ℕ) → left ≡ busy - 1 → waitSteps (suc busy) ≡ 2 + waitSteps left → Waiting left
+          → Waiting (suc busy)
+      unfolding isTaken codesOf andBits
+      waiting-more busy left e steps rest regs c i j le fits k a =
+          let found : cond {A = ℕ} (eqb (suc busy) 0) 0x8000 0 ≡ 0 =
+          ap (λ (b : Bool). cond {A = ℕ} b 0x8000 0) (ne-eqb (suc busy) 0 (λ q. absurd (omega arith))) in
+          let regs′ : List ℕ = withRegister regs r 0 in
+          let less : suc busy - 1 - 1 ≡ left = omega arith in
+          let same : withRegister regs′ r 0x8000 ≡ withRegister regs r 0x8000 = set-set regs (r % 8) 0 0x8000 in
+          let back : Path f may (within u regs′ (next pc) (from 0) (suc busy - 1)) 1 (within u regs′ pc (from 0) left) =
+          rw less at (branch regs′ (suc busy - 1) 0 pc refl) in
+          elim (decLe 1 i) [
+            | no h ↦ not-yet (whole (suc busy) regs c) i j (omega arith) k a
+            | yes h ↦ (
+                let b = polled regs c (suc busy) 0 j found (omega arith) a in
+                elim (decLe 2 i) [
+                  | no g ↦ (
+                      let z : j + i ≡ j + 1 = omega arith in
+                      record {
+                        view = within u regs′ (next pc) (from 0) (suc busy - 1);
+                        steps = 1 + waitSteps left;
+                        fewer = omega arith;
+                        at = rw z b;
+                        kept = polled-kept regs c (suc busy) 0 (next pc) (suc busy - 1) k;
+                        rest = joins (within u regs′ pc (from 0) left) 1 (waitSteps left) back
+                            (subst (λ (l : List ℕ). Path f may (within u regs′ pc (from 0) left) (waitSteps left)
+                            (within u l (next (next pc)) (from 0x8000) 0)) same (whole left regs′ (from 0))) refl;
+                      }
+                      )
+                  | yes g ↦ (
+                      let z : j + 1 + 1 + (i - 2) ≡ j + i = omega arith in
+                      let l : Left (i - 2) (waitSteps left) (j + 1 + 1) (ready regs′) = rest regs′ (from 0) (i - 2) (j + 1 + 1) (omega arith) (omega arith)
+                      (polled-kept regs c (suc busy) 0 pc left k)
+                      (walks quiet f sound back .on (omega arith) b) in
+                      subst (λ (rs : List ℕ). Left i (waitSteps (suc busy)) j
+                      (within u rs (next (next pc)) (from 0x8000) 0)) same
+                      (counted i (waitSteps (suc busy)) j l z (omega arith))
+                      )
+                ]
+                )
+          ]
 
-    waiting-two : (busy : ℕ) → Waiting busy → Waiting (suc (suc busy))
-    waiting-two busy w = waiting-more (suc busy) busy (omega arith) (unfold waitSteps in refl) w
+      waiting-one : Waiting (suc zero)
+      waiting-one = waiting-more 0 0 refl (unfold waitSteps in refl) waiting-zero
 
-    pub waiting : (busy : ℕ) → Waiting busy
-    waiting zero = waiting-zero
-    waiting (suc zero) = waiting-one
-    waiting (suc (suc busy)) = waiting-two busy (waiting busy)
+      waiting-two : (busy : ℕ) → Waiting busy → Waiting (suc (suc busy))
+      waiting-two busy w = waiting-more (suc busy) busy (omega arith) (unfold waitSteps in refl) w
 
-  -- ---- the way
+      pub waiting : (busy : ℕ) → Waiting busy
+      waiting zero = waiting-zero
+      waiting (suc zero) = waiting-one
+      waiting (suc (suc busy)) = waiting-two busy (waiting busy)
 
-  awaiting : {v v′ : View} {n : ℕ} (u : View) → u .mcr ≡ 0x8000 → cellsFine (f .words) (u .cells) ≡ true → (r pc : ℕ)
-      → Polls f u r pc → (busy : ℕ) (regs : List ℕ) (c : Known) → within u regs pc c busy ≡ v
-      → within u (withRegister regs r 0x8000) (next (next pc)) (from 0x8000) 0 ≡ v′ → n ≡ waitSteps busy → (i j : ℕ)
-      → i ≤ n → j + i ≤ bound → Kept f v → At s since j f v → Left i n j v′
-  awaiting {v′ = v′} u going fine r pc p busy regs c first last z i j le fits k a =
-      subst (λ (n : ℕ). Left i n j v′) (sym z)
-      (subst (λ (x : View). Left i (waitSteps busy) j x) last
-      (waiting u going fine r pc p busy regs c i j (omega arith) fits (subst (λ (x : View). Kept f x) (sym first) k)
-      (subst (λ (x : View). At s since j f x) (sym first) a)))
+    -- ---- the way
 
-  both : {v w v′ : View} (n m : ℕ) → Path f may v n w → Path f may w m v′
-      → ((i j : ℕ) → i ≤ n → j + i ≤ bound → Kept f v → At s since j f v → Left i n j w)
-      → ((i j : ℕ) → i ≤ m → j + i ≤ bound → Kept f w → At s since j f w → Left i m j v′)
-      → (i j : ℕ) → i ≤ n + m → j + i ≤ bound → Kept f v → At s since j f v → Left i (n + m) j v′
-  both n m first second in-first in-second i j le fits k a = elim (decLe i n) [
-    | yes h ↦ (
-        let l = in-first i j h fits k a in
-        record {
-          view = l .view;
-          steps = l .steps + m;
-          fewer = omega (arith, l .fewer);
-          at = l .at;
-          kept = l .kept;
-          rest = joins _ (l .steps) m (l .rest) second refl;
-        }
-        )
-    | no h ↦ (
-        let z : j + n + (i - n) ≡ j + i = omega arith in
-        let l = in-second (i - n) (j + n) (omega arith) (omega arith) (keeps first k)
-        (walks quiet f sound first .on (omega arith) a) in
-        counted i (n + m) j l z (omega arith)
-        )
-  ]
+    awaiting : {v v′ : View} {n : ℕ} (u : View) → u .mcr ≡ 0x8000 → cellsFine (f .words) (u .cells) ≡ true → (r pc : ℕ)
+        → Polls f u r pc → (busy : ℕ) (regs : List ℕ) (c : Known) → within u regs pc c busy ≡ v
+        → within u (withRegister regs r 0x8000) (next (next pc)) (from 0x8000) 0 ≡ v′ → n ≡ waitSteps busy → (i j : ℕ)
+        → i ≤ n → j + i ≤ bound → Kept f v → At s since j f v → Left i n j v′
+    awaiting {v′ = v′} u going fine r pc p busy regs c first last z i j le fits k a =
+        subst (λ (n : ℕ). Left i n j v′) (sym z)
+        (subst (λ (x : View). Left i (waitSteps busy) j x) last
+        (waiting u going fine r pc p busy regs c i j (omega arith) fits (subst (λ (x : View). Kept f x) (sym first) k)
+        (subst (λ (x : View). At s since j f x) (sym first) a)))
 
-  pub leaves : {v v′ : View} {n : ℕ} → Path f may v n v′ → (i j : ℕ) → i ≤ n → j + i ≤ bound → Kept f v
-      → At s since j f v → Left i n j v′
-  leaves (stays e z) i j le fits k a = short (stays e z) (omega arith) i j le fits k a
-  leaves (knows c codes e z) i j le fits k a = short (knows c codes e z) (omega arith) i j le fits k a
-  leaves (makes room has-room k₀ steps calms e z) i j le fits k a =
-      short (makes room has-room k₀ steps calms e z) (omega arith) i j le fits k a
-  leaves (jumps going fine own pc plan e z) i j le fits k a =
-      short (jumps going fine own pc plan e z) (omega arith) i j le fits k a
-  leaves (fetches going fine own x w ok r plan is e z) i j le fits k a =
-      short (fetches going fine own x w ok r plan is e z) (omega arith) i j le fits k a
-  leaves (attends u going fine r pc p busy regs c first last z) i j le fits k a =
-      awaiting u going fine r pc p busy regs c first last z i j le fits k a
-  leaves {v′ = v′} (joins w n m first second z) i j le fits k a =
-      subst (λ (n : ℕ). Left i n j v′) z (both n m first second (leaves first) (leaves second) i j (omega arith) fits k a)
+    both : {v w v′ : View} (n m : ℕ) → Path f may v n w → Path f may w m v′
+        → ((i j : ℕ) → i ≤ n → j + i ≤ bound → Kept f v → At s since j f v → Left i n j w)
+        → ((i j : ℕ) → i ≤ m → j + i ≤ bound → Kept f w → At s since j f w → Left i m j v′)
+        → (i j : ℕ) → i ≤ n + m → j + i ≤ bound → Kept f v → At s since j f v → Left i (n + m) j v′
+    both n m first second in-first in-second i j le fits k a = elim (decLe i n) [
+      | yes h ↦ (
+          let l = in-first i j h fits k a in
+          record {
+            view = l .view;
+            steps = l .steps + m;
+            fewer = omega (arith, l .fewer);
+            at = l .at;
+            kept = l .kept;
+            rest = joins _ (l .steps) m (l .rest) second refl;
+          }
+          )
+      | no h ↦ (
+          let z : j + n + (i - n) ≡ j + i = omega arith in
+          let l = in-second (i - n) (j + n) (omega arith) (omega arith) (keeps first k)
+          (walks quiet f sound first .on (omega arith) a) in
+          counted i (n + m) j l z (omega arith)
+          )
+    ]
+
+    pub leaves : {v v′ : View} {n : ℕ} → Path f may v n v′ → (i j : ℕ) → i ≤ n → j + i ≤ bound → Kept f v
+        → At s since j f v → Left i n j v′
+    leaves (stays e z) i j le fits k a = short (stays e z) (omega arith) i j le fits k a
+    leaves (knows c codes e z) i j le fits k a = short (knows c codes e z) (omega arith) i j le fits k a
+    leaves (makes room has-room k₀ steps calms e z) i j le fits k a =
+        short (makes room has-room k₀ steps calms e z) (omega arith) i j le fits k a
+    leaves (jumps going fine own pc plan e z) i j le fits k a =
+        short (jumps going fine own pc plan e z) (omega arith) i j le fits k a
+    leaves (fetches going fine own x w ok r plan is e z) i j le fits k a =
+        short (fetches going fine own x w ok r plan is e z) (omega arith) i j le fits k a
+    leaves (attends u going fine r pc p busy regs c first last z) i j le fits k a =
+        awaiting u going fine r pc p busy regs c first last z i j le fits k a
+    leaves {v′ = v′} (joins w n m first second z) i j le fits k a =
+        subst (λ (n : ℕ). Left i n j v′) z (both n m first second (leaves first) (leaves second) i j (omega arith) fits k a)

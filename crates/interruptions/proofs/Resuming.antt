@@ -54,150 +54,150 @@ module _ (uses : ℕ → Bool) (words : ℕ) (user : Bool) (s : Start) (n : ℕ)
     (r : Start) (m : ℕ) (back : Returned s k below r) (accepted : admissionOf r m ≡ Accepted) (w : View)
     (a : At s 0 k (calledFrame uses words user s) w) (kept : Kept (calledFrame uses words user s) w)
     (fine : cellsFine words (w .cells) ≡ true) (deep : 0 < w .depth) (low : (x : ℕ) → uses x ≡ true → x < 0x02A5)
-    where
-  abbrev f : Frame
-  f = calledFrame uses words user s
+  where
+    abbrev f : Frame
+    f = calledFrame uses words user s
 
-  abbrev sp : ℕ
-  sp = stackOf (s .machine)
+    abbrev sp : ℕ
+    sp = stackOf (s .machine)
 
-  abbrev e : End
-  e = standingAt f w k (a .keys) (a .devices) (a .clock)
+    abbrev e : End
+    e = standingAt f w k (a .keys) (a .devices) (a .clock)
 
-  stands : callOf s k ≡ e
-  stands = call-stands a n (b .accepted) le
+    stands : callOf s k ≡ e
+    stands = call-stands a n (b .accepted) le
 
-  six : sixAfter s k ≡ sp - w .depth
-  six = ap (λ (x : End). getD (x .machine .regs) 6 0) stands ∙ kept .six deep
+    six : sixAfter s k ≡ sp - w .depth
+    six = ap (λ (x : End). getD (x .machine .regs) 6 0) stands ∙ kept .six deep
 
-  left-below : take (sp - w .depth - below) (r .memory) ≡ take (sp - w .depth - below) (memoryAt f w)
-  left-below =
-      subst (λ (x : End). take (sp - w .depth - below) (r .memory) ≡ take (sp - w .depth - below) (x .memory)) stands
-      (subst (λ (x : ℕ). take (x - below) (r .memory) ≡ take (x - below) (callOf s k .memory)) six (back .words-below))
+    left-below : take (sp - w .depth - below) (r .memory) ≡ take (sp - w .depth - below) (memoryAt f w)
+    left-below =
+        subst (λ (x : End). take (sp - w .depth - below) (r .memory) ≡ take (sp - w .depth - below) (x .memory)) stands
+        (subst (λ (x : ℕ). take (x - below) (r .memory) ≡ take (x - below) (callOf s k .memory)) six (back .words-below))
 
-  left-above : drop (sp - w .depth) (r .memory) ≡ drop (sp - w .depth) (memoryAt f w)
-  left-above =
-      subst (λ (x : End). drop (sp - w .depth) (r .memory) ≡ drop (sp - w .depth) (x .memory)) stands
-      (subst (λ (x : ℕ). drop x (r .memory) ≡ drop x (callOf s k .memory)) six (back .words-above))
+    left-above : drop (sp - w .depth) (r .memory) ≡ drop (sp - w .depth) (memoryAt f w)
+    left-above =
+        subst (λ (x : End). drop (sp - w .depth) (r .memory) ≡ drop (sp - w .depth) (x .memory)) stands
+        (subst (λ (x : ℕ). drop x (r .memory) ≡ drop x (callOf s k .memory)) six (back .words-above))
 
-  -- A word that is not the stack's, nor the interrupt's.
-  untouched : (x : ℕ) → (sp - (words + below) ≤ x → sp ≤ x) → getD (r .memory) x 0 ≡ getD (s .memory) x 0
-  untouched x outside = elim (decLe (sp - (words + below)) x) [
-    | yes h ↦ (
-        let high : sp ≤ x = outside h in
-        same-above (sp - w .depth - below) (sp - w .depth) (r .memory) (memoryAt f w) left-below left-above x
-        (omega arith)
-        ∙ other-word (b .stack) (s .memory) (w .cells) fine x (λ l. high)
-        )
-    | no h ↦
-        same-below (sp - w .depth - below) (sp - w .depth) (r .memory) (memoryAt f w) left-below left-above x
-        (omega (arith, kept .few, apart .above-monitor))
-        ∙ other-word (b .stack) (s .memory) (w .cells) fine x (λ l. absurd (omega (arith, apart .above-monitor)))
-  ]
+    -- A word that is not the stack's, nor the interrupt's.
+    untouched : (x : ℕ) → (sp - (words + below) ≤ x → sp ≤ x) → getD (r .memory) x 0 ≡ getD (s .memory) x 0
+    untouched x outside = elim (decLe (sp - (words + below)) x) [
+      | yes h ↦ (
+          let high : sp ≤ x = outside h in
+          same-above (sp - w .depth - below) (sp - w .depth) (r .memory) (memoryAt f w) left-below left-above x
+          (omega arith)
+          ∙ other-word (b .stack) (s .memory) (w .cells) fine x (λ l. high)
+          )
+      | no h ↦
+          same-below (sp - w .depth - below) (sp - w .depth) (r .memory) (memoryAt f w) left-below left-above x
+          (omega (arith, kept .few, apart .above-monitor))
+          ∙ other-word (b .stack) (s .memory) (w .cells) fine x (λ l. absurd (omega (arith, apart .above-monitor)))
+    ]
 
-  intact : Intact uses (r .memory)
-  intact = record {
-    words = λ x used.
-        let is-low : x < 0x02A5 = low x used in
-        untouched x (λ h. absurd (omega (arith, apart .above-monitor))) ∙ b .intact x used;
-    size = accepted-is-acceptable r m accepted .size;
-  }
+    intact : Intact uses (r .memory)
+    intact = record {
+      words = λ x used.
+          let is-low : x < 0x02A5 = low x used in
+          untouched x (λ h. absurd (omega (arith, apart .above-monitor))) ∙ b .intact x used;
+      size = accepted-is-acceptable r m accepted .size;
+    }
 
-  sound : Sound (beside f (r .memory) (r .output))
-  sound = record { above = omega arith; intact = intact; stack = b .stack }
+    sound : Sound (beside f (r .memory) (r .output))
+    sound = record { above = omega arith; intact = intact; stack = b .stack }
 
-  rest : Rest
-  rest = record {
-    cells = [];
-    bytes = [];
-    busy = r .machine .devices .busy;
-    read = 0;
-    status = r .machine .devices .kbsr;
-  }
+    rest : Rest
+    rest = record {
+      cells = [];
+      bytes = [];
+      busy = r .machine .devices .busy;
+      read = 0;
+      status = r .machine .devices .kbsr;
+    }
 
-  psr-is : r .machine .psr ≡ f .high * 8 + codesNumber (w .codes)
-  psr-is = back .psr ∙ ap (λ (x : End). x .machine .psr) stands
+    psr-is : r .machine .psr ≡ f .high * 8 + codesNumber (w .codes)
+    psr-is = back .psr ∙ ap (λ (x : End). x .machine .psr) stands
 
-  at-begin : At r 0 0 (beside f (r .memory) (r .output)) (twin w rest)
-  unfolding rest
-  at-begin =
-      let few = codes-below (w .codes) in
-      let high : r .machine .psr / 8 ≡ f .high = omega (arith, psr-is, few) in
-      let codes : codesNumber (w .codes) ≡ r .machine .psr % 8 = omega (arith, psr-is, few) in
-      let ssp : r .machine .«saved_ssp» ≡ f .ssp = back .saved-ssp ∙ ap (λ (x : End). x .machine .«saved_ssp») stands in
-      let usp : r .machine .«saved_usp» ≡ f .usp = back .saved-usp ∙ ap (λ (x : End). x .machine .«saved_usp») stands in
-      let regs : r .machine .regs ≡ w .regs = back .registers ∙ ap (λ (x : End). x .machine .regs) stands in
-      let pc : r .machine .pc ≡ w .pc = back .pc ∙ ap (λ (x : End). x .machine .pc) stands in
-      let mcr : r .machine .devices .mcr ≡ w .mcr = back .mcr ∙ ap (λ (x : End). x .machine .devices .mcr) stands in
-      subst (λ (g : Frame). At r 0 0 g (twin w rest))
-      (λ i. record {
-        uses = uses;
-        words = words;
-        sp = sp;
-        high = high i;
-        ssp = ssp i;
-        usp = usp i;
-        memory = r .memory;
-        output = r .output;
-      })
-      (subst (λ (v : View). At r 0 0 (startFrame uses words sp r) v)
-      (λ i. record {
-        regs = regs i;
-        pc = pc i;
-        codes = w .codes;
-        cells = [];
-        depth = w .depth;
-        bytes = [];
-        busy = r .machine .devices .busy;
-        mcr = mcr i;
-        read = 0;
-        status = r .machine .devices .kbsr;
-      })
-      (deepened (at-start-with uses words sp r m accepted 0 (w .codes) codes)))
-    where
-      deepened : At r 0 0 (startFrame uses words sp r) (startViewWith (w .codes) r)
-          → At r 0 0 (startFrame uses words sp r) (deeper (startViewWith (w .codes) r) (w .depth))
-      deepened q = record {
-        keys = q .keys;
-        devices = q .devices;
-        clock = q .clock;
-        ticks = q .ticks;
-        order = q .order;
-        equal = q .equal;
-        arrived-by = q .arrived-by;
-        read-before = q .read-before;
-        kbsr = q .kbsr;
-        kbdr = q .kbdr;
-        rest-of-status = q .rest-of-status;
-        status-below = q .status-below;
-        timer = q .timer;
-        stands = q .stands;
-        quiet = q .quiet;
-      }
+    at-begin : At r 0 0 (beside f (r .memory) (r .output)) (twin w rest)
+    unfolding rest
+    at-begin =
+        let few = codes-below (w .codes) in
+        let high : r .machine .psr / 8 ≡ f .high = omega (arith, psr-is, few) in
+        let codes : codesNumber (w .codes) ≡ r .machine .psr % 8 = omega (arith, psr-is, few) in
+        let ssp : r .machine .«saved_ssp» ≡ f .ssp = back .saved-ssp ∙ ap (λ (x : End). x .machine .«saved_ssp») stands in
+        let usp : r .machine .«saved_usp» ≡ f .usp = back .saved-usp ∙ ap (λ (x : End). x .machine .«saved_usp») stands in
+        let regs : r .machine .regs ≡ w .regs = back .registers ∙ ap (λ (x : End). x .machine .regs) stands in
+        let pc : r .machine .pc ≡ w .pc = back .pc ∙ ap (λ (x : End). x .machine .pc) stands in
+        let mcr : r .machine .devices .mcr ≡ w .mcr = back .mcr ∙ ap (λ (x : End). x .machine .devices .mcr) stands in
+        subst (λ (g : Frame). At r 0 0 g (twin w rest))
+        (λ i. record {
+          uses = uses;
+          words = words;
+          sp = sp;
+          high = high i;
+          ssp = ssp i;
+          usp = usp i;
+          memory = r .memory;
+          output = r .output;
+        })
+        (subst (λ (v : View). At r 0 0 (startFrame uses words sp r) v)
+        (λ i. record {
+          regs = regs i;
+          pc = pc i;
+          codes = w .codes;
+          cells = [];
+          depth = w .depth;
+          bytes = [];
+          busy = r .machine .devices .busy;
+          mcr = mcr i;
+          read = 0;
+          status = r .machine .devices .kbsr;
+        })
+        (deepened (at-start-with uses words sp r m accepted 0 (w .codes) codes)))
+      where
+        deepened : At r 0 0 (startFrame uses words sp r) (startViewWith (w .codes) r)
+            → At r 0 0 (startFrame uses words sp r) (deeper (startViewWith (w .codes) r) (w .depth))
+        deepened q = record {
+          keys = q .keys;
+          devices = q .devices;
+          clock = q .clock;
+          ticks = q .ticks;
+          order = q .order;
+          equal = q .equal;
+          arrived-by = q .arrived-by;
+          read-before = q .read-before;
+          kbsr = q .kbsr;
+          kbdr = q .kbdr;
+          rest-of-status = q .rest-of-status;
+          status-below = q .status-below;
+          timer = q .timer;
+          stands = q .stands;
+          quiet = q .quiet;
+        }
 
-  like : Like f (r .memory) (w .bytes) w rest
-  unfolding rest
-  like = record {
-    fine = refl;
-    bytes = sym (append-nil (w .bytes));
-    busy = subst (λ (x : End). r .machine .devices .busy ≤ x .machine .devices .busy) stands (back .display);
-    slots = λ i h d.
-        let most : i ≤ words = holds-fine words (w .cells) fine i h in
-        same-above (sp - w .depth - below) (sp - w .depth) (r .memory) (memoryAt f w) left-below left-above (sp - i)
-        (omega (arith, apart .above-monitor))
-        ∙ slot-with (b .stack) (s .memory) (accepted-is-acceptable s n (b .accepted) .size) (w .cells) fine i
-        (holds-least words (w .cells) fine i h) most;
-  }
+    like : Like f (r .memory) (w .bytes) w rest
+    unfolding rest
+    like = record {
+      fine = refl;
+      bytes = sym (append-nil (w .bytes));
+      busy = subst (λ (x : End). r .machine .devices .busy ≤ x .machine .devices .busy) stands (back .display);
+      slots = λ i h d.
+          let most : i ≤ words = holds-fine words (w .cells) fine i h in
+          same-above (sp - w .depth - below) (sp - w .depth) (r .memory) (memoryAt f w) left-below left-above (sp - i)
+          (omega (arith, apart .above-monitor))
+          ∙ slot-with (b .stack) (s .memory) (accepted-is-acceptable s n (b .accepted) .size) (w .cells) fine i
+          (holds-least words (w .cells) fine i h) most;
+    }
 
-  total : length (w .bytes) ≤ length (s .output) → length (s .output) ≡ length (w .bytes) + length (r .output)
-  total room =
-      let o : r .output ≡ drop (length (w .bytes)) (w .bytes ++ drop (length (w .bytes)) (s .output)) =
-      back .output ∙ ap (λ (x : End). drop (x .shown) (x .output)) stands in
-      let p = ap length o in
-      let q = length-drop (length (w .bytes)) (w .bytes ++ drop (length (w .bytes)) (s .output)) in
-      let u = length-append (w .bytes) (drop (length (w .bytes)) (s .output)) in
-      let t = length-drop (length (w .bytes)) (s .output) in
-      omega (arith, p, q, u, t)
+    total : length (w .bytes) ≤ length (s .output) → length (s .output) ≡ length (w .bytes) + length (r .output)
+    total room =
+        let o : r .output ≡ drop (length (w .bytes)) (w .bytes ++ drop (length (w .bytes)) (s .output)) =
+        back .output ∙ ap (λ (x : End). drop (x .shown) (x .output)) stands in
+        let p = ap length o in
+        let q = length-drop (length (w .bytes)) (w .bytes ++ drop (length (w .bytes)) (s .output)) in
+        let u = length-append (w .bytes) (drop (length (w .bytes)) (s .output)) in
+        let t = length-drop (length (w .bytes)) (s .output) in
+        omega (arith, p, q, u, t)
 
 -- ---- to the end
 

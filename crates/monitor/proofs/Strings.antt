@@ -23,7 +23,7 @@ user-address a h =
     let both = or-is-false (ltb a 0x3000) (leb 0xFE00 a) h in
     (ltb-false a 0x3000 (both .0), leb-false 0xFE00 a (both .1))
 
-is-not : (b : Bool) → not b ≡ true → b ≡ false
+pub is-not : (b : Bool) → not b ≡ true → b ≡ false
 is-not true e = sym e
 is-not false e = refl
 
