@@ -60,7 +60,7 @@ pub extern "C" fn lc3_save(
     ensures { λ r. ⌜ hostSaving r (now (output .exit))
         ≡ saveOf (now (memory .entry)) origin words (now (output .entry)) ⌝ }
 {
-    let saved = object::save(memory, origin, words, output);
+    let saved = loader::save(memory, origin, words, output);
     Lc3Counted {
         count: saved.count as u64,
         refusal: saved.refusal as u32,

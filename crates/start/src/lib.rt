@@ -18,7 +18,7 @@ pub fn start(file: &[u8], memory: &mut [u16], user: bool, stack: u16) -> Started
     ensures { λ r. ⌜ starting r (now (memory .exit))
         ≡ startedOf (now (file .entry)) (now (memory .entry)) user stack ⌝ }
 {
-    let loaded = object::load(file, memory);
+    let loaded = loader::load(file, memory);
     let machine = records::record_by(loaded.refusal, loaded.origin, user, stack);
     Started {
         machine,

@@ -21,11 +21,11 @@ fn is_outside(origin: u16, words: usize) -> bool
 pub fn user_refusal(file: &[u8], memory: &[u16]) -> u8
     ensures { λ r. ⌜ r ≡ userRefusal (now (file .entry)) (now (memory .entry)) ⌝ }
 {
-    let refusal = object::refusals::load_refusal(file, memory);
+    let refusal = loader::refusals::load_refusal(file, memory);
     if refusal != 0 {
         return refusal;
     }
-    let origin = object::words::word(file[0], file[1]);
+    let origin = loader::words::word(file[0], file[1]);
     if is_outside(origin, file.len() / 2 - 1) {
         return 21;
     }

@@ -1,4 +1,4 @@
--- `object::words::read_words` meets its contract: between two turns of the loop, the words read and the bytes still to
+-- `loader::words::read_words` meets its contract: between two turns of the loop, the words read and the bytes still to
 -- come make the whole.
 use Prim.Native.Nat.{_+_, _*_, _-_}
 use native.Mathlib.Omega.{arith}
@@ -6,10 +6,10 @@ use mathlib.Core.Path.{_≡_, refl, _∙_}
 use mathlib.Core.List.{_++_}
 use lib.ListN.{length, getD, take, drop, length-set}
 use borrow.Author.Needs.{needs}
 use Rattle.object.specs.File.{word, wordsOf}
 use Rattle.object.proofs.WordLaws.{one-word-read, all-words-read}
-use Rattle.object.proofs.words.read_words.Statement.{statement}
-use Rattle.object.proofs.words.read_words.Tie as tie
+use Rattle.loader.proofs.words.read_words.Statement.{statement}
+use Rattle.loader.proofs.words.read_words.Tie as tie
 
 abbrev Inv-loop : tie.InvT-loop
 Inv-loop bytes words₀ k₀ words k = (take k words ++ wordsOf (drop (2 * k) bytes) ≡ wordsOf bytes) ×

@@ -1,14 +1,14 @@
--- `object::words::write_words` meets its contract: between two turns of the loop, the bytes written and the words still
+-- `loader::words::write_words` meets its contract: between two turns of the loop, the bytes written and the words still
 -- to come make the whole.
 use Prim.Native.Nat.{_*_, _-_}
 use mathlib.Core.Path.{_≡_, refl, _∙_}
 use mathlib.Core.List.{_++_}
 use lib.ListN.{length, take, drop, length-set}
 use borrow.Author.Needs.{needs}
 use Rattle.object.specs.File.{bytesOf}
 use Rattle.object.proofs.WordLaws.{one-word-written, all-words-written}
-use Rattle.object.proofs.words.write_words.Statement.{statement}
-use Rattle.object.proofs.words.write_words.Tie as tie
+use Rattle.loader.proofs.words.write_words.Statement.{statement}
+use Rattle.loader.proofs.words.write_words.Tie as tie
 
 abbrev Inv-loop : tie.InvT-loop
 Inv-loop words bytes₀ k₀ bytes k = (take (2 * k) bytes ++ bytesOf (drop k words) ≡ bytesOf words) ×

@@ -1,9 +1,9 @@
--- `object::load_accepted` meets its contract: the words are read into their part of memory, which comes back in its
+-- `loader::load_accepted` meets its contract: the words are read into their part of memory, which comes back in its
 -- place.
 use Rattle.object.proofs.CallLaws.{words-in-place}
 use borrow.Author.Needs.{needs}
-use Rattle.object.proofs.load_accepted.Statement.{statement}
-use Rattle.object.proofs.load_accepted.Tie as tie
+use Rattle.loader.proofs.load_accepted.Statement.{statement}
+use Rattle.loader.proofs.load_accepted.Tie as tie
 
 returns : tie.Need-returns
 returns c =

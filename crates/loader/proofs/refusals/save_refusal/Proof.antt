@@ -1,13 +1,13 @@
--- `object::refusals::save_refusal` meets its contract: each test fails or holds as the definition's does, in the same
+-- `loader::refusals::save_refusal` meets its contract: each test fails or holds as the definition's does, in the same
 -- order.
 use Prim.Native.Nat.{_+_, _*_, _≤_}
 use lib.ListN.{length}
 use borrow.Author.Tests.{eq-eqb, ne-eqb, lt-ltb, le-ltb}
 use borrow.Author.Needs.{needs}
 use Rattle.object.specs.Calls.{wrongSize, beyondMemory, tooShort, saveRefusal}
 use Rattle.object.proofs.Acceptance.{file-length}
-use Rattle.object.proofs.refusals.save_refusal.Statement.{statement}
-use Rattle.object.proofs.refusals.save_refusal.Tie as tie
+use Rattle.loader.proofs.refusals.save_refusal.Statement.{statement}
+use Rattle.loader.proofs.refusals.save_refusal.Tie as tie
 
 returns : tie.Need-returns
 unfolding saveRefusal wrongSize beyondMemory tooShort

@@ -1,7 +1,7 @@
--- `object::words::put_pair` meets its contract: the two stores are those that it names.
+-- `loader::words::put_pair` meets its contract: the two stores are those that it names.
 use borrow.Author.Needs.{needs}
-use Rattle.object.proofs.words.put_pair.Statement.{statement}
-use Rattle.object.proofs.words.put_pair.Tie as tie
+use Rattle.loader.proofs.words.put_pair.Statement.{statement}
+use Rattle.loader.proofs.words.put_pair.Tie as tie
 
 returns : tie.Need-returns
 returns c = rw (c .before .low .ensures, c .high .ensures)

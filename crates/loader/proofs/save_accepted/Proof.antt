@@ -1,10 +1,10 @@
--- `object::save_accepted` meets its contract: the bytes are written to their part of the output, which comes back in
+-- `loader::save_accepted` meets its contract: the bytes are written to their part of the output, which comes back in
 -- its place.
 use lib.ListN.{length-set}
 use Rattle.object.proofs.CallLaws.{file-in-place, same-length-out}
 use borrow.Author.Needs.{needs}
-use Rattle.object.proofs.save_accepted.Statement.{statement}
-use Rattle.object.proofs.save_accepted.Tie as tie
+use Rattle.loader.proofs.save_accepted.Statement.{statement}
+use Rattle.loader.proofs.save_accepted.Tie as tie
 
 slice-write-output-2 : tie.Need-slice-write-output-2
 slice-write-output-2 c =

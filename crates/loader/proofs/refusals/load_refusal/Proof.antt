@@ -1,11 +1,11 @@
--- `object::refusals::load_refusal` meets its contract: each test fails or holds as the definition's does, in the same
+-- `loader::refusals::load_refusal` meets its contract: each test fails or holds as the definition's does, in the same
 -- order.
 use borrow.Author.Tests.{eq-eqb, ne-eqb, lt-ltb, le-ltb}
 use borrow.Author.Needs.{needs}
 use Rattle.object.specs.Calls.{wrongSize, wrongLength, beyondMemory, loadRefusal}
 use Rattle.object.proofs.Acceptance.{words-in}
-use Rattle.object.proofs.refusals.load_refusal.Statement.{statement}
-use Rattle.object.proofs.refusals.load_refusal.Tie as tie
+use Rattle.loader.proofs.refusals.load_refusal.Statement.{statement}
+use Rattle.loader.proofs.refusals.load_refusal.Tie as tie
 
 returns : tie.Need-returns
 unfolding loadRefusal wrongSize wrongLength beyondMemory

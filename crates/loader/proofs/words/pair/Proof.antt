@@ -1,8 +1,8 @@
--- `object::words::pair` meets its contract: its low byte is below 256, as every byte is.
+-- `loader::words::pair` meets its contract: its low byte is below 256, as every byte is.
 use native.Mathlib.Omega.{arith}
 use borrow.Author.Needs.{needs}
-use Rattle.object.proofs.words.pair.Statement.{statement}
-use Rattle.object.proofs.words.pair.Tie as tie
+use Rattle.loader.proofs.words.pair.Statement.{statement}
+use Rattle.loader.proofs.words.pair.Tie as tie
 
 returns : tie.Need-returns
 returns c =

@@ -1,11 +1,11 @@
--- `object::load` meets its contract: the tests answer as the definition does, and an accepted file is a callee's.
+-- `loader::load` meets its contract: the tests answer as the definition does, and an accepted file is a callee's.
 use mathlib.Core.Path.{_≡_, sym, _∙_}
 use Rattle.object.specs.Calls.{loadRefusal, loadBy, loadOf}
 use Rattle.object.proofs.Acceptance.{accepted-is-readable}
 use Rattle.object.proofs.CallLaws.{loading-turned-away}
 use borrow.Author.Needs.{needs}
-use Rattle.object.proofs.load.Statement.{statement}
-use Rattle.object.proofs.load.Tie as tie
+use Rattle.loader.proofs.load.Statement.{statement}
+use Rattle.loader.proofs.load.Tie as tie
 
 returns : tie.Need-returns
 unfolding loadOf

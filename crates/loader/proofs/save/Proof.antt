@@ -1,11 +1,11 @@
--- `object::save` meets its contract: the tests answer as the definition does, and an accepted range is a callee's.
+-- `loader::save` meets its contract: the tests answer as the definition does, and an accepted range is a callee's.
 use mathlib.Core.Path.{_≡_, sym, _∙_}
 use Rattle.object.specs.Calls.{saveRefusal, saveBy, saveOf}
 use Rattle.object.proofs.Acceptance.{accepted-is-writable}
 use Rattle.object.proofs.CallLaws.{saving-turned-away}
 use borrow.Author.Needs.{needs}
-use Rattle.object.proofs.save.Statement.{statement}
-use Rattle.object.proofs.save.Tie as tie
+use Rattle.loader.proofs.save.Statement.{statement}
+use Rattle.loader.proofs.save.Tie as tie
 
 returns : tie.Need-returns
 unfolding saveOf
