@@ -69,9 +69,10 @@ same-size-stays mem₁ mem₂ a v l = rw (length-set mem₁ a v, length-set mem�
 -- ---- the parts of a step
 
 module _ (edition : Edition) (mem₁ mem₂ : List ℕ) (l : length mem₁ ≡ length mem₂) where
-  -- Where the memories agree at all that the first outcome reads, both outcomes have the same effect.
-  abbrev Follows : Outcome → Outcome → Type 0
-  Follows o₁ o₂ = Each (SameWordAt mem₁ mem₂) (o₁ .reads) → SameEffect mem₁ mem₂ o₁ o₂
+  -- Where the memories agree at all that the first outcome reads, both outcomes have the same effect. A record, so that
+  -- the prover compares two of them by their outcomes, and does not open these.
+  record Follows (o₁ o₂ : Outcome) : Type 0 where
+    follows : Each (SameWordAt mem₁ mem₂) (o₁ .reads) → SameEffect mem₁ mem₂ o₁ o₂
 
   -- The same of what is done to the one memory and to the other.
   abbrev Followed : (List ℕ → Outcome) → Type 0
@@ -98,50 +99,54 @@ module _ (edition : Edition) (mem₁ mem₂ : List ℕ) (l : length mem₁ ≡ l
   }
 
   plain-follows : (m : Machine) → Followed (plainOutcome m)
-  plain-follows m e = memory-kept refl
+  plain-follows m = record { follows = λ e. memory-kept refl }
 
   -- What is read first may be used for what comes after.
   after-reads : (addresses : List ℕ) (o₁ o₂ : Outcome) → (Each (SameWordAt mem₁ mem₂) addresses → Follows o₁ o₂)
       → Follows (withReads addresses o₁) (withReads addresses o₂)
   unfolding withReads
-  after-reads addresses o₁ o₂ f e =
-      let same : ℕ → Type 0 = SameWordAt mem₁ mem₂ in
-      let s : SameEffect mem₁ mem₂ o₁ o₂ =
-      f (each-of-first same addresses (o₁ .reads) e) (each-of-second same addresses (o₁ .reads) e) in
-      record {
-        machine = s .machine;
-        shown = s .shown;
-        cause = s .cause;
-        reads = rw (s .reads);
-        writes = s .writes;
-        size = s .size;
-        kept = s .kept;
-        written = s .written;
-      }
+  after-reads addresses o₁ o₂ f = record {
+    follows = λ e.
+        let same : ℕ → Type 0 = SameWordAt mem₁ mem₂ in
+        let s : SameEffect mem₁ mem₂ o₁ o₂ =
+        f (each-of-first same addresses (o₁ .reads) e) .follows (each-of-second same addresses (o₁ .reads) e) in
+        record {
+          machine = s .machine;
+          shown = s .shown;
+          cause = s .cause;
+          reads = rw (s .reads);
+          writes = s .writes;
+          size = s .size;
+          kept = s .kept;
+          written = s .written;
+        };
+  }
 
   entry-follows : (reason : Reason) (pc psr : ℕ) (m : Machine) → Followed (entry reason pc psr m)
   unfolding entry pushed afterEntry
-  entry-follows reason pc psr m e =
-      let a : ℕ = before (stackPointerOnEntry m) in
-      let b : ℕ = before a in
-      let n₁ : List ℕ = set mem₁ a (m .psr) in
-      let n₂ : List ℕ = set mem₂ a (m .psr) in
-      let k : length (set mem₁ a (m .psr)) ≡ length (set mem₂ a (m .psr)) = same-size-stays mem₁ mem₂ a (m .psr) l in
-      let stays : (c : ℕ) → SameWordAt mem₁ mem₂ c → SameWordAt (set n₁ b pc) (set n₂ b pc) c =
-      λ c s. same-word-stays n₁ n₂ b pc c k (same-word-stays mem₁ mem₂ a (m .psr) c l s) in
-      record {
-        machine = rw (stays (vectorOf reason) (e .0));
-        shown = refl;
-        cause = refl;
-        reads = refl;
-        writes = refl;
-        size = same-size-stays n₁ n₂ b pc k;
-        kept = stays;
-        written = (
-          same-word-stays n₁ n₂ b pc a k (stored-word-agrees mem₁ mem₂ a (m .psr) l),
-          (stored-word-agrees n₁ n₂ b pc k, tt),
-        );
-      }
+  entry-follows reason pc psr m = record {
+    follows = λ e.
+        let a : ℕ = before (stackPointerOnEntry m) in
+        let b : ℕ = before a in
+        let n₁ : List ℕ = set mem₁ a (m .psr) in
+        let n₂ : List ℕ = set mem₂ a (m .psr) in
+        let k : length (set mem₁ a (m .psr)) ≡ length (set mem₂ a (m .psr)) = same-size-stays mem₁ mem₂ a (m .psr) l in
+        let stays : (c : ℕ) → SameWordAt mem₁ mem₂ c → SameWordAt (set n₁ b pc) (set n₂ b pc) c =
+        λ c s. same-word-stays n₁ n₂ b pc c k (same-word-stays mem₁ mem₂ a (m .psr) c l s) in
+        record {
+          machine = rw (stays (vectorOf reason) (e .0));
+          shown = refl;
+          cause = refl;
+          reads = refl;
+          writes = refl;
+          size = same-size-stays n₁ n₂ b pc k;
+          kept = stays;
+          written = (
+            same-word-stays n₁ n₂ b pc a k (stored-word-agrees mem₁ mem₂ a (m .psr) l),
+            (stored-word-agrees n₁ n₂ b pc k, tt),
+          );
+        };
+  }
 
   raised-follows : (reason : Reason) (pc : ℕ) (m : Machine) → Followed (raised reason pc m)
   unfolding raised
@@ -164,7 +169,8 @@ module _ (edition : Edition) (mem₁ mem₂ : List ℕ) (l : length mem₁ ≡ l
 
   load-follows : (r a : ℕ) (m : Machine) → Followed (loadToBy edition r a m)
   unfolding loadToBy
-  load-follows r a m = checked-follows a m (λ e. memory-kept (rw (loaded-value-follows a m e)))
+  load-follows r a m =
+      checked-follows a m (record { follows = λ e. memory-kept (rw (loaded-value-follows a m e)) })
 
   device-follows : (v a : ℕ) (m : Machine) → Followed (deviceStore v a m)
   unfolding deviceStore ddrStore
@@ -172,7 +178,7 @@ module _ (edition : Edition) (mem₁ mem₂ : List ℕ) (l : length mem₁ ≡ l
       either (eqb a KBSR) (plain-follows _)
       (either (eqb a KBDR) (plain-follows _)
       (either (eqb a DSR) (plain-follows _)
-      (either (eqb a DDR) (λ e. memory-kept refl)
+      (either (eqb a DDR) (record { follows = λ e. memory-kept refl })
       (either (eqb a TSR) (plain-follows _)
       (either (eqb a TIR) (plain-follows _)
       (either (eqb a PSR) (plain-follows _) (plain-follows _)))))))
@@ -181,15 +187,17 @@ module _ (edition : Edition) (mem₁ mem₂ : List ℕ) (l : length mem₁ ≡ l
   unfolding storedBy
   stored-follows v a m =
       either (isDeviceBy edition a) (device-follows v a m)
-      (λ e. record {
-        machine = refl;
-        shown = refl;
-        cause = refl;
-        reads = refl;
-        writes = refl;
-        size = same-size-stays mem₁ mem₂ a v l;
-        kept = λ b s. same-word-stays mem₁ mem₂ a v b l s;
-        written = (stored-word-agrees mem₁ mem₂ a v l, tt);
+      (record {
+        follows = λ e. record {
+          machine = refl;
+          shown = refl;
+          cause = refl;
+          reads = refl;
+          writes = refl;
+          size = same-size-stays mem₁ mem₂ a v l;
+          kept = λ b s. same-word-stays mem₁ mem₂ a v b l s;
+          written = (stored-word-agrees mem₁ mem₂ a v l, tt);
+        };
       })
 
   store-follows : (v a : ℕ) (m : Machine) → Followed (storeAtBy edition v a m)
@@ -207,7 +215,7 @@ module _ (edition : Edition) (mem₁ mem₂ : List ℕ) (l : length mem₁ ≡ l
 
   popped-follows : (sp : ℕ) (m : Machine) → Followed (popped sp m)
   unfolding popped
-  popped-follows sp m e = memory-kept (rw (e .0, e .1 .0))
+  popped-follows sp m = record { follows = λ e. memory-kept (rw (e .0, e .1 .0)) }
 
   return-follows : (m : Machine) → Followed (return m)
   unfolding return
@@ -217,7 +225,7 @@ module _ (edition : Edition) (mem₁ mem₂ : List ℕ) (l : length mem₁ ≡ l
   trapped-follows : (e : Edition) (vector : ℕ) (m : Machine) → Followed (trapped e vector m)
   unfolding linked
   trapped-follows third vector m = raised-follows (trap vector) _ m
-  trapped-follows second vector m = λ e. memory-kept (rw (e .0))
+  trapped-follows second vector m = record { follows = λ e. memory-kept (rw (e .0)) }
 
   plan-follows : (p : Plan) (m : Machine) → Followed (performBy edition p m)
   unfolding performBy
@@ -247,21 +255,23 @@ module _ (edition : Edition) (mem₁ mem₂ : List ℕ) (l : length mem₁ ≡ l
 
   end-follows : (o₁ o₂ : Outcome) → Follows o₁ o₂ → Follows (ended o₁) (ended o₂)
   unfolding ended
-  end-follows o₁ o₂ f e =
-      let s : SameEffect mem₁ mem₂ o₁ o₂ = f e in
-      record {
-        machine = rw (s .machine, s .shown);
-        shown = s .shown;
-        cause = s .cause;
-        reads = s .reads;
-        writes = s .writes;
-        size = s .size;
-        kept = s .kept;
-        written = s .written;
-      }
+  end-follows o₁ o₂ f = record {
+    follows = λ e.
+        let s : SameEffect mem₁ mem₂ o₁ o₂ = f .follows e in
+        record {
+          machine = rw (s .machine, s .shown);
+          shown = s .shown;
+          cause = s .cause;
+          reads = s .reads;
+          writes = s .writes;
+          size = s .size;
+          kept = s .kept;
+          written = s .written;
+        };
+  }
 
 pub step-reads : (edition : Edition) → StepReadsBy edition
 unfolding stepBy
 step-reads edition keys m mem₁ mem₂ l =
     let n : Machine = afterStart keys m in
-    end-follows edition mem₁ mem₂ l _ _ (either-follows edition mem₁ mem₂ l (pendingInterrupt n) n)
+    end-follows edition mem₁ mem₂ l _ _ (either-follows edition mem₁ mem₂ l (pendingInterrupt n) n) .follows
