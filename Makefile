@@ -21,7 +21,7 @@ ARCHIVES = $(EXPORTS:%=target/staticlib/lib%.a)
 # The crates that they rest on.
 BELOW := $(sort $(foreach name,$(EXPORTS),$(shell sed -n 's/^$(name)://p' crates.txt)))
 # How many crates rt proves at a time, or wrong programs it tries. It waits for all of them before it begins the next
-# ones, so that four keep two cores busier than two would, and six busier still; each takes up to 1.4 GB.
+# ones, so that four keep two cores busier than two would, and six busier still; each takes up to 1.8 GB.
 export RT_JOBS ?= $(shell awk '/^MemTotal:/ { print ($$2 < 12000000) ? 4 : 6 }' /proc/meminfo)
 # The prover's allocator, mimalloc, is to keep the memory that it has freed, and not to give it back in the meantime: a
 # check takes less time by that, and little more memory.
