@@ -16,7 +16,7 @@ from tests.table_test import KINDS, NUMBERED, State, Test, Value
 
 AT, SIZE, LOWEST = 0x0210, 0x0230, 0x2FF0
 OWN = range(0x0220, 0x0228)
-POINTERS = [0xFE06, 0xFFFE, 0xFE02, 0x0200, 0x0221, 0x2FF5, 0x2FFE, 0x2FFF, 0x3000, 0x0FFF]
+POINTERS = [0xFE06, 0xFFFE, 0xFE02, 0x0221, LOWEST - 1, LOWEST, 0x2FF5, 0x2FFE, 0x2FFF, 0x3000]
 NUMBERS = [0, 1, 0x0200, 0x5000, 0x7FFF, 0x8000, 0x8200, 0xD000, 0xFFFF, AT, AT + 5, *POINTERS]
 
 # Every vector leads to an RTI, before the instruction or behind it; some words behind it are
@@ -58,6 +58,8 @@ def instruction(rng: random.Random) -> int:
     """A word, mostly with an offset that leads to a word of the monitor."""
     opcode = rng.randrange(16)
     low = rng.getrandbits(12)
+    if opcode in (1, 2, 5, 6, 9, 10, 14) and rng.random() < 0.4:
+        low &= 0x01FF  # R0, of which other values may be told
     if opcode in (0, 2, 3, 10, 11, 14) and rng.random() < 0.9:
         low = low & 0x0E00 | rng.randrange(32)
     elif opcode == 4 and low & 0x0800 and rng.random() < 0.9:
@@ -83,11 +85,16 @@ def before(rng: random.Random, word: int, watched: list[int]) -> State:
     return State(tuple(regs), value(rng), tuple(words))
 
 
-def altered(rng: random.Random, state: State) -> State:
-    """A state with another value, or one that says less."""
-    values = [*state.regs, state.codes, *state.words]
-    values[rng.randrange(17)] = rng.choice([ANY, ("unset", 0), value(rng)])
-    return State(tuple(values[:8]), values[8], tuple(values[9:]))
+def altered(rng: random.Random, state: State, was: State) -> State:
+    """A state with another value: most often the one before the instruction that changed it."""
+    old, new = ([*one.regs, one.codes, *one.words] for one in (was, state))
+    changed = [at for at in range(17) if old[at] != new[at]]
+    if changed and rng.random() < 0.7:
+        at = rng.choice(changed)
+        new[at] = old[at]
+    else:
+        new[rng.randrange(17)] = rng.choice([ANY, ("unset", 0), value(rng)])
+    return State(tuple(new[:8]), new[8], tuple(new[9:]))
 
 
 def claim(memory: list[int], watched: list[int], rows: dict[int, list[State]]) -> Certificate:
@@ -119,6 +126,6 @@ def claims(rng: random.Random, count: int) -> Iterator[Certificate]:
         asked.harmless(AT, word, state)
         rows = {BEFORE: [ENTRY], AT: [state], BEHIND: [ENTRY]}
         for pc, after in asked.states:
-            there = altered(rng, after) if rng.random() < 0.5 else after
+            there = altered(rng, after, state) if rng.random() < 0.5 else after
             rows.setdefault(pc, []).append(there)
         yield claim(memory, watched, rows)

@@ -359,7 +359,7 @@ def write(path: str, sittings: int) -> None:
         put_starts(out, memory, 500)
         put_pages(out, memory, 500)
         put_monitor(out, 200)
-        put_claims(out, 400, 8000)
+        put_claims(out, 400, 12000)
         put_formats(out)
         put_places(out, 500)
         for number in range(sittings):

@@ -31,6 +31,13 @@ const ENDS = {
     answers: ["The first answer is:\n", "stopped by the access exception; 339 steps; PC x3002: LDI R0, #2"],
 };
 
+// Tells which parts of a section do not lie inside of it, with the pixels by which they do not.
+const OUTSIDE = `(name, parts) => { const section = document.querySelector(name), box = section.getBoundingClientRect();
+    const by = (at) => Math.max(at.right - box.right, at.bottom - box.bottom, box.left - at.left, box.top - at.top);
+    const found = [...section.querySelectorAll(parts)].filter((part) => part.checkVisibility());
+    return found.map((part) => [part.id || part.textContent, by(part.getBoundingClientRect())])
+        .filter(([, pixels]) => pixels > 0); }`;
+
 // Programs, and what is told of the first step of each.
 const NEXT = [
     ["LD R2, #1", /LD loads the word at x3002, x0000, into R2\. The codes become Z\./],
@@ -439,9 +446,21 @@ const TESTS = {
     async "it fits a phone"() {
         await b.size(390, 844, true);
         await open("hello");
+        await change("r-R7", "x8000"); // #-32768, the widest number
         ok((await b.run("return document.documentElement.scrollWidth")) <= 390);
+        deepEqual(await b.run(`return (${OUTSIDE})('.machine', '.register output, dd, code')`), []);
         await b.click("#run");
         await until("halted by HALT");
+        await b.cdp("Emulation.clearDeviceMetricsOverride");
+    },
+    async "on a low screen nothing is cut off that is needed"() {
+        await b.size(1366, 640);
+        await open("echo");
+        await b.type("#keys", "To be");
+        deepEqual(await b.run(`return (${OUTSIDE})('.console', '#keys, #waiting-keys')`), []);
+        await write("x3000\nADD R0, R0, #77\n");
+        deepEqual(await b.run(`return (${OUTSIDE})('.log', '#source-view, #source-errors, #source-help')`), []);
+        await b.click("#clear-program");
         await b.cdp("Emulation.clearDeviceMetricsOverride");
     },
     async "the browser's own engine makes runs of the reference"() {
