@@ -125,13 +125,19 @@ certifies-what-passes memory kinds lowest watched ends table =
 
 -- ---- what is concluded
 
+pub passed : (memory kinds : List ℕ) (lowest : ℕ) (watched ends table : List ℕ)
+    → certifyOf memory kinds lowest watched ends table .finding ≡ 0
+    → passes (claimOf memory kinds lowest watched ends table) ≡ true
+passed memory kinds lowest watched ends table h =
+    second (eqb (length watched) 8) (passes (claimOf memory kinds lowest watched ends table))
+    (sym (certifies-what-passes memory kinds lowest watched ends table)
+    ∙ eq-eqb (certifyOf memory kinds lowest watched ends table .finding) 0 h)
+
 pub certifying-is-enough : CertifyingIsEnough
 certifying-is-enough memory kinds lowest watched ends table h m s other v earlier call =
     let c : Claim = claimOf memory kinds lowest watched ends table in
     let d : Devices = m .devices in
-    let p : passes c ≡ true =
-    second (eqb (length watched) 8) (passes c) (sym (certifies-what-passes memory kinds lowest watched ends table)
-    ∙ eq-eqb (certifyOf memory kinds lowest watched ends table .finding) 0 h) in
+    let p : passes c ≡ true = passed memory kinds lowest watched ends table h in
     let low : lowest ≤ 0x2FFE = low-stack c p in
     let b : (a : ℕ) → isSecretBeside c d a ≡ isSecretBy kinds lowest d a =
     secret-by memory kinds lowest (s .size) low d in
@@ -144,7 +150,7 @@ certifying-is-enough memory kinds lowest watched ends table h m s other v earlie
       stack = s .stack;
     })
     (record { size = v .size; words = λ a z. v .words a (sym (b a) ∙ z) }) earlier call in
-    let n : length kinds ≤ 65536 = short-kinds memory kinds (s .size) (cells-below c p) in
+    let n : length kinds ≤ 0x2FFE = short-kinds memory kinds (s .size) (cells-below c p) in
     record {
       same = record {
         run = wider-ends (isSecretBeside c d) (isSecretBy kinds lowest d) _ _ (λ a z. b a ∙ z) (t .same .run);

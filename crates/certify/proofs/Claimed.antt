@@ -85,7 +85,7 @@ module _ (memory kinds : List ℕ) (lowest : ℕ) (size : length memory ≡ 6553
           rw (cell-by kinds memory a (omega arith)) (hidden-by (getD kinds a 0) (getD memory a 0))
       go false e = refl
 
-  module _ (short : length kinds ≤ 65536) where
+  module _ (short : length kinds ≤ 0x2FFE) where
     -- A memory that has the monitor has the fixed words of the one that was tested.
     fixed-stay : (after : List ℕ) → Loaded (cellsOf kinds memory) after → FixedStay kinds memory after
     fixed-stay after h a e =
@@ -111,5 +111,5 @@ module _ (memory kinds : List ℕ) (lowest : ℕ) (size : length memory ≡ 6553
     }
 
 pub short-kinds : (memory kinds : List ℕ) → length memory ≡ 65536 → length (cellsOf kinds memory) ≤ 0x2FFE
-    → length kinds ≤ 65536
+    → length kinds ≤ 0x2FFE
 short-kinds memory kinds e l = omega (arith, length-cells kinds memory)

@@ -4,4 +4,5 @@ pub mod Laws
 pub mod FindingLaws
 pub mod Claimed
 pub mod Answer
+pub mod HandedIn
 pub mod Wrong

@@ -12,6 +12,7 @@ use Rattle.machine.specs.declared.Machine.{Machine}
 use Rattle.machine.specs.Psr.{inUserMode}
 use Rattle.touched.specs.Touched.{SameWordAt}
 use Rattle.touched.specs.Altered.{SameOutside}
+use Rattle.start.specs.Start.{userStartedOf}
 use Rattle.sitting.specs.Sitting.{stackFrom, Call, answerAfter, TellsNothing}
 use Rattle.sitting.specs.Test.{passes}
 use Rattle.claims.specs.Encoding.{claimOf}
@@ -63,6 +64,16 @@ CertifyingIsEnough =
     → (earlier : List Call) (call : Call)
     → TellsNothing (FixedStay kinds memory) (isSecretBy kinds lowest (m .devices)) memory other
     (answerAfter earlier call m memory) (answerAfter earlier call m other)
+
+-- The file that a candidate hands in, any bytes at all: where `start_user` accepts it (M25.6), the machine that it
+-- answers sits on the memory that it leaves, and there too nothing is wrong.
+abbrev pub AcceptedFileSits : Type 0
+AcceptedFileSits =
+    (memory kinds : List ℕ) (lowest : ℕ) (watched ends table : List ℕ)
+    → certifyOf memory kinds lowest watched ends table .finding ≡ 0
+    → (file : List ℕ) (userStack : ℕ) → userStartedOf file memory userStack .refusal ≡ 0
+    → SitsOn (userStartedOf file memory userStack .memory) (userStartedOf file memory userStack .machine)
+    × (certifyOf (userStartedOf file memory userStack .memory) kinds lowest watched ends table .finding ≡ 0)
 
 -- And no good claim is refused: the finding is 0 exactly where eight words are watched and the claim passes the test
 -- (M31.2; crates/sitting/specs/Test.antt).
