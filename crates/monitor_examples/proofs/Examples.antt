@@ -1,7 +1,7 @@
 -- The premises can be met, by computing.
 use native.Mathlib.Omega.{arith}
-use Prim.Native.Nat.{ℕ, _<_}
-use mathlib.Core.Path.{_≡_, refl, _∙_}
+use Prim.Native.Nat.{ℕ, zero, suc, _<_}
+use mathlib.Core.Path.{_≡_, refl, sym, _∙_}
 use mathlib.Core.Bool.{Bool, true, false, cond}
 use mathlib.Core.List.{[], _∷_}
 use lib.ListN.{length, getD, set, take}
@@ -15,6 +15,7 @@ use Rattle.machine.specs.Protection.{privileged, deniedBy, denied}
 use Rattle.machine.specs.Interrupts.{pendingInterrupt}
 use Rattle.machine.specs.Entry.{pushed, entry, afterEntry, raised, interrupted, stackPointerOnEntry, userStackOnEntry}
 use Rattle.machine.specs.Outcome.{privilege, illegal, access, vectorOf, withReads, afterInstruction}
+use Rattle.machine.specs.Causes.{takesInterrupt}
 use Rattle.machine.specs.Access.{loadToBy}
 use Rattle.machine.specs.Return.{return, popped, afterReturn}
 use Rattle.machine.specs.Plan.{planBy}
@@ -23,6 +24,7 @@ use Rattle.run.specs.Refusals.{wrongSize, undefinedTimer, undefinedDevices, und
 use Rattle.run.specs.Refusals.{unequalLists, firstRefusal, entryAdmission, timesAdmission, admissionOf}
 use Rattle.run.specs.Run.{begin, arriving, nextStepBy, withShown, stepMadeBy, isHalted, showsByte, isFullBy, oneMoreBy}
 use Rattle.run.specs.Run.{runBy, endedBy}
+use Rattle.run.specs.declared.Admission.the-variants.{Accepted}
 use Rattle.run.specs.Call.{admittedBy, callBy, callOf}
 use Rattle.run.specs.Noninterference.{causeAt}
 use Rattle.monitor.specs.Vectors.{vectorWord, vectorsFrom, vectorTable}
@@ -34,8 +36,11 @@ use Rattle.monitor.specs.Calls.{stackOf, StackApart, Begins, Calls, Raises, non
 use Rattle.monitor.specs.Getc.{KeyComes}
 use Rattle.monitor.specs.In.{firstPoll}
 use Rattle.monitor.specs.Puts.{mayRead, StringFrom}
+use Rattle.monitor.specs.Out.{waitSteps, outStepsOf}
 use Rattle.monitor.specs.Back.{Interrupted}
-use Rattle.monitor_examples.specs.Examples.{exampleMemory, exampleWith, example, keyOnTheWay, ExamplesHold}
+use Rattle.interruptions.specs.GoesOn.{OnTheWay}
+use Rattle.monitor_examples.specs.Examples.{exampleMemory, exampleWith, example, keyOnTheWay, pastTheInterrupt}
+use Rattle.monitor_examples.specs.Examples.{ExamplesHold}
 use Rattle.monitor.proofs.Intact.{monitor-word}
 use Rattle.monitor.proofs.UseLaws.{getc-below, out-below, stop-below, puts-below, putsp-below, in-below}
 use Rattle.monitor.proofs.UseLaws.{halt-below, back-below, with-vector-below}
@@ -241,6 +246,67 @@ on-the-way = record {
   no-other = refl;
 }
 
+-- ---- a class's own routine
+
+own-out : Calls 0x21 outCode 3 true keyOnTheWay 1000
+unfolding handed keyOnTheWay
+own-out = record {
+  begins = record {
+    accepted = refl;
+    registers = refl;
+    mode = refl;
+    intact = has-words 0xF021 (withVector 0x21 outCode) (with-vector-below 0x21 outCode (omega arith) out-below);
+    stack = record { above-monitor = omega arith; below-devices = omega arith };
+    mcr = refl;
+  };
+  may-fetch = refl;
+  trap = refl;
+}
+
+two-quiet : (j : ℕ) → j < 2 → takesInterrupt (causeAt keyOnTheWay j) ≡ false
+unfolding stepping keyOnTheWay
+two-quiet zero l = refl
+two-quiet (suc zero) l = refl
+two-quiet (suc (suc j)) l = absurd (omega arith)
+
+mcr-now : callOf keyOnTheWay 2 .machine .devices .mcr ≡ 0x8000
+unfolding stepping keyOnTheWay
+mcr-now = refl
+
+own-accepted : admissionOf pastTheInterrupt 100 ≡ Accepted
+unfolding stepping keyOnTheWay
+own-accepted = refl
+
+own-returned : OnTheWay keyOnTheWay 1000 2 (outStepsOf keyOnTheWay) 3 3 pastTheInterrupt 100
+unfolding keyOnTheWay waitSteps
+own-returned = record {
+  begun = omega arith;
+  not-ended = omega arith;
+  fits = omega arith;
+  quiet = record { none = two-quiet };
+  apart = record { above-monitor = omega arith; below-devices = omega arith };
+  returned = record {
+    registers = refl;
+    pc = refl;
+    psr = refl;
+    saved-ssp = refl;
+    saved-usp = refl;
+    mcr = sym mcr-now;
+    display = omega arith;
+    output = refl;
+    words-below = refl;
+    words-above = refl;
+  };
+  accepted = own-accepted;
+  enough = omega arith;
+  no-other = none-enabled (record {
+    keyboard = refl;
+    keyboard-word = omega arith;
+    timer = refl;
+    timer-word = omega arith;
+  });
+}
+
 -- A key that is ready at the call.
 key-ready : (sp : ℕ) (user : Bool) (word first : ℕ) → KeyComes (exampleWith sp user word 0x8000) first 0
 unfolding exampleWith
@@ -313,4 +379,6 @@ examples-hold = record {
   });
   interrupted = is-interrupted;
   on-the-way = on-the-way;
+  own-out = own-out;
+  own-returned = own-returned;
 }

@@ -3,7 +3,7 @@ use Prim.Native.Nat.{ℕ}
 use mathlib.Core.Path.{_≡_}
 use mathlib.Core.Bool.{Bool, true, false, cond}
 use mathlib.Core.List.{List, [], _∷_}
-use lib.ListN.{getD, set, replicate}
+use lib.ListN.{getD, set, drop, replicate}
 use Rattle.word.specs.Reading.{readOf}
 use Rattle.word.specs.declared.Instruction.the-variants.{Reserved}
 use Rattle.machine.specs.declared.Machine.{Machine}
@@ -17,7 +17,9 @@ use Rattle.monitor.specs.Calls.{StackApart, Begins, Calls, Raises, NoInterrupt}
 use Rattle.monitor.specs.Puts.{mayRead, StringFrom}
 use Rattle.monitor.specs.Getc.{KeyComes}
 use Rattle.monitor.specs.In.{firstPoll}
+use Rattle.monitor.specs.Out.{outStepsOf}
 use Rattle.monitor.specs.Back.{Interrupted}
+use Rattle.interruptions.specs.GoesOn.{OnTheWay}
 
 -- In User mode or in Supervisor mode, with the supervisor stack at sp. R0 is x3002; this KBSR, and the key x61 in KBDR.
 abbrev pub programAt3000 : Bool → ℕ → ℕ → Machine
@@ -46,6 +48,24 @@ example = exampleWith 0x3000
 unfoldable pub keyOnTheWay : Start
 keyOnTheWay =
     startOf (programAt3000 true 0x3000 0x4000) (exampleMemory 0xF021) (2 ∷ []) (0x61 ∷ []) (replicate 32 0)
+
+-- There a class's own routine takes the key, which clears ready, and returns: seven steps have passed, and the keyboard
+-- may no longer interrupt.
+abbrev pub afterOwnRoutine : Machine → Machine
+afterOwnRoutine m = record {
+  regs = m .regs;
+  pc = m .pc;
+  psr = m .psr;
+  «saved_ssp» = m .«saved_ssp»;
+  «saved_usp» = m .«saved_usp»;
+  devices = devicesOf 0 0x61 0x8000 0 zeroTimer;
+  clock = 9;
+}
+
+abbrev pub pastTheInterrupt : Start
+pastTheInterrupt =
+    startOf (afterOwnRoutine (callOf keyOnTheWay 2 .machine)) (callOf keyOnTheWay 2 .memory) [] []
+    (drop (callOf keyOnTheWay 2 .shown) (callOf keyOnTheWay 2 .output))
 
 pub record ExamplesHold : Type 0 where
   -- a stack at x3000, as a start makes it; elsewhere; and at both ends of where it may be
@@ -88,3 +108,6 @@ pub record ExamplesHold : Type 0 where
   -- a key that is ready and may interrupt, and one that comes on the way through a routine
   pub interrupted : Interrupted (example true 0x1020 0xC000) 1000 0 (callOf (example true 0x1020 0xC000) 0)
   pub on-the-way : Interrupted keyOnTheWay 1000 2 (callOf keyOnTheWay 2)
+  -- OUT is interrupted after two steps, and a class's own routine returns
+  pub own-out : Calls 0x21 outCode 3 true keyOnTheWay 1000
+  pub own-returned : OnTheWay keyOnTheWay 1000 2 (outStepsOf keyOnTheWay) 3 3 pastTheInterrupt 100
