@@ -16,9 +16,9 @@ pub(crate) fn start_file(path: &[u8], memory: &mut [u16], candidate: bool) -> St
     libc::close(fd);
     let n = io::count(got, &bytes);
     if candidate {
-        start::start_user(&bytes[..n], memory, USER_STACK)
+        starter::start_user(&bytes[..n], memory, USER_STACK)
     } else {
-        start::start(&bytes[..n], memory, true, USER_STACK)
+        starter::start(&bytes[..n], memory, true, USER_STACK)
     }
 }
 

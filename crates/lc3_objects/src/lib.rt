@@ -27,7 +27,7 @@ pub extern "C" fn lc3_start(file: &[u8], memory: &mut [u16], user: bool, stack: 
     ensures { λ r. ⌜ hostStarting r (now (memory .exit))
         ≡ startedOf (now (file .entry)) (now (memory .entry)) user stack ⌝ }
 {
-    let started = start::start(file, memory, user, stack);
+    let started = starter::start(file, memory, user, stack);
     let machine = started.machine;
     Lc3Started {
         machine,
@@ -41,7 +41,7 @@ pub extern "C" fn lc3_start_user(file: &[u8], memory: &mut [u16], stack: u16) ->
     ensures { λ r. ⌜ hostStarting r (now (memory .exit))
         ≡ userStartedOf (now (file .entry)) (now (memory .entry)) stack ⌝ }
 {
-    let started = start::start_user(file, memory, stack);
+    let started = starter::start_user(file, memory, stack);
     let machine = started.machine;
     Lc3Started {
         machine,

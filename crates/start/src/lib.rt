@@ -1,45 +1,9 @@
-// Load and start together: an object file is loaded into lent memory, and a fresh record stands at its origin. A
-// candidate's file is started in User mode, and loaded to User mode's words only.
+// Load and start together. Here is what the calls answer; what they are is in specs/, and crates/starter has the code.
 use machine::Machine;
-ghost use mathlib.Core.Path.{_≡_};
-ghost use Rattle.start.specs.Start.{starting, startedOf, userStartedOf};
-
-mod records;
-mod refusals;
 
 // The record and the number of words loaded, with 0; or both all zero, with the number of the refusal.
 pub struct Started {
     pub machine: Machine,
     pub words: u32,
     pub refusal: u8,
-}
-
-pub fn start(file: &[u8], memory: &mut [u16], user: bool, stack: u16) -> Started
-    ensures { λ r. ⌜ starting r (now (memory .exit))
-        ≡ startedOf (now (file .entry)) (now (memory .entry)) user stack ⌝ }
-{
-    let loaded = loader::load(file, memory);
-    let machine = records::record_by(loaded.refusal, loaded.origin, user, stack);
-    Started {
-        machine,
-        words: loaded.words,
-        refusal: loaded.refusal,
-    }
-}
-
-// A file from a source that is not trusted: no privileged word of memory is replaced.
-pub fn start_user(file: &[u8], memory: &mut [u16], stack: u16) -> Started
-    ensures { λ r. ⌜ starting r (now (memory .exit))
-        ≡ userStartedOf (now (file .entry)) (now (memory .entry)) stack ⌝ }
-{
-    let refusal = refusals::user_refusal(file, memory);
-    if refusal != 0 {
-        let machine = records::zero();
-        return Started {
-            machine,
-            words: 0,
-            refusal,
-        };
-    }
-    start(file, memory, true, stack)
 }

@@ -1,12 +1,12 @@
--- `start::refusals::user_refusal` meets its contract: loading's tests are a callee's, and a file that they accept has
+-- `starter::refusals::user_refusal` meets its contract: loading's tests are a callee's, and a file that they accept has
 -- its origin.
 use native.Mathlib.Omega.{arith}
 use borrow.Author.Needs.{needs}
 use Rattle.object.proofs.Acceptance.{words-in}
 use Rattle.start.specs.Start.{userRefusalAfter, userRefusal}
 use Rattle.start.proofs.UserLaws.{two-bytes, loading-refused-first}
-use Rattle.start.proofs.refusals.user_refusal.Statement.{statement}
-use Rattle.start.proofs.refusals.user_refusal.Tie as tie
+use Rattle.starter.proofs.refusals.user_refusal.Statement.{statement}
+use Rattle.starter.proofs.refusals.user_refusal.Tie as tie
 
 returns : tie.Need-returns
 unfolding userRefusal

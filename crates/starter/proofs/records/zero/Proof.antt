@@ -1,7 +1,7 @@
--- `start::records::zero` meets its contract: its devices are a callee's.
+-- `starter::records::zero` meets its contract: its devices are a callee's.
 use borrow.Author.Needs.{needs}
-use Rattle.start.proofs.records.zero.Statement.{statement}
-use Rattle.start.proofs.records.zero.Tie as tie
+use Rattle.starter.proofs.records.zero.Statement.{statement}
+use Rattle.starter.proofs.records.zero.Tie as tie
 
 returns : tie.Need-returns
 returns c = rw (c .zero-devices .ensures)

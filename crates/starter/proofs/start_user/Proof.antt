@@ -1,9 +1,9 @@
--- `start::start_user` meets its contract: by the refusal, which is a callee's.
+-- `starter::start_user` meets its contract: by the refusal, which is a callee's.
 use borrow.Author.Needs.{needs}
 use Rattle.start.specs.Start.{userStartedBy, userStartedOf}
 use Rattle.start.proofs.UserLaws.{user-start-refused}
-use Rattle.start.proofs.start_user.Statement.{statement}
-use Rattle.start.proofs.start_user.Tie as tie
+use Rattle.starter.proofs.start_user.Statement.{statement}
+use Rattle.starter.proofs.start_user.Tie as tie
 
 returns : tie.Need-returns
 unfolding userStartedOf

@@ -1,12 +1,12 @@
--- `start::refusals::is_outside` meets its contract: by its three tests.
+-- `starter::refusals::is_outside` meets its contract: by its three tests.
 use Prim.Native.Nat.{_+_}
 use native.Mathlib.Omega.{arith}
 use borrow.Author.Tests.{lt-ltb, le-ltb, le-leb, lt-leb}
 use borrow.Author.Needs.{needs}
 use Rattle.machine.specs.Protection.{privileged}
 use Rattle.start.specs.Start.{outsideUserWords}
-use Rattle.start.proofs.refusals.is_outside.Statement.{statement}
-use Rattle.start.proofs.refusals.is_outside.Tie as tie
+use Rattle.starter.proofs.refusals.is_outside.Statement.{statement}
+use Rattle.starter.proofs.refusals.is_outside.Tie as tie
 
 returns : tie.Need-returns
 unfolding outsideUserWords privileged

@@ -1,9 +1,9 @@
--- `start::records::record_by` meets its contract: by the two cases of the refusal.
+-- `starter::records::record_by` meets its contract: by the two cases of the refusal.
 use Rattle.start.specs.Start.{recordBy}
 use Rattle.start.proofs.RecordLaws.{refused-record-is-zero}
 use borrow.Author.Needs.{needs}
-use Rattle.start.proofs.records.record_by.Statement.{statement}
-use Rattle.start.proofs.records.record_by.Tie as tie
+use Rattle.starter.proofs.records.record_by.Statement.{statement}
+use Rattle.starter.proofs.records.record_by.Tie as tie
 
 returns : tie.Need-returns
 returns c =

@@ -1,8 +1,8 @@
--- `start::start` meets its contract: loading and the record are callees'.
+-- `starter::start` meets its contract: loading and the record are callees'.
 use Rattle.start.specs.Start.{startedFrom, startedOf}
 use borrow.Author.Needs.{needs}
-use Rattle.start.proofs.start.Statement.{statement}
-use Rattle.start.proofs.start.Tie as tie
+use Rattle.starter.proofs.start.Statement.{statement}
+use Rattle.starter.proofs.start.Tie as tie
 
 returns : tie.Need-returns
 unfolding startedOf startedFrom
