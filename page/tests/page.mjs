@@ -179,6 +179,14 @@ const TESTS = {
         deepEqual(await b.run("return [lc3.chosen, document.getElementById('follow').checked]"), [0xfe00, false]);
         await change("goto", "r6");
         equal(await b.run("return lc3.chosen"), 0xfdff);
+        await change("goto", "mcr"); // its address, where a program reaches it
+        deepEqual(await row(0xfffe), ["xFFFE", "x0000", ".FILL x0000", "MCR"]);
+        await b.run("document.getElementById('listing').focus()");
+        await b.keys(ENTER, ..."x1234", ENTER);
+        await until("xFFFE is MCR, a register: no program reaches a word of memory there.");
+        await b.keys(ESCAPE);
+        await b.click("#bit-0");
+        deepEqual(await sitting("words[0xFFFE]"), 0);
         await change("goto", "nowhere");
         match(await status(), /“nowhere” is no address/);
         await b.click("#topc");
@@ -264,6 +272,16 @@ const TESTS = {
         match(lc3("run", path), /HHalted\nlc3: halted by HALT/);
         await b.click("#take-program");
         match(await b.value("#source"), /^x3000 +; the origin\nLEA R0, #2 +; x3000\n/);
+        await b.click("#restore-program"); // what was written is not lost
+        match(await b.value("#source"), /^x3000 ; origin\nLEA R0, #2/);
+        await b.click("#clear-program");
+        await until("“Bring back” undoes it");
+        await b.click("#restore-program");
+        match(await b.value("#source"), /^x3000 ; origin\nLEA R0, #2/);
+        await drop("other.txt", Buffer.from("x4000\nHALT\n"));
+        await b.wait("document.getElementById('source').value.startsWith('x4000')");
+        await b.click("#restore-program");
+        match(await b.value("#source"), /^x3000 ; origin\nLEA R0, #2/);
         await b.click("#clear-program");
         await open("");
         equal(await b.value("#source"), "");

@@ -9,6 +9,7 @@ import { isBeside, seat } from "./seat.mjs";
 const NAME = "program.obj";
 const ROW = 20, AROUND = 20; // the height of a row, and the rows above and below those in view
 let read = null; // the text, its lines and the program of it, as it was read last
+let replaced = ""; // the text that another took the place of, and that can be brought back
 
 // The text as it stands, read once.
 function parsed() {
@@ -92,12 +93,26 @@ function takeProgram() {
     tell(`The ${last.words} words of ${last.name} are taken from memory as text.`);
 }
 
-// Puts a text into the field, and keeps it.
+// Puts a text into the field, and keeps it. The one that was there can be brought back.
 export function setSource(text) {
+    const old = $("source").value;
+    if (old.trim() && old !== text) replaced = old;
+    $("restore-program").hidden = !replaced || replaced === text;
     $("source").value = text;
     keepText();
     show("program");
     drawEditor();
+}
+
+function clearSource() {
+    setSource("");
+    tell(replaced ? "The text is cleared. “Bring back” undoes it." : "There is no text.");
+}
+
+function restoreSource() {
+    setSource(replaced);
+    $("source").focus(); // the button may be gone
+    tell("The text is brought back.");
 }
 
 function save(asText) {
@@ -139,7 +154,8 @@ export function listenEditor() {
     $("take-program").addEventListener("click", takeProgram);
     $("save-object").addEventListener("click", () => save(false));
     $("save-text").addEventListener("click", () => save(true));
-    $("clear-program").addEventListener("click", () => setSource(""));
+    $("clear-program").addEventListener("click", clearSource);
+    $("restore-program").addEventListener("click", restoreSource);
     listenTabs();
     $("source").value = kept();
     drawEditor();

@@ -1,5 +1,5 @@
 // Memory: those of the 65,536 lines that are in view, with breakpoints, PC, and editing.
-import { PLACES, Refused, hex, signed } from "../lib/constants.mjs";
+import { ADDRESSES, PLACES, Refused, hex, signed } from "../lib/constants.mjs";
 import { TRAPS, wordOf } from "../lib/words.mjs";
 import { $, make, printable, tell } from "./dom.mjs";
 import { numberIn } from "./registers.mjs";
@@ -9,9 +9,12 @@ import { WATCHED, drawAll, keepSeen, onDraw, seat } from "./seat.mjs";
 const ROW = 26, AROUND = 12; // the height of a row, and the rows above and below those in view
 const RELATIVE = /^(BR\w*|LD|LDI|ST|STI|LEA|JSR)$/;
 const SERVICES = Object.fromEntries(Object.entries(TRAPS).map(([name, vector]) => [vector, name]));
+// The registers that programs reach at an address. The words of memory there are nobody's.
+const REGISTERS = Object.fromEntries(Object.entries(ADDRESSES).map(([name, address]) => [address, name]));
 
 // What a line's number means: the address that it names, the service of a trap, the character or number of data.
 function meaning(address, word, line) {
+    if (address in REGISTERS) return REGISTERS[address];
     if (line.startsWith(".FILL")) return word ? `#${signed(word)} ${printable(word)}` : "";
     const mnemonic = line.split(" ")[0];
     if (mnemonic === "TRAP") return SERVICES[word & 0xff] ?? "";
@@ -114,19 +117,24 @@ function edited(address, text) {
     const number = numberIn(text), { sitting } = seat;
     try {
         const word = number === null ? wordOf(sitting.library, text) : number & 0xffff;
-        setWord(address, word);
-        return true;
+        return setWord(address, word);
     } catch (error) {
         tell(error instanceof Refused ? `${text.trim()}: ${error.message}` : error.message, "wrong");
         return false;
     }
 }
 
-// Replaces a word from outside.
+// Replaces a word from outside, unless a register takes its place; whether it did.
 export function setWord(address, word) {
+    if (address in REGISTERS) {
+        const what = `${REGISTERS[address]}, a register: no program reaches a word of memory there.`;
+        tell(`${hex(address)} is ${what}`, "wrong");
+        return false;
+    }
     keepSeen();
     seat.sitting.setWord(address, word);
     tell(`${hex(address)} holds ${hex(word)}: ${seat.sitting.line(word)}`);
+    return true;
 }
 
 function edit(address) {
@@ -196,8 +204,9 @@ function clicked(event) {
 
 function asked(event) {
     const text = event.target.value.trim();
-    const name = Object.keys(PLACES).find((one) => one.toUpperCase() === text.toUpperCase());
-    const value = name ? seat.sitting.get(name) : numberIn(/^[0-9a-f]{4}$/i.test(text) ? `x${text}` : text);
+    const name = Object.keys({ ...PLACES, ...ADDRESSES }).find((one) => one.toUpperCase() === text.toUpperCase());
+    const value = name ? ADDRESSES[name] ?? seat.sitting.get(name)
+        : numberIn(/^[0-9a-f]{4}$/i.test(text) ? `x${text}` : text);
     if (value === null) return tell(`“${text}” is no address: write it as x3000, or name a register.`, "wrong");
     $("follow").checked = false;
     goTo(value & 0xffff);
