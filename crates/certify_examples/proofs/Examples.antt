@@ -1,12 +1,13 @@
 -- The answers: by computing them.
-use mathlib.Core.Path.{refl}
+use mathlib.Core.Path.{_≡_, refl}
 use Rattle.sitting.specs.Values.{valueBy}
 use Rattle.sitting.proofs.Ours.{testing}
 use Rattle.claims.specs.Encoding.{cellOf, cellsOf, valueOf, valuesOf, stateOf, statesOf, rowsOf}
-use Rattle.certify.specs.Finding.{wrong, unless, orElse, wrongVector, wrongInterrupt, wrongVectors, wrongIn, wrongInRow}
-use Rattle.certify.specs.Finding.{wrongAt, wrongInRows, wrongWith, certifyOf}
+use Rattle.certify.specs.Finding.{nothingWrong, wrong, unless, orElse, wrongVector, wrongInterrupt, wrongVectors}
+use Rattle.certify.specs.Finding.{wrongIn, wrongInRow, wrongAt, wrongInRows, wrongWith, certifyOf}
 use Rattle.certify_examples.specs.Monitor.{classWords, classKinds, classWatched, classRows, endsFrom, joined}
-use Rattle.certify_examples.specs.Examples.{answerOf, rowsWith, ExamplesHold}
+use Rattle.certify_examples.specs.Examples.{answerOf, answerFor, answerWith, rowsWith, LeaksAreFound}
+use Rattle.certify_examples.specs.Examples.{StoresAreFound, UnfollowedIsFound, OtherFindings, ExamplesHold}
 
 -- To unfold this is to compute an answer.
 unfoldable pub computing : Unit {0}
@@ -15,11 +16,9 @@ unfolding testing valueBy cellOf cellsOf valueOf valuesOf stateOf statesOf rowsO
     classWatched classRows endsFrom joined answerOf rowsWith
 computing = tt
 
-pub examples-hold : ExamplesHold
+leaks : LeaksAreFound
 unfolding computing
-examples-hold = record {
-  certified = refl;
-  by-two = refl;
+leaks = record {
   loads-answer = refl;
   loads-by-pointer = refl;
   loads-by-own-pointer = refl;
@@ -28,19 +27,35 @@ examples-hold = record {
   other-bound = refl;
   changed-after-look = refl;
   beside = refl;
+}
+
+stores : StoresAreFound
+unfolding computing
+stores = record {
   pokes = refl;
   alters-code = refl;
   alters-answer = refl;
   makes-privileged = refl;
   enables-keyboard = refl;
+}
+
+unfollowed : UnfollowedIsFound
+unfolding computing
+unfollowed = record {
   keeps-elsewhere = refl;
   jumps-by-r0 = refl;
   to-own-word = refl;
   pops = refl;
   returns-deeper = refl;
   reserved = refl;
+}
+
+others : OtherFindings
+unfolding computing
+others = record {
   seven-watched = refl;
   no-stack = refl;
+  least-stack = refl;
   three-words = refl;
   four-words = refl;
   no-row = refl;
@@ -54,4 +69,22 @@ examples-hold = record {
   shallow = refl;
   stack-not-known = refl;
   known-below = refl;
+}
+
+certified : answerFor classWords ≡ nothingWrong
+unfolding computing
+certified = refl
+
+by-two : answerWith 0x020D 0x1022 ≡ nothingWrong
+unfolding computing
+by-two = refl
+
+pub examples-hold : ExamplesHold
+examples-hold = record {
+  certified = certified;
+  by-two = by-two;
+  leaks = leaks;
+  stores = stores;
+  unfollowed = unfollowed;
+  others = others;
 }

@@ -34,11 +34,8 @@ unknownStack = stateWith 0x10000 0x10000 0x10000 0x10000 0 0x10000 0x10000 0x100
 abbrev pub knownBelow : List ℕ
 knownBelow = stateWith 0x10000 0x10000 0x22FFE 0x10000 0 0x10000 0x20005 0x10000
 
-pub record ExamplesHold : Type 0 where
-  -- it is certified, and so it is with BUMP that counts by two
-  pub certified : answerFor classWords ≡ nothingWrong
-  pub by-two : answerWith 0x020D 0x1022 ≡ nothingWrong
-  -- ---- leaks
+-- What would tell of the answer, or of other words that the caller names.
+pub record LeaksAreFound : Type 0 where
   -- BUMP loads the answer: LD R0, ANSWER; and by a pointer: LDI R0, TABLE
   pub loads-answer : answerWith 0x020C 0x2024 ≡ wrong 7 0x020C 22
   pub loads-by-pointer : answerFor (withWord (withWord classWords 0x022C 0x0231) 0x020C 0xA01F) ≡ wrong 7 0x020C 22
@@ -51,7 +48,9 @@ pub record ExamplesHold : Type 0 where
   pub other-bound : answerWith 0x022A 0x5001 ≡ wrong 7 0x0212 32
   pub changed-after-look : answerWith 0x0214 0x1021 ≡ wrong 7 0x0214 34
   pub beside : answerWith 0x0215 0x6201 ≡ wrong 7 0x0215 35
-  -- ---- stores
+
+-- What would alter code, the answer, the caller's mode or a device.
+pub record StoresAreFound : Type 0 where
   -- COUNT stores at R0, to OUT's first word, to the answer, to the caller's PSR: STR R1, R0, #0; ST R1; STR R1, R6, #1
   pub pokes : answerWith 0x0206 0x7200 ≡ wrong 7 0x0206 12
   pub alters-code : answerWith 0x0206 0x33F9 ≡ wrong 7 0x0206 12
@@ -59,7 +58,9 @@ pub record ExamplesHold : Type 0 where
   pub makes-privileged : answerWith 0x0206 0x7381 ≡ wrong 7 0x0206 12
   -- OUT stores to KBSR, and not to DDR
   pub enables-keyboard : answerWith 0x0228 0xFE00 ≡ wrong 7 0x0203 6
-  -- ---- what cannot be followed
+
+-- What cannot be followed.
+pub record UnfollowedIsFound : Type 0 where
   -- NEXT keeps R7 elsewhere, and jumps by R0: ST R7, SAVE1; JMP R0
   pub keeps-elsewhere : answerWith 0x0208 0x3E25 ≡ wrong 7 0x0208 14
   pub jumps-by-r0 : answerWith 0x020B 0xC000 ≡ wrong 7 0x020B 20
@@ -69,10 +70,13 @@ pub record ExamplesHold : Type 0 where
   pub pops : answerWith 0x0207 0x1DA1 ≡ wrong 7 0x0207 13
   pub returns-deeper : answerWith 0x021D 0x8000 ≡ wrong 7 0x021D 43
   pub reserved : answerWith 0x0206 0xD000 ≡ wrong 7 0x0206 12
-  -- ---- the other findings
+
+-- The findings 1 to 6.
+pub record OtherFindings : Type 0 where
   pub seven-watched : answerOf classWords classKinds 0x2FFC (take 7 classWatched) classRows ≡ wrong 1 0 0
   -- the stack has room for a trap's two words, and the words are four below it
   pub no-stack : answerOf classWords classKinds 0x2FFF classWatched classRows ≡ wrong 2 0 0
+  pub least-stack : answerOf classWords classKinds 0x2FFE classWatched classRows ≡ wrong 6 0x0200 1
   pub three-words : answerOf classWords classKinds 0x0235 classWatched classRows ≡ wrong 2 0 0
   pub four-words : answerOf classWords classKinds 0x0236 classWatched classRows ≡ nothingWrong
   -- the last vector of an exception leads to a word without a row; a trap's below x0200; one is secret
@@ -96,3 +100,12 @@ pub record ExamplesHold : Type 0 where
       ≡ wrong 6 0x0226 53
   pub known-below : answerOf classWords classKinds 0x2FFC classWatched (rowsWith (knownBelow ∷ []) [])
       ≡ wrong 6 0x0226 53
+
+-- It is certified, and so it is with BUMP that counts by two; others are not.
+pub record ExamplesHold : Type 0 where
+  pub certified : answerFor classWords ≡ nothingWrong
+  pub by-two : answerWith 0x020D 0x1022 ≡ nothingWrong
+  pub leaks : LeaksAreFound
+  pub stores : StoresAreFound
+  pub unfollowed : UnfollowedIsFound
+  pub others : OtherFindings
