@@ -1,5 +1,5 @@
--- A run that stands where a way leads on, but for what is below the stack, the display's count and the keyboard, follows
--- the way to its end: it shows the same bytes, in as many steps at most.
+-- A run that stands on a way, but for what is below the stack, the display's count and the keyboard, follows it to its
+-- end: it shows the same bytes, in as many steps at most.
 use Prim.Native.Nat.{ℕ, zero, suc, _+_, _-_, _%_, _≤_, _<_}
 use native.Mathlib.Omega.{arith}
 use native.Mathlib.Decide.{decLe}
@@ -22,9 +22,11 @@ use Rattle.monitor.specs.Out.{waitSteps}
 use Rattle.monitor.proofs.UseLaws.{either}
 use Rattle.monitor.proofs.Execution.{Frame, Known, from, codesNumber, Cell, cell, View, At, Quiet, Leads, then, no-step}
 use Rattle.monitor.proofs.Intact.{cellsFine, cells-fine, wordWith, usable, wordAt, slotWith, slotAt}
-use Rattle.monitor.proofs.Instructions.{Sound, codesFor, planAt, changed, showing, clocked, valued, displayAt, performed}
+use Rattle.monitor.proofs.Instructions.{Sound, codesFor, planAt, changed, showing, clocked, valued, displayAt}
+use Rattle.monitor.proofs.Instructions.{performed}
 use Rattle.monitor.proofs.Instructions.{isPlain, mayPerform, Use, loadsSlot, storesSlot, movesStack, leavesStack}
-use Rattle.monitor.proofs.Instructions.{elsewhere, useOf, slotOf, deeper, used, onStack, isOther, keepsSix, mayUse, useAt}
+use Rattle.monitor.proofs.Instructions.{elsewhere, useOf, slotOf, deeper, used, onStack, isOther, keepsSix, mayUse}
+use Rattle.monitor.proofs.Instructions.{useAt}
 use Rattle.monitor.proofs.Instructions.{stepped, mayStep, PlanIs, plan-by-use, Kept, same, on-stack, by-plan, by-use}
 use Rattle.monitor.proofs.Entries.{within, Polls, waits, recoded}
 use Rattle.monitor.proofs.Paths.{holds, calmPlan, calmUse, calm, Readable, Path, stays, knows, makes, jumps, fetches}
@@ -124,7 +126,8 @@ module _ {r : Start} {since bound : ℕ} (quiet : Quiet r since bound) (f : Fram
     like : Like f mem before w′ rest
     leads : Leads r since bound g (twin w x) 1 g (twin w′ rest)
 
-  like-less : (w : View) (x : Rest) → Like f mem before w x → (w′ : View) → w′ .bytes ≡ w .bytes → w′ .busy ≡ w .busy - 1
+  like-less : (w : View) (x : Rest) → Like f mem before w x → (w′ : View) → w′ .bytes ≡ w .bytes
+      → w′ .busy ≡ w .busy - 1
       → w′ .cells ≡ w .cells → w′ .depth ≡ w .depth → Like f mem before w′ (less x)
   like-less w x l w′ bytes busy cells depth = record {
     fine = l .fine;
@@ -235,7 +238,8 @@ module _ {r : Start} {since bound : ℕ} (quiet : Quiet r since bound) (f : Fram
     unfolding planAt
     planned u e =
         subst (λ (y : Use). PlanIs y (w .regs) (w .pc) (planAt g v)) (own-use w x own ∙ e)
-        (plan-by-use (w .regs) (w .pc) (codesFor (w .codes) (readOf (wordAt g v (w .pc)))) (readOf (wordAt g v (w .pc))))
+        (plan-by-use (w .regs) (w .pc) (codesFor (w .codes) (readOf (wordAt g v (w .pc))))
+        (readOf (wordAt g v (w .pc))))
 
     by-this-use : (room₀ : ℕ) → room₀ ≤ length (f .output) → (u : Use) → useAt f w ≡ u → mayUse f w room₀ u ≡ true
         → calmUse f w u ≡ true → One w x (used f w u)

@@ -22,7 +22,8 @@ use Rattle.run.specs.Run.{Start}
 use Rattle.monitor.specs.Out.{waitSteps}
 use Rattle.monitor.proofs.Execution.{Frame, Known, from, codesNumber, View, At, Quiet, Leads}
 use Rattle.monitor.proofs.Intact.{cellsFine, usable, wordAt}
-use Rattle.monitor.proofs.Instructions.{Sound, codesFor, planAt, changed, valued, Kept, other, same, keeps-once, by-plan}
+use Rattle.monitor.proofs.Instructions.{Sound, codesFor, planAt, changed, valued, Kept, other, same, keeps-once}
+use Rattle.monitor.proofs.Instructions.{by-plan}
 use Rattle.monitor.proofs.Instructions.{stepped, mayStep, performed, clocked, showing, Use, loadsSlot, storesSlot}
 use Rattle.monitor.proofs.Instructions.{movesStack, leavesStack, elsewhere, used, mayUse, useAt, on-stack}
 use Rattle.monitor.proofs.Entries.{within, Polls}
@@ -137,7 +138,7 @@ before (joins w i j first second z) =
 
 module _ {s : Start} {since bound : ℕ} (quiet : Quiet s since bound) (f : Frame) (sound : Sound f) (may : ℕ → Bool)
   where
-    -- Where a run stands that began a way of n steps after j, and has made i of them; and the rest of the way to its end.
+    -- Where a run stands that began a way of n steps after j, and has made i of them; and the rest of the way.
     pub record Left (i n j : ℕ) (v′ : View) : Type 0 where
       pub view : View
       pub steps : ℕ
@@ -146,7 +147,8 @@ module _ {s : Start} {since bound : ℕ} (quiet : Quiet s since bound) (f : Fram
       pub kept : Kept f view
       pub rest : Path f may view steps v′
 
-    not-yet : {v v′ : View} {n : ℕ} → Path f may v n v′ → (i j : ℕ) → i ≡ 0 → Kept f v → At s since j f v → Left i n j v′
+    not-yet : {v v′ : View} {n : ℕ} → Path f may v n v′ → (i j : ℕ) → i ≡ 0 → Kept f v → At s since j f v
+        → Left i n j v′
     not-yet {v} {n = n} p i j z k a = record {
       view = v;
       steps = n;
@@ -156,7 +158,8 @@ module _ {s : Start} {since bound : ℕ} (quiet : Quiet s since bound) (f : Fram
       rest = p;
     }
 
-    through : {v v′ : View} {n : ℕ} → Path f may v n v′ → (i j : ℕ) → i ≡ n → j + i ≤ bound → Kept f v → At s since j f v
+    through : {v v′ : View} {n : ℕ} → Path f may v n v′ → (i j : ℕ) → i ≡ n → j + i ≤ bound → Kept f v
+        → At s since j f v
         → Left i n j v′
     through {v′ = v′} {n = n} p i j z le k a = record {
       view = v′;
@@ -219,7 +222,8 @@ module _ {s : Start} {since bound : ℕ} (quiet : Quiet s since bound) (f : Fram
       polled regs c busy x j finds le a =
           let l : Leads s since bound f (within u regs pc c busy) 1 f
           (within u (withRegister regs r x) (next pc) (from x) (busy - 1)) =
-          rw finds at (by-plan quiet f sound 0 (omega arith) (within u regs pc c busy) going fine (LoadBy r (p .pointer))
+          rw finds at (by-plan quiet f sound 0 (omega arith) (within u regs pc c busy) going fine
+          (LoadBy r (p .pointer))
           (p .loads regs c busy) (p .display)) in
           l .on le a
 
@@ -230,7 +234,8 @@ module _ {s : Start} {since bound : ℕ} (quiet : Quiet s since bound) (f : Fram
       polled-kept : (regs : List ℕ) (c : Known) (busy x to busy′ : ℕ) → Kept f (within u regs pc c busy)
           → Kept f (within u (withRegister regs r x) to (from x) busy′)
       polled-kept regs c busy x to busy′ k =
-          other f (within u regs pc c busy) k r x (p .other) (within u (withRegister regs r x) to (from x) busy′) refl refl
+          other f (within u regs pc c busy) k r x (p .other) (within u (withRegister regs r x) to (from x) busy′) refl
+          refl
 
       waiting-zero : Waiting zero
       unfolding waitSteps isTaken codesOf andBits
@@ -284,7 +289,8 @@ module _ {s : Start} {since bound : ℕ} (quiet : Quiet s since bound) (f : Fram
                       )
                   | yes g ↦ (
                       let z : j + 1 + 1 + (i - 2) ≡ j + i = omega arith in
-                      let l : Left (i - 2) (waitSteps left) (j + 1 + 1) (ready regs′) = rest regs′ (from 0) (i - 2) (j + 1 + 1) (omega arith) (omega arith)
+                      let l : Left (i - 2) (waitSteps left) (j + 1 + 1) (ready regs′) = rest regs′ (from 0) (i - 2)
+                      (j + 1 + 1) (omega arith) (omega arith)
                       (polled-kept regs c (suc busy) 0 pc left k)
                       (walks quiet f sound back .on (omega arith) b) in
                       subst (λ (rs : List ℕ). Left i (waitSteps (suc busy)) j
@@ -355,4 +361,5 @@ module _ {s : Start} {since bound : ℕ} (quiet : Quiet s since bound) (f : Fram
     leaves (attends u going fine r pc p busy regs c first last z) i j le fits k a =
         awaiting u going fine r pc p busy regs c first last z i j le fits k a
     leaves {v′ = v′} (joins w n m first second z) i j le fits k a =
-        subst (λ (n : ℕ). Left i n j v′) z (both n m first second (leaves first) (leaves second) i j (omega arith) fits k a)
+        subst (λ (n : ℕ). Left i n j v′) z
+        (both n m first second (leaves first) (leaves second) i j (omega arith) fits k a)

@@ -73,7 +73,8 @@ module _ (uses : ℕ → Bool) (words : ℕ) (user : Bool) (s : Start) (n : ℕ)
     left-below : take (sp - w .depth - below) (r .memory) ≡ take (sp - w .depth - below) (memoryAt f w)
     left-below =
         subst (λ (x : End). take (sp - w .depth - below) (r .memory) ≡ take (sp - w .depth - below) (x .memory)) stands
-        (subst (λ (x : ℕ). take (x - below) (r .memory) ≡ take (x - below) (callOf s k .memory)) six (back .words-below))
+        (subst (λ (x : ℕ). take (x - below) (r .memory) ≡ take (x - below) (callOf s k .memory)) six
+        (back .words-below))
 
     left-above : drop (sp - w .depth) (r .memory) ≡ drop (sp - w .depth) (memoryAt f w)
     left-above =
@@ -124,8 +125,10 @@ module _ (uses : ℕ → Bool) (words : ℕ) (user : Bool) (s : Start) (n : ℕ)
         let few = codes-below (w .codes) in
         let high : r .machine .psr / 8 ≡ f .high = omega (arith, psr-is, few) in
         let codes : codesNumber (w .codes) ≡ r .machine .psr % 8 = omega (arith, psr-is, few) in
-        let ssp : r .machine .«saved_ssp» ≡ f .ssp = back .saved-ssp ∙ ap (λ (x : End). x .machine .«saved_ssp») stands in
-        let usp : r .machine .«saved_usp» ≡ f .usp = back .saved-usp ∙ ap (λ (x : End). x .machine .«saved_usp») stands in
+        let ssp : r .machine .«saved_ssp» ≡ f .ssp = back .saved-ssp ∙ ap (λ (x : End). x .machine .«saved_ssp») stands
+        in
+        let usp : r .machine .«saved_usp» ≡ f .usp = back .saved-usp ∙ ap (λ (x : End). x .machine .«saved_usp») stands
+        in
         let regs : r .machine .regs ≡ w .regs = back .registers ∙ ap (λ (x : End). x .machine .regs) stands in
         let pc : r .machine .pc ≡ w .pc = back .pc ∙ ap (λ (x : End). x .machine .pc) stands in
         let mcr : r .machine .devices .mcr ≡ w .mcr = back .mcr ∙ ap (λ (x : End). x .machine .devices .mcr) stands in
@@ -270,7 +273,8 @@ module _ (uses : ℕ → Bool) (low : (x : ℕ) → uses x ≡ true → x < 0x02
   followed =
       follows quiet′ frame (r .memory) (r .output) (view .bytes) sound′ all-bytes may same-word (left .rest)
       (left .kept) rest₀
-      (like uses words user s n b two k below le apart r m back accepted view at-left (left .kept) was-fine was-deep low)
+      (like uses words user s n b two k below le apart r m back accepted view at-left (left .kept) was-fine was-deep
+      low)
 
   abbrev i : ℕ
   i = followed .steps

@@ -25,9 +25,9 @@ use Rattle.monitor.specs.Putsp.{AreWords, pairBytes, putspSteps}
 abbrev pub sixAfter : Start → ℕ → ℕ
 sixAfter s k = getD (callOf s k .machine .regs) 6 0
 
--- After k steps of the call s an interrupt was taken; its routine has returned, and the machine goes on as r: with these
--- parts of the record as they were, a display that has had time, and no word changed but so many below R6. `remaining`
--- (crates/run/specs/Continuing.antt) makes r of where the call then stands.
+-- After k steps of the call s an interrupt was taken; its routine has returned, and the machine goes on as r: with
+-- these parts of the record as they were, a display that has had time, and no word changed but so many below R6.
+-- `remaining` (crates/run/specs/Continuing.antt) makes r of where the call then stands.
 pub record Returned (s : Start) (k below : ℕ) (r : Start) : Type 0 where
   pub registers : r .machine .regs ≡ callOf s k .machine .regs
   pub pc : r .machine .pc ≡ callOf s k .machine .pc
@@ -72,7 +72,7 @@ pub record GoesOn (s : Start) (k total : ℕ) (r : Start) (m : ℕ) (bytes : Lis
   pub resumed : Resumed s k r m steps bytes words registers
 
 -- The call s has made k steps without an interrupt, of the so many that its routine takes, the trap among them; the
--- stack has room for the interrupt's words below the routine's; and r, which has enough steps, takes no other interrupt.
+-- stack has room for the interrupt's words below the routine's; and r has enough steps and takes no other interrupt.
 pub record OnTheWay (s : Start) (n k total words below : ℕ) (r : Start) (m : ℕ) : Type 0 where
   pub begun : 0 < k
   pub not-ended : k < total

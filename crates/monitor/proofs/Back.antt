@@ -42,7 +42,8 @@ use Rattle.monitor.proofs.Execution.{statusIn, started, advance-with, s
 use Rattle.monitor.proofs.Intact.{Intact, wordAt, wordWith}
 use Rattle.monitor.proofs.Instructions.{Sound, planAt, slot-is}
 use Rattle.monitor.proofs.Entries.{startFrame, startView, at-start, psr-parts, enteredFrame, enteredView}
-use Rattle.monitor.proofs.Entries.{up-one, up-two, entry-gives, entry-silent, returnedFrame, returnedView, return-once}
+use Rattle.monitor.proofs.Entries.{up-one, up-two, entry-gives, entry-silent, returnedFrame, returnedView}
+use Rattle.monitor.proofs.Entries.{return-once}
 use Rattle.monitor.proofs.Calls.{call-stands, unread}
 use Rattle.monitor.proofs.Again.{Due, tick-keeps, tick-fits, keys-fit, no-fewer, more-keys, still-due}
 

@@ -442,7 +442,8 @@ return-once f sound v going fine plan sp pc psr six at-sp at-next defined user m
 
 pub returns : {s : Start} {since bound : ℕ} → Quiet s since bound → (f : Frame) → Sound f → (v : View)
     → v .mcr ≡ 0x8000 → cellsFine (f .words) (v .cells) ≡ true → planAt f v ≡ Return → (sp pc psr : ℕ)
-    → getD (v .regs) 6 0 ≡ sp → wordAt f v sp ≡ pc → wordAt f v (next sp) ≡ psr → definedPsr psr ≡ psr → (user : Bool) → inUserMode psr ≡ user
+    → getD (v .regs) 6 0 ≡ sp → wordAt f v sp ≡ pc → wordAt f v (next sp) ≡ psr → definedPsr psr ≡ psr → (user : Bool)
+    → inUserMode psr ≡ user
     → Leads s since bound f v 1 (returnedFrame f user sp psr) (returnedView f v user sp psr pc)
 returns quiet f sound v going fine plan sp pc psr six at-sp at-next defined user mode =
     leads-by-one quiet

@@ -32,9 +32,9 @@ use Rattle.monitor.proofs.KeyLaws.{arrived, all-arrived, ready-after-bo
 
 -- ---- where a run stands
 
--- What no instruction of a routine alters: which of the monitor's words it may rely on, where its stack begins and how
--- many words of it there are, mode and priority (the PSR is high * 8 + codes), both saved stack pointers, and the memory
--- and the output that the routine found.
+-- What no instruction of a routine alters: which of the monitor's words it may rely on, how many words of stack it has
+-- and where these begin, mode and priority (the PSR is high * 8 + codes), both saved stack pointers, and the memory and
+-- the output that the routine found.
 pub record Frame : Type 0 where
   pub uses : ℕ → Bool
   pub words : ℕ
@@ -63,8 +63,8 @@ abbrev pub cell : ℕ → ℕ → Cell
 cell i x = record { slot = i; value = x }
 
 -- What can be foretold without the keys. The words stored stand last first; R6 is `depth` below the stack's beginning,
--- or `depth` is 0 and nothing is known of R6; `bytes` were shown; `busy` is the display's count; `read` is how many keys
--- had arrived when KBDR was last loaded, and `status` what KBSR was then.
+-- or `depth` is 0 and nothing is known of R6; `bytes` were shown; `busy` is the display's count; `read` is how many
+-- keys had arrived when KBDR was last loaded, and `status` what KBSR was then.
 pub record View : Type 0 where
   pub regs : List ℕ
   pub pc : ℕ

@@ -81,7 +81,8 @@ module _ (user : Bool) (s : Start) (n t : ℕ) (c : Calls 0x20 getcCode 2 user s
   unfolding vectorWord
   waited =
       turns quiet f sound view refl refl refl refl 0 0x0200 keys 1 (view .regs) (view .codes) (view .busy)
-      (routine-begins getcCode 2 user s n (j + 1) x 0x20 0x0200 c (omega arith) quiet (omega arith) (omega arith) refl) t (omega arith)
+      (routine-begins getcCode 2 user s n (j + 1) x 0x20 0x0200 c (omega arith) quiet (omega arith) (omega arith) refl)
+      t (omega arith)
       (key .none)
 
   abbrev polled : View

@@ -55,8 +55,10 @@ module _ (user : Bool) (s : Start) (n : ℕ) (c : Calls 0x25 haltCode 5 user s n
   at-poll : At s 0 8 f polling
   unfolding polling computing vectorWord
   at-poll =
-      runs quiet f sound 0 (omega arith) 7 (begun s x 0x026D (next (s .machine .pc))) (kept refl refl refl) refl .on (omega arith)
-      (routine-begins haltCode 5 user s n haltSteps x 0x25 0x026D c (omega arith) quiet (omega arith) (omega arith) refl)
+      runs quiet f sound 0 (omega arith) 7 (begun s x 0x026D (next (s .machine .pc))) (kept refl refl refl) refl .on
+      (omega arith)
+      (routine-begins haltCode 5 user s n haltSteps x 0x25 0x026D c (omega arith) quiet (omega arith) (omega arith)
+      refl)
 
   is-ready : polling .busy ≡ 0
   unfolding polling computing

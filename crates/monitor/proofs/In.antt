@@ -65,7 +65,14 @@ module _ (user : Bool) (s : Start) (x : Eight (s .machine .regs)) where
 
   polls : Polls f (polling left) 2 0x022E
   unfolding computing
-  polls = record { pointer = 0x0282; loads = λ r c b. refl; display = refl; branches = λ r c b. refl; own = refl; other = refl }
+  polls = record {
+    pointer = 0x0282;
+    loads = λ r c b. refl;
+    display = refl;
+    branches = λ r c b. refl;
+    own = refl;
+    other = refl;
+  }
 
   keys : Keys f waiting 0 0x0233
   unfolding computing
@@ -93,13 +100,21 @@ module _ (user : Bool) (s : Start) (x : Eight (s .machine .regs)) where
 
     to-key : Leads s 0 bound f (W 0x0289 0x0049 0x8000 0x0230 (from 0x8000) [] 0 0 kbsr) 203 f waiting
     unfolding computing
-    to-key = runs quiet f sound 20 room 203 (W 0x0289 0x0049 0x8000 0x0230 (from 0x8000) [] 0 0 kbsr) (kept refl refl refl) refl
+    to-key = runs quiet f sound 20 room 203 (W 0x0289 0x0049 0x8000 0x0230 (from 0x8000) [] 0 0 kbsr)
+        (kept refl refl refl) refl
 
     -- the echo, from the poll of DSR on
     module _ (key read status : ℕ) (c : Known) (busy : ℕ) where
       echoes : Polls f (W key 0 0x8000 0x0236 c prompt busy read status) 1 0x0236
       unfolding computing
-      echoes = record { pointer = 0x0282; loads = λ r c b. refl; display = refl; branches = λ r c b. refl; own = refl; other = refl }
+      echoes = record {
+        pointer = 0x0282;
+        loads = λ r c b. refl;
+        display = refl;
+        branches = λ r c b. refl;
+        own = refl;
+        other = refl;
+      }
 
       to-echo : Leads s 0 bound f (W key 0 0x8000 0x0236 c prompt busy read status) (waitSteps busy) f
           (W key 0x8000 0x8000 0x0238 (from 0x8000) prompt 0 read status)
@@ -111,7 +126,8 @@ module _ (user : Bool) (s : Start) (x : Eight (s .machine .regs)) where
           (steppedBy 4 f (W key 0x8000 0x8000 0x0238 (from 0x8000) prompt 0 read status))
       unfolding computing
       to-return =
-          runs quiet f sound 20 room 4 (W key 0x8000 0x8000 0x0238 (from 0x8000) prompt 0 read status) (kept refl refl refl) refl
+          runs quiet f sound 20 room 4 (W key 0x8000 0x8000 0x0238 (from 0x8000) prompt 0 read status)
+          (kept refl refl refl) refl
 
 seven-less : (b : ℕ) → b - 1 - 1 - 1 - 1 - 1 - 1 - 1 ≡ b - 7
 seven-less b = ap (λ (n : ℕ). n - 1 - 1 - 1 - 1) (three b) ∙ four b
@@ -141,7 +157,8 @@ module _ (user : Bool) (s : Start) (n t : ℕ) (c : Calls 0x23 inCode 4 user s n
       let l = rw (seven-less (s .machine .devices .busy)) at (then (to-poll user s x (inSteps s t) quiet sound room)
       (then (to-ready user s x (inSteps s t) quiet sound room) (to-key user s x (inSteps s t) quiet sound room))) in
       rw z at (l .on (omega arith)
-      (routine-begins inCode 4 user s n (inSteps s t) x 0x23 0x0228 c (omega arith) quiet (omega arith) (omega arith) refl))
+      (routine-begins inCode 4 user s n (inSteps s t) x 0x23 0x0228 c (omega arith) quiet (omega arith) (omega arith)
+      refl))
 
   waited : Turned s (firstPoll s + 2 * t) (f user s x) (waiting user s x) (waiting user s x .regs) 0 0x0233 t 4
   waited =

@@ -48,7 +48,14 @@ module _ (user : Bool) (s : Start) (x : Eight (s .machine .regs)) where
 
   polls : Polls f polling 1 0x0206
   unfolding polling computing
-  polls = record { pointer = 0x0282; loads = λ r c b. refl; display = refl; branches = λ r c b. refl; own = refl; other = refl }
+  polls = record {
+    pointer = 0x0282;
+    loads = λ r c b. refl;
+    display = refl;
+    branches = λ r c b. refl;
+    own = refl;
+    other = refl;
+  }
 
   module _ (may : ℕ → Bool) (free : 1 ≤ length (s .output)) where
     to-poll : Path f may (begun s x 0x0204 (next (s .machine .pc))) 2 polling
@@ -64,7 +71,8 @@ module _ (user : Bool) (s : Start) (x : Eight (s .machine .regs)) where
     unfolding polling ready returning computing calm calmly
     to-return = treads f may 1 free 3 ready (kept refl refl refl) refl refl
 
-    pub routine : Path f may (begun s x 0x0204 (next (s .machine .pc))) (2 + (waitSteps (busy - 1 - 1 - 1) + 3)) returning
+    pub routine : Path f may (begun s x 0x0204 (next (s .machine .pc))) (2 + (waitSteps (busy - 1 - 1 - 1) + 3))
+        returning
     routine = then to-poll (then to-ready to-return)
 
   pub ends : Ends uses 3 user s returning
@@ -127,7 +135,8 @@ module _ (user : Bool) (s : Start) (n : ℕ) (c : Calls 0x21 outCode 3 user s n)
 
   at-end : At s 0 (j + 1) (backFrame uses 3 user s) (backView uses 3 user s (returning user s x))
   at-end =
-      at-back uses 3 user s n j (returning user s x) (c .begins) (omega arith) quiet at-rti (ends user s x .returns) enough
+      at-back uses 3 user s n j (returning user s x) (c .begins) (omega arith) quiet at-rti (ends user s x .returns)
+      enough
 
   resumed : Resumes s n (j + 1) ((getD (s .machine .regs) 0 0 % 256) ∷ []) 5 3 (s .machine .regs) (notRead s)
   resumed =

@@ -24,8 +24,10 @@ use Rattle.monitor.proofs.Instructions.{kept, steppedBy, computing}
 use Rattle.monitor.proofs.Entries.{calledFrame, Polls}
 use Rattle.monitor.proofs.Calls.{begins-sound, quiet-steps, Eight, eight, begun, routine-begins, halts}
 use Rattle.monitor.proofs.Calls.{as-before, comes-back, none-read}
-use Rattle.monitor.proofs.Strings.{readable, in-user-mode, negative, positive, Looks, Comes, look-at, look-refused, below-two}
-use Rattle.monitor.proofs.Paths.{calm, calmly, Ends, Path, fetches, attends, no-step-more, then, knowing, treads, walks}
+use Rattle.monitor.proofs.Strings.{readable, in-user-mode, negative, positive, Looks, Comes, look-at}
+use Rattle.monitor.proofs.Strings.{look-refused, below-two}
+use Rattle.monitor.proofs.Paths.{calm, calmly, Ends, Path, fetches, attends, no-step-more, then, knowing, treads}
+use Rattle.monitor.proofs.Paths.{walks}
 
 abbrev pub uses : ℕ → Bool
 uses = withVector 0x22 putsCode
@@ -58,7 +60,9 @@ module _ (user : Bool) (s : Start) (x : Eight (s .machine .regs)) where
   }
 
   module _ (may : ℕ → Bool) (allowed : (a : ℕ) → may a ≡ true → mayReadOf user 5 s a ≡ true) where
-    begins : Path f may (begun s x 0x020C (next (s .machine .pc))) 4 (W (x .r₀) (x .r₁) (x .r₂) 0x0210 (from (stackOf (s .machine) - 5)) [] (s .machine .devices .busy - 1 - 1 - 1 - 1 - 1))
+    begins : Path f may (begun s x 0x020C (next (s .machine .pc))) 4
+        (W (x .r₀) (x .r₁) (x .r₂) 0x0210 (from (stackOf (s .machine) - 5)) []
+        (s .machine .devices .busy - 1 - 1 - 1 - 1 - 1))
     unfolding computing calm calmly
     begins = treads f may 0 (omega arith) 4 (begun s x 0x020C (next (s .machine .pc))) (kept refl refl refl) refl refl
 
@@ -69,7 +73,8 @@ module _ (user : Bool) (s : Start) (x : Eight (s .machine .regs)) where
     looks : Looks f may W psr 0x0210 0x0211 0x0214 0x0217 0x0218 0x0224
     unfolding computing calm calmly
     looks = record {
-      loads-psr = λ a r₁ r₂ c bytes busy. treads f may 0 (omega arith) 1 (W a r₁ r₂ 0x0210 c bytes busy) (kept refl refl refl) refl refl;
+      loads-psr = λ a r₁ r₂ c bytes busy. treads f may 0 (omega arith) 1 (W a r₁ r₂ 0x0210 c bytes busy)
+          (kept refl refl refl) refl refl;
       skips = λ a r₁ r₂ x l bytes busy.
           below-two
           (λ (x : ℕ). Path f may (W a r₁ r₂ 0x0211 (from x) bytes busy) 1 (W a r₁ r₂ 0x0218 (from x) bytes (busy - 1)))
@@ -81,7 +86,8 @@ module _ (user : Bool) (s : Start) (x : Eight (s .machine .regs)) where
           treads f may 0 (omega arith) 1 (W a r₁ r₂ 0x0214 (from 0x8000) bytes busy) (kept refl refl refl) refl refl;
       adds-below = λ a r₁ r₂ x l bytes busy.
           below-two
-          (λ (x : ℕ). Path f may (W a r₁ r₂ 0x0214 (from x) bytes busy) 3 (W a (wrap (r₁ + 0xCE00)) 0xCE00 0x0217 (from (wrap (r₁ + 0xCE00))) bytes (busy - 1 - 1 - 1)))
+          (λ (x : ℕ). Path f may (W a r₁ r₂ 0x0214 (from x) bytes busy) 3
+          (W a (wrap (r₁ + 0xCE00)) 0xCE00 0x0217 (from (wrap (r₁ + 0xCE00))) bytes (busy - 1 - 1 - 1)))
           (treads f may 0 (omega arith) 3 (W a r₁ r₂ 0x0214 (from 0) bytes busy) (kept refl refl refl) refl refl)
           (treads f may 0 (omega arith) 3 (W a r₁ r₂ 0x0214 (from 1) bytes busy) (kept refl refl refl) refl refl) x l;
       gets = λ a r₁ r₂ x l bytes busy.
@@ -132,21 +138,26 @@ module _ (user : Bool) (s : Start) (x : Eight (s .machine .regs)) where
 
     -- STI, ADD, BRnzp.
     shows : (a w : ℕ) (bytes : List ℕ) → a < 0xFE00 → length bytes < length (s .output)
-        → Path f may (W a w 0x8000 0x021C (from 0x8000) bytes 0) 3 (W (suc a) w 0x8000 0x0210 (from (suc a)) (bytes ++ (w % 256) ∷ []) 6)
+        → Path f may (W a w 0x8000 0x021C (from 0x8000) bytes 0) 3
+        (W (suc a) w 0x8000 0x0210 (from (suc a)) (bytes ++ (w % 256) ∷ []) 6)
     shows a w bytes below free =
         let z : wrap (a + 1) ≡ suc a = omega arith in
-        let l : Path f may (W a w 0x8000 0x021C (from 0x8000) bytes 0) 3 (W (wrap (a + 1)) w 0x8000 0x0210 (from (wrap (a + 1))) (bytes ++ (w % 256) ∷ []) 6) =
+        let l : Path f may (W a w 0x8000 0x021C (from 0x8000) bytes 0) 3
+        (W (wrap (a + 1)) w 0x8000 0x0210 (from (wrap (a + 1))) (bytes ++ (w % 256) ∷ []) 6) =
         unfold computing calm calmly in
-        treads f may (length (s .output)) (omega arith) 3 (W a w 0x8000 0x021C (from 0x8000) bytes 0) (kept refl refl refl) (rw (lt-ltb (length bytes) (length (s .output)) free)) refl in
+        treads f may (length (s .output)) (omega arith) 3 (W a w 0x8000 0x021C (from 0x8000) bytes 0)
+        (kept refl refl refl) (rw (lt-ltb (length bytes) (length (s .output)) free)) refl in
         rw z at l
 
     shows-byte : (a w r₂ : ℕ) (bytes : List ℕ) (busy : ℕ) → a < 0xFE00 → 0 < w → length bytes < length (s .output)
-        → Path f may (W a w r₂ 0x0219 (from w) bytes busy) (1 + (waitSteps (busy - 1) + 3)) (W (suc a) w 0x8000 0x0210 (from (suc a)) (bytes ++ (w % 256) ∷ []) 6)
+        → Path f may (W a w r₂ 0x0219 (from w) bytes busy) (1 + (waitSteps (busy - 1) + 3))
+        (W (suc a) w 0x8000 0x0210 (from (suc a)) (bytes ++ (w % 256) ∷ []) 6)
     shows-byte a w r₂ bytes busy below some free =
         let first = not-zero a w r₂ bytes busy some in
         let v : View = W a w r₂ 0x021A (first .0) bytes (busy - 1) in
         let ready : Path f may v (waitSteps (busy - 1)) (W a w 0x8000 0x021C (from 0x8000) bytes 0) =
-        attends v refl refl 2 0x021A (polls a w r₂ (first .0) bytes (busy - 1)) (busy - 1) (v .regs) (first .0) refl refl
+        attends v refl refl 2 0x021A (polls a w r₂ (first .0) bytes (busy - 1)) (busy - 1) (v .regs) (first .0) refl
+        refl
         refl in
         then (first .1) (then ready (shows a w bytes below free))
 
@@ -175,7 +186,8 @@ module _ (user : Bool) (s : Start) (x : Eight (s .machine .regs)) where
             codes = from (suc a);
             leads = rw (z, y) at (then (l .leads)
                 (then (gets a (l .r₁) (l .r₂) (l .codes) bytes left w ok is)
-                (shows-byte a w (l .r₂) bytes (left - 1) (readable user 5 (stackOf (s .machine)) a (allowed a ok) .plain) some free)));
+                (shows-byte a w (l .r₂) bytes (left - 1)
+                (readable user 5 (stackOf (s .machine)) a (allowed a ok) .plain) some free)));
           }
         where
           two-less : (b : ℕ) → b - 1 - 1 ≡ b - 2
@@ -231,13 +243,15 @@ module _ (user : Bool) (s : Start) (x : Eight (s .machine .regs)) where
       restores : (b r₂ : ℕ) (bytes : List ℕ) (busy : ℕ)
           → Path f may (W b 0 r₂ 0x0219 (from 0) bytes busy) 5 (steppedBy 5 f (W b 0 r₂ 0x0219 (from 0) bytes busy))
       unfolding computing calm calmly
-      restores b r₂ bytes busy = treads f may 0 (omega arith) 5 (W b 0 r₂ 0x0219 (from 0) bytes busy) (kept refl refl refl) refl refl
+      restores b r₂ bytes busy = treads f may 0 (omega arith) 5 (W b 0 r₂ 0x0219 (from 0) bytes busy)
+          (kept refl refl refl) refl refl
 
       -- The refusal: the registers are restored, and STOP halts.
       stops : (b r₁ r₂ : ℕ) (c : Known) (bytes : List ℕ)
           → Path f may (W b r₁ r₂ 0x0224 c bytes 0) 6 (steppedBy 6 f (W b r₁ r₂ 0x0224 c bytes 0))
       unfolding computing calm calmly
-      stops b r₁ r₂ c bytes = treads f may 0 (omega arith) 6 (W b r₁ r₂ 0x0224 c bytes 0) (kept refl refl refl) refl refl
+      stops b r₁ r₂ c bytes = treads f may 0 (omega arith) 6 (W b r₁ r₂ 0x0224 c bytes 0) (kept refl refl refl) refl
+          refl
 
 -- ---- the way
 
@@ -385,7 +399,8 @@ module _ (user : Bool) (s : Start) (n : ℕ) (c : Calls 0x22 putsCode 5 user s n
   x = eight (s .machine .regs) (c .begins .registers)
 
   abbrev end : View
-  end = returning user s x (c .begins .mode) (few-of s n (c .begins)) (mayReadOf user 5 s) (λ a h. h) words b string room
+  end = returning user s x (c .begins .mode) (few-of s n (c .begins)) (mayReadOf user 5 s) (λ a h. h) words b string
+      room
       ends zero-word
 
   abbrev j : ℕ
@@ -439,7 +454,8 @@ module _ (s : Start) (n : ℕ) (c : Calls 0x22 putsCode 5 true s n) (words : Lis
       (routine-begins putsCode 5 true s n (refusedSteps s words) e 0x22 0x020C c (omega arith) quiet (omega arith)
       (omega arith) refl)) in
       halts a n (c .begins) refl refl refl refl refl refl 0 refl more
-      (stopped-registers s e mode few (mayReadOf true 5 s) (λ a h. h) words b string room privileged-word below) refl refl refl refl
+      (stopped-registers s e mode few (mayReadOf true 5 s) (λ a h. h) words b string room privileged-word below) refl
+      refl refl refl
       refl
 
 pub puts-shows : PutsShows

@@ -100,7 +100,8 @@ module _ (user : Bool) (s : Start) (x : Eight (s .machine .regs)) where
   }
 
   module _ (may : ℕ → Bool) (allowed : (a : ℕ) → may a ≡ true → mayReadOf user 6 s a ≡ true) where
-    begins : Path f may (begun s x 0x023D (next (s .machine .pc))) 5 (W (x .r₃) (x .r₀) (x .r₁) (x .r₂) 0x0242 (from (stackOf (s .machine) - 6)) []
+    begins : Path f may (begun s x 0x023D (next (s .machine .pc))) 5
+        (W (x .r₃) (x .r₀) (x .r₁) (x .r₂) 0x0242 (from (stackOf (s .machine) - 6)) []
         (s .machine .devices .busy - 1 - 1 - 1 - 1 - 1 - 1))
     unfolding computing calm calmly
     begins = treads f may 0 (omega arith) 5 (begun s x 0x023D (next (s .machine .pc))) (kept refl refl refl) refl refl
@@ -112,26 +113,33 @@ module _ (user : Bool) (s : Start) (x : Eight (s .machine .regs)) where
     looks : (r₃ : ℕ) → Looks f may (W r₃) psr 0x0242 0x0243 0x0246 0x0249 0x024A 0x0268
     unfolding computing calm calmly
     looks r₃ = record {
-      loads-psr = λ a r₁ r₂ c bytes busy. treads f may 0 (omega arith) 1 (W r₃ a r₁ r₂ 0x0242 c bytes busy) (kept refl refl refl) refl refl;
+      loads-psr = λ a r₁ r₂ c bytes busy. treads f may 0 (omega arith) 1 (W r₃ a r₁ r₂ 0x0242 c bytes busy)
+          (kept refl refl refl) refl refl;
       skips = λ a r₁ r₂ x l bytes busy.
           below-two
-          (λ (x : ℕ). Path f may (W r₃ a r₁ r₂ 0x0243 (from x) bytes busy) 1 (W r₃ a r₁ r₂ 0x024A (from x) bytes (busy - 1)))
+          (λ (x : ℕ). Path f may (W r₃ a r₁ r₂ 0x0243 (from x) bytes busy) 1
+          (W r₃ a r₁ r₂ 0x024A (from x) bytes (busy - 1)))
           (treads f may 0 (omega arith) 1 (W r₃ a r₁ r₂ 0x0243 (from 0) bytes busy) (kept refl refl refl) refl refl)
-          (treads f may 0 (omega arith) 1 (W r₃ a r₁ r₂ 0x0243 (from 1) bytes busy) (kept refl refl refl) refl refl) x l;
+          (treads f may 0 (omega arith) 1 (W r₃ a r₁ r₂ 0x0243 (from 1) bytes busy) (kept refl refl refl) refl refl) x
+          l;
       adds-above = λ a r₁ r₂ bytes busy.
           treads f may 0 (omega arith) 3 (W r₃ a r₁ r₂ 0x0243 (from 0x8000) bytes busy) (kept refl refl refl) refl refl;
       goes-on = λ a r₁ r₂ bytes busy.
           treads f may 0 (omega arith) 1 (W r₃ a r₁ r₂ 0x0246 (from 0x8000) bytes busy) (kept refl refl refl) refl refl;
       adds-below = λ a r₁ r₂ x l bytes busy.
           below-two
-          (λ (x : ℕ). Path f may (W r₃ a r₁ r₂ 0x0246 (from x) bytes busy) 3 (W r₃ a (wrap (r₁ + 0xCE00)) 0xCE00 0x0249 (from (wrap (r₁ + 0xCE00))) bytes (busy - 1 - 1 - 1)))
+          (λ (x : ℕ). Path f may (W r₃ a r₁ r₂ 0x0246 (from x) bytes busy) 3
+          (W r₃ a (wrap (r₁ + 0xCE00)) 0xCE00 0x0249 (from (wrap (r₁ + 0xCE00))) bytes (busy - 1 - 1 - 1)))
           (treads f may 0 (omega arith) 3 (W r₃ a r₁ r₂ 0x0246 (from 0) bytes busy) (kept refl refl refl) refl refl)
-          (treads f may 0 (omega arith) 3 (W r₃ a r₁ r₂ 0x0246 (from 1) bytes busy) (kept refl refl refl) refl refl) x l;
+          (treads f may 0 (omega arith) 3 (W r₃ a r₁ r₂ 0x0246 (from 1) bytes busy) (kept refl refl refl) refl refl) x
+          l;
       gets = λ a r₁ r₂ x l bytes busy.
           below-two
-          (λ (x : ℕ). Path f may (W r₃ a r₁ r₂ 0x0249 (from x) bytes busy) 1 (W r₃ a r₁ r₂ 0x024A (from x) bytes (busy - 1)))
+          (λ (x : ℕ). Path f may (W r₃ a r₁ r₂ 0x0249 (from x) bytes busy) 1
+          (W r₃ a r₁ r₂ 0x024A (from x) bytes (busy - 1)))
           (treads f may 0 (omega arith) 1 (W r₃ a r₁ r₂ 0x0249 (from 0) bytes busy) (kept refl refl refl) refl refl)
-          (treads f may 0 (omega arith) 1 (W r₃ a r₁ r₂ 0x0249 (from 1) bytes busy) (kept refl refl refl) refl refl) x l;
+          (treads f may 0 (omega arith) 1 (W r₃ a r₁ r₂ 0x0249 (from 1) bytes busy) (kept refl refl refl) refl refl) x
+          l;
       refuses = λ a r₁ r₂ bytes busy.
           treads f may 0 (omega arith) 1 (W r₃ a r₁ r₂ 0x0249 (from 0x8000) bytes busy) (kept refl refl refl) refl refl;
       knows = known r₃;
@@ -165,8 +173,10 @@ module _ (user : Bool) (s : Start) (x : Eight (s .machine .regs)) where
         let z : busy - 1 - 1 - 1 ≡ 0 = omega arith in
         let l = not-zero r₃ a w r₂ 0x024B w 3 bytes busy
         (W r₃ a w (wordAnd w 0x00FF) 0x024E (from (wordAnd w 0x00FF)) bytes (busy - 1 - 1 - 1)) some
-        (unfold computing calm calmly in treads f may 0 (omega arith) 3 (W r₃ a w r₂ 0x024B (from 1) bytes busy) (kept refl refl refl) refl refl)
-        (unfold computing calm calmly in treads f may 0 (omega arith) 3 (W r₃ a w r₂ 0x024B (from 0x8000) bytes busy) (kept refl refl refl) refl refl)
+        (unfold computing calm calmly in treads f may 0 (omega arith) 3 (W r₃ a w r₂ 0x024B (from 1) bytes busy)
+        (kept refl refl refl) refl refl)
+        (unfold computing calm calmly in treads f may 0 (omega arith) 3 (W r₃ a w r₂ 0x024B (from 0x8000) bytes busy)
+        (kept refl refl refl) refl refl)
         in
         rw (← (low-byte w below)) (rw z at l)
 
@@ -220,7 +230,8 @@ module _ (user : Bool) (s : Start) (x : Eight (s .machine .regs)) where
     low-part r₃ a w y bytes below room =
         shows-if r₃ a w y 0x024E 0x0252 bytes below room
         (treads f may 0 (omega arith) 1 (W r₃ a w 0 0x024E (from 0) bytes 0) (kept refl refl refl) refl refl)
-        (λ free. treads f may (length (s .output)) (omega arith) 4 (W r₃ a w y 0x024E (from 1) bytes 0) (kept refl refl refl) (rw (lt-ltb (length bytes) (length (s .output)) free)) refl)
+        (λ free. treads f may (length (s .output)) (omega arith) 4 (W r₃ a w y 0x024E (from 1) bytes 0)
+        (kept refl refl refl) (rw (lt-ltb (length bytes) (length (s .output)) free)) refl)
 
     high-part : (r₃ a r₁ y : ℕ) (bytes : List ℕ) → y < 256 → length bytes + length (unlessZero y) ≤ length (s .output)
         → After (W r₃ a r₁ y 0x025C (from y) bytes 0) (1 + byteSteps y) a r₁ y 0x0260 (bytes ++ unlessZero y) 8
@@ -228,7 +239,8 @@ module _ (user : Bool) (s : Start) (x : Eight (s .machine .regs)) where
     high-part r₃ a r₁ y bytes below room =
         shows-if r₃ a r₁ y 0x025C 0x0260 bytes below room
         (treads f may 0 (omega arith) 1 (W r₃ a r₁ 0 0x025C (from 0) bytes 0) (kept refl refl refl) refl refl)
-        (λ free. treads f may (length (s .output)) (omega arith) 4 (W r₃ a r₁ y 0x025C (from 1) bytes 0) (kept refl refl refl) (rw (lt-ltb (length bytes) (length (s .output)) free)) refl)
+        (λ free. treads f may (length (s .output)) (omega arith) 4 (W r₃ a r₁ y 0x025C (from 1) bytes 0)
+        (kept refl refl refl) (rw (lt-ltb (length bytes) (length (s .output)) free)) refl)
 
     -- ---- the shift
 
@@ -236,10 +248,14 @@ module _ (user : Bool) (s : Start) (x : Eight (s .machine .regs)) where
         → Path f may (W r₃ a w y 0x0252 c bytes busy) 2 (W 8 a w 0 0x0254 (from 8) bytes (busy - 1 - 1))
     clears r₃ a w y c bytes busy below =
         let z : wordAnd y 0 ≡ 0 = sym (and-bits 16 y 0 (omega arith)) ∙ and-zero-r y in
-        let first : Path f may (W r₃ a w y 0x0252 c bytes busy) 1 (W r₃ a w (wordAnd y 0) 0x0253 (from (wordAnd y 0)) bytes (busy - 1)) =
-        unfold computing calm calmly in treads f may 0 (omega arith) 1 (W r₃ a w y 0x0252 c bytes busy) (kept refl refl refl) refl refl in
-        let second : Path f may (W r₃ a w 0 0x0253 (from 0) bytes (busy - 1)) 1 (W 8 a w 0 0x0254 (from 8) bytes (busy - 1 - 1)) =
-        unfold computing calm calmly in treads f may 0 (omega arith) 1 (W r₃ a w 0 0x0253 (from 0) bytes (busy - 1)) (kept refl refl refl) refl refl in
+        let first : Path f may (W r₃ a w y 0x0252 c bytes busy) 1
+        (W r₃ a w (wordAnd y 0) 0x0253 (from (wordAnd y 0)) bytes (busy - 1)) =
+        unfold computing calm calmly in treads f may 0 (omega arith) 1 (W r₃ a w y 0x0252 c bytes busy)
+        (kept refl refl refl) refl refl in
+        let second : Path f may (W r₃ a w 0 0x0253 (from 0) bytes (busy - 1)) 1
+        (W 8 a w 0 0x0254 (from 8) bytes (busy - 1 - 1)) =
+        unfold computing calm calmly in treads f may 0 (omega arith) 1 (W r₃ a w 0 0x0253 (from 0) bytes (busy - 1))
+        (kept refl refl refl) refl refl in
         then (rw z at first) second
 
     -- ADD R2, R2, R2 and ADD R1, R1, #0.
@@ -248,13 +264,16 @@ module _ (user : Bool) (s : Start) (x : Eight (s .machine .regs)) where
     doubles r₃ a r₁ r₂ c bytes busy below small =
         let y : wrap (r₂ + r₂) ≡ r₂ * 2 = omega arith in
         let z : wrap (r₁ + 0) ≡ r₁ = omega arith in
-        let l : Path f may (W r₃ a r₁ r₂ 0x0254 c bytes busy) 2 (W r₃ a (wrap (r₁ + 0)) (wrap (r₂ + r₂)) 0x0256 (from (wrap (r₁ + 0))) bytes (busy - 1 - 1)) =
-        unfold computing calm calmly in treads f may 0 (omega arith) 2 (W r₃ a r₁ r₂ 0x0254 c bytes busy) (kept refl refl refl) refl refl in
+        let l : Path f may (W r₃ a r₁ r₂ 0x0254 c bytes busy) 2
+        (W r₃ a (wrap (r₁ + 0)) (wrap (r₂ + r₂)) 0x0256 (from (wrap (r₁ + 0))) bytes (busy - 1 - 1)) =
+        unfold computing calm calmly in treads f may 0 (omega arith) 2 (W r₃ a r₁ r₂ 0x0254 c bytes busy)
+        (kept refl refl refl) refl refl in
         rw (y, z) at l
 
     -- BRzp is taken: ADD R1, R1, R1; ADD R3, R3, #-1.
     clear-bit : (r₃ a r₁ r₂ x : ℕ) → x < 2 → (bytes : List ℕ) (busy : ℕ) → 0 < r₃ → r₃ < 65536
-        → Path f may (W r₃ a r₁ r₂ 0x0256 (from x) bytes busy) 3 (W (r₃ - 1) a (r₁ * 2 % 65536) r₂ 0x025A (from (r₃ - 1)) bytes (busy - 1 - 1 - 1))
+        → Path f may (W r₃ a r₁ r₂ 0x0256 (from x) bytes busy) 3
+        (W (r₃ - 1) a (r₁ * 2 % 65536) r₂ 0x025A (from (r₃ - 1)) bytes (busy - 1 - 1 - 1))
     clear-bit r₃ a r₁ r₂ x l bytes busy some fits =
         let y : wrap (r₁ + r₁) ≡ r₁ * 2 % 65536 = ap (λ (n : ℕ). n % 65536) (twice r₁) in
         let z : wrap (r₃ + 65535) ≡ r₃ - 1 = omega arith in
@@ -264,23 +283,29 @@ module _ (user : Bool) (s : Start) (x : Eight (s .machine .regs)) where
         twice n = omega arith
 
         leads : (x : ℕ) → x < 2
-            → Path f may (W r₃ a r₁ r₂ 0x0256 (from x) bytes busy) 3 (W (wrap (r₃ + 65535)) a (wrap (r₁ + r₁)) r₂ 0x025A (from (wrap (r₃ + 65535))) bytes (busy - 1 - 1 - 1))
+            → Path f may (W r₃ a r₁ r₂ 0x0256 (from x) bytes busy) 3
+            (W (wrap (r₃ + 65535)) a (wrap (r₁ + r₁)) r₂ 0x025A (from (wrap (r₃ + 65535))) bytes (busy - 1 - 1 - 1))
         leads = unfold computing calm calmly in
             below-two
-            (λ (x : ℕ). Path f may (W r₃ a r₁ r₂ 0x0256 (from x) bytes busy) 3 (W (wrap (r₃ + 65535)) a (wrap (r₁ + r₁)) r₂ 0x025A (from (wrap (r₃ + 65535))) bytes (busy - 1 - 1 - 1)))
+            (λ (x : ℕ). Path f may (W r₃ a r₁ r₂ 0x0256 (from x) bytes busy) 3
+            (W (wrap (r₃ + 65535)) a (wrap (r₁ + r₁)) r₂ 0x025A (from (wrap (r₃ + 65535))) bytes
+            (busy - 1 - 1 - 1)))
             (treads f may 0 (omega arith) 3 (W r₃ a r₁ r₂ 0x0256 (from 0) bytes busy) (kept refl refl refl) refl refl)
             (treads f may 0 (omega arith) 3 (W r₃ a r₁ r₂ 0x0256 (from 1) bytes busy) (kept refl refl refl) refl refl)
 
     -- It is not: ADD R2, R2, #1 too.
     set-bit : (r₃ a r₁ r₂ : ℕ) (bytes : List ℕ) (busy : ℕ) → r₂ < 0x8000 → 0 < r₃ → r₃ < 65536
-        → Path f may (W r₃ a r₁ r₂ 0x0256 (from 0x8000) bytes busy) 4 (W (r₃ - 1) a (r₁ * 2 % 65536) (r₂ + 1) 0x025A (from (r₃ - 1)) bytes (busy - 1 - 1 - 1 - 1))
+        → Path f may (W r₃ a r₁ r₂ 0x0256 (from 0x8000) bytes busy) 4
+        (W (r₃ - 1) a (r₁ * 2 % 65536) (r₂ + 1) 0x025A (from (r₃ - 1)) bytes (busy - 1 - 1 - 1 - 1))
     set-bit r₃ a r₁ r₂ bytes busy small some fits =
         let y : wrap (r₁ + r₁) ≡ r₁ * 2 % 65536 = ap (λ (n : ℕ). n % 65536) (twice r₁) in
         let z : wrap (r₃ + 65535) ≡ r₃ - 1 = omega arith in
         let u : wrap (r₂ + 1) ≡ r₂ + 1 = omega arith in
-        let l : Path f may (W r₃ a r₁ r₂ 0x0256 (from 0x8000) bytes busy) 4 (W (wrap (r₃ + 65535)) a (wrap (r₁ + r₁)) (wrap (r₂ + 1)) 0x025A (from (wrap (r₃ + 65535))) bytes
+        let l : Path f may (W r₃ a r₁ r₂ 0x0256 (from 0x8000) bytes busy) 4
+        (W (wrap (r₃ + 65535)) a (wrap (r₁ + r₁)) (wrap (r₂ + 1)) 0x025A (from (wrap (r₃ + 65535))) bytes
         (busy - 1 - 1 - 1 - 1)) =
-        unfold computing calm calmly in treads f may 0 (omega arith) 4 (W r₃ a r₁ r₂ 0x0256 (from 0x8000) bytes busy) (kept refl refl refl) refl refl in
+        unfold computing calm calmly in treads f may 0 (omega arith) 4 (W r₃ a r₁ r₂ 0x0256 (from 0x8000) bytes busy)
+        (kept refl refl refl) refl refl in
         rw (y, z, u) at l
       where
         twice : (n : ℕ) → n + n ≡ n * 2
@@ -336,7 +361,8 @@ module _ (user : Bool) (s : Start) (x : Eight (s .machine .regs)) where
     abbrev Shifts : ℕ → Type 0
     Shifts i = (a r₁ r₂ : ℕ) (c : Known) (bytes : List ℕ) (busy : ℕ) → busy ≤ 6 → r₁ < 65536 → r₂ < limit (suc i)
         → i < 8
-        → (r : ℕ) × Path f may (W (suc i) a r₁ r₂ 0x0254 c bytes busy) (shiftSteps (suc i) r₁) (W 0 a r (shifted (suc i) r₁ r₂) 0x025B (from 0) bytes 0)
+        → (r : ℕ) × Path f may (W (suc i) a r₁ r₂ 0x0254 c bytes busy) (shiftSteps (suc i) r₁)
+        (W 0 a r (shifted (suc i) r₁ r₂) 0x025B (from 0) bytes 0)
 
     last-bit : Shifts 0
     unfolding limit shifted shiftSteps
@@ -344,9 +370,11 @@ module _ (user : Bool) (s : Start) (x : Eight (s .machine .regs)) where
         let b = one-bit 1 a r₁ r₂ c bytes busy few below (omega arith) (omega arith) (omega arith) in
         let z : 6 + r₁ / 0x8000 + 0 ≡ 5 + r₁ / 0x8000 + 1 = omega arith in
         let n : b .busy - 1 ≡ 0 = omega (arith, b .few) in
-        let branch : Path f may (W 0 a (r₁ * 2 % 65536) (r₂ * 2 + r₁ / 0x8000) 0x025A (from 0) bytes (b .busy)) 1 (W 0 a (r₁ * 2 % 65536) (r₂ * 2 + r₁ / 0x8000) 0x025B (from 0) bytes (b .busy - 1)) =
+        let branch : Path f may (W 0 a (r₁ * 2 % 65536) (r₂ * 2 + r₁ / 0x8000) 0x025A (from 0) bytes (b .busy)) 1
+        (W 0 a (r₁ * 2 % 65536) (r₂ * 2 + r₁ / 0x8000) 0x025B (from 0) bytes (b .busy - 1)) =
         unfold computing calm calmly in
-        treads f may 0 (omega arith) 1 (W 0 a (r₁ * 2 % 65536) (r₂ * 2 + r₁ / 0x8000) 0x025A (from 0) bytes (b .busy)) (kept refl refl refl) refl refl in
+        treads f may 0 (omega arith) 1 (W 0 a (r₁ * 2 % 65536) (r₂ * 2 + r₁ / 0x8000) 0x025A (from 0) bytes (b .busy))
+        (kept refl refl refl) refl refl in
         (r₁ * 2 % 65536, rw z (then (b .leads) (rw n at branch)))
 
     more-bits : (i : ℕ) → Shifts i → Shifts (suc i)
@@ -360,10 +388,13 @@ module _ (user : Bool) (s : Start) (x : Eight (s .machine .regs)) where
         let n : b .busy - 1 ≡ 0 = omega (arith, b .few) in
         let r₁′ : ℕ = r₁ * 2 % 65536 in
         let r₂′ : ℕ = r₂ * 2 + r₁ / 0x8000 in
-        let branch : Path f may (W (suc i) a r₁′ r₂′ 0x025A (from 1) bytes (b .busy)) 1 (W (suc i) a r₁′ r₂′ 0x0254 (from 1) bytes (b .busy - 1)) =
+        let branch : Path f may (W (suc i) a r₁′ r₂′ 0x025A (from 1) bytes (b .busy)) 1
+        (W (suc i) a r₁′ r₂′ 0x0254 (from 1) bytes (b .busy - 1)) =
         unfold computing calm calmly in
-        treads f may 0 (omega arith) 1 (W (suc i) a r₁′ r₂′ 0x025A (from 1) bytes (b .busy)) (kept refl refl refl) refl refl in
-        let known-branch : Path f may (W (suc i) a r₁′ r₂′ 0x025A (from (suc i)) bytes (b .busy)) 1 (W (suc i) a r₁′ r₂′ 0x0254 (from 1) bytes 0) =
+        treads f may 0 (omega arith) 1 (W (suc i) a r₁′ r₂′ 0x025A (from 1) bytes (b .busy)) (kept refl refl refl) refl
+        refl in
+        let known-branch : Path f may (W (suc i) a r₁′ r₂′ 0x025A (from (suc i)) bytes (b .busy)) 1
+        (W (suc i) a r₁′ r₂′ 0x0254 (from 1) bytes 0) =
         then (known (suc i) a r₁′ r₂′ 0x025A (from (suc i)) (from 1) bytes (b .busy)
         (positive (suc i) (omega arith) (omega arith))) (rw n at branch) in
         let others = rest a r₁′ r₂′ (from 1) bytes 0 (omega arith) (omega arith) (omega arith) (omega arith) in
@@ -380,17 +411,22 @@ module _ (user : Bool) (s : Start) (x : Eight (s .machine .regs)) where
         → Path f may (W 0 a r y 0x025B (from 0) bytes 0) 1 (W 0 a r y 0x025C (from y) bytes 0)
     tests a r y bytes below =
         let z : wrap (y + 0) ≡ y = omega arith in
-        let l : Path f may (W 0 a r y 0x025B (from 0) bytes 0) 1 (W 0 a r (wrap (y + 0)) 0x025C (from (wrap (y + 0))) bytes 0) =
-        unfold computing calm calmly in treads f may 0 (omega arith) 1 (W 0 a r y 0x025B (from 0) bytes 0) (kept refl refl refl) refl refl in
+        let l : Path f may (W 0 a r y 0x025B (from 0) bytes 0) 1
+        (W 0 a r (wrap (y + 0)) 0x025C (from (wrap (y + 0))) bytes 0) =
+        unfold computing calm calmly in treads f may 0 (omega arith) 1 (W 0 a r y 0x025B (from 0) bytes 0)
+        (kept refl refl refl) refl refl in
         rw z at l
 
     -- ADD R0, R0, #1 and BRnzp.
     goes-on : (r₃ a r₁ r₂ : ℕ) (c : Known) (bytes : List ℕ) (busy : ℕ) → a < 0xFE00
-        → Path f may (W r₃ a r₁ r₂ 0x0260 c bytes busy) 2 (W r₃ (suc a) r₁ r₂ 0x0242 (from (suc a)) bytes (busy - 1 - 1))
+        → Path f may (W r₃ a r₁ r₂ 0x0260 c bytes busy) 2
+        (W r₃ (suc a) r₁ r₂ 0x0242 (from (suc a)) bytes (busy - 1 - 1))
     goes-on r₃ a r₁ r₂ c bytes busy below =
         let z : wrap (a + 1) ≡ suc a = omega arith in
-        let l : Path f may (W r₃ a r₁ r₂ 0x0260 c bytes busy) 2 (W r₃ (wrap (a + 1)) r₁ r₂ 0x0242 (from (wrap (a + 1))) bytes (busy - 1 - 1)) =
-        unfold computing calm calmly in treads f may 0 (omega arith) 2 (W r₃ a r₁ r₂ 0x0260 c bytes busy) (kept refl refl refl) refl refl in
+        let l : Path f may (W r₃ a r₁ r₂ 0x0260 c bytes busy) 2
+        (W r₃ (wrap (a + 1)) r₁ r₂ 0x0242 (from (wrap (a + 1))) bytes (busy - 1 - 1)) =
+        unfold computing calm calmly in treads f may 0 (omega arith) 2 (W r₃ a r₁ r₂ 0x0260 c bytes busy)
+        (kept refl refl refl) refl refl in
         rw z at l
 
     -- At the look, with these bytes shown.
@@ -515,7 +551,8 @@ module _ (user : Bool) (s : Start) (x : Eight (s .machine .regs)) where
 
       -- The end: BRz is taken, and the registers are restored.
       restores : (r₃ b r₂ : ℕ) (bytes : List ℕ) (busy : ℕ)
-          → Path f may (W r₃ b 0 r₂ 0x024B (from 0) bytes busy) 6 (steppedBy 6 f (W r₃ b 0 r₂ 0x024B (from 0) bytes busy))
+          → Path f may (W r₃ b 0 r₂ 0x024B (from 0) bytes busy) 6
+          (steppedBy 6 f (W r₃ b 0 r₂ 0x024B (from 0) bytes busy))
       unfolding computing calm calmly
       restores r₃ b r₂ bytes busy =
           treads f may 0 (omega arith) 6 (W r₃ b 0 r₂ 0x024B (from 0) bytes busy) (kept refl refl refl) refl refl
@@ -524,7 +561,8 @@ module _ (user : Bool) (s : Start) (x : Eight (s .machine .regs)) where
       stops : (r₃ b r₁ r₂ : ℕ) (c : Known) (bytes : List ℕ)
           → Path f may (W r₃ b r₁ r₂ 0x0268 c bytes 0) 7 (steppedBy 7 f (W r₃ b r₁ r₂ 0x0268 c bytes 0))
       unfolding computing calm calmly
-      stops r₃ b r₁ r₂ c bytes = treads f may 0 (omega arith) 7 (W r₃ b r₁ r₂ 0x0268 c bytes 0) (kept refl refl refl) refl refl
+      stops r₃ b r₁ r₂ c bytes = treads f may 0 (omega arith) 7 (W r₃ b r₁ r₂ 0x0268 c bytes 0) (kept refl refl refl)
+          refl refl
 
 -- ---- the way
 
@@ -728,7 +766,8 @@ module _ (s : Start) (n : ℕ) (c : Calls 0x24 putspCode 6 true s n) (words : Li
       (routine-begins putspCode 6 true s n (refusedPairSteps (r0 s) words) e 0x24 0x023D c (omega arith) quiet
       (omega arith) (omega arith) refl)) in
       halts a n (c .begins) refl refl refl refl refl refl 0 refl more
-      (stopped-registers s e mode few (mayReadOf true 6 s) (λ a h. h) words b string fit room privileged-word below) refl refl refl refl
+      (stopped-registers s e mode few (mayReadOf true 6 s) (λ a h. h) words b string fit room privileged-word below)
+      refl refl refl refl
       refl
 
 pub putsp-shows : PutspShows

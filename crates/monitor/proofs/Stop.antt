@@ -49,11 +49,13 @@ module _ (vector : ℕ) (user : Bool) (s : Start) (n : ℕ) (b : Begins (withVec
       halts at-stop n b refl refl refl refl refl refl (s .machine .devices .busy - 3) (omega arith) more (rw (x .are))
       refl refl refl refl refl
 
-quiet-three : {uses : ℕ → Bool} {words : ℕ} {user : Bool} (s : Start) (n : ℕ) → Begins uses words user s n → 3 < n → NoInterrupt s 3
+quiet-three : {uses : ℕ → Bool} {words : ℕ} {user : Bool} (s : Start) (n : ℕ) → Begins uses words user s n → 3 < n
+    → NoInterrupt s 3
     → Quiet s 0 3
 quiet-three s n b more none = quiet-steps s n 3 0 (b .accepted) (omega arith) none
 
-other-trap-halts : (vector : ℕ) → OtherTrap vector → (user : Bool) (s : Start) (n : ℕ) → Calls vector stopCode 2 user s n
+other-trap-halts : (vector : ℕ) → OtherTrap vector → (user : Bool) (s : Start) (n : ℕ)
+    → Calls vector stopCode 2 user s n
     → 3 < n → NoInterrupt s 3 → Halts s n 3 [] (s .machine .devices .busy - 3) 2
 other-trap-halts vector other user s n c more none =
     let b = c .begins in
@@ -86,7 +88,8 @@ illegal-halts s n reserved b word more none =
 -- ---- the host lets the machine go on
 
 module _ (s : Start) (n k : ℕ) (bytes : List ℕ) (busy used : ℕ) (words : HasWords stopCode (s .memory))
-    (h : Halts s n k bytes busy used) (apart : StackApart used (stackOf (s .machine))) (s′ : Start) (n′ : ℕ) (g : GoesOn s n s′ n′)
+    (h : Halts s n k bytes busy used) (apart : StackApart used (stackOf (s .machine))) (s′ : Start) (n′ : ℕ)
+    (g : GoesOn s n s′ n′)
     (more : 3 < n′) (none : NoInterrupt s′ 3) where
   still-intact : Intact stopCode (s′ .memory)
   still-intact = record {

@@ -79,13 +79,15 @@ pub record Looks (f : Frame) (may : ℕ → Bool) (W : ℕ → ℕ → ℕ → �
       → Path f may (W a r₁ r₂ p₂ (from x) bytes busy) 1 (W a r₁ r₂ get (from x) bytes (busy - 1))
   -- and not after a negative one; LD R1, ABOVE; ADD R1, R0, R1
   pub adds-above : (a r₁ r₂ : ℕ) (bytes : List ℕ) (busy : ℕ)
-      → Path f may (W a r₁ r₂ p₂ (from 0x8000) bytes busy) 3 (W a (wrap (a + 0x0200)) r₂ p₃ (from (wrap (a + 0x0200))) bytes (busy - 1 - 1 - 1))
+      → Path f may (W a r₁ r₂ p₂ (from 0x8000) bytes busy) 3
+      (W a (wrap (a + 0x0200)) r₂ p₃ (from (wrap (a + 0x0200))) bytes (busy - 1 - 1 - 1))
   -- BRn is taken after a negative value
   pub goes-on : (a r₁ r₂ : ℕ) (bytes : List ℕ) (busy : ℕ)
       → Path f may (W a r₁ r₂ p₃ (from 0x8000) bytes busy) 1 (W a r₁ r₂ get (from 0x8000) bytes (busy - 1))
   -- and not after another: LD R2, BELOW; ADD R1, R1, R2
   pub adds-below : (a r₁ r₂ x : ℕ) → x < 2 → (bytes : List ℕ) (busy : ℕ)
-      → Path f may (W a r₁ r₂ p₃ (from x) bytes busy) 3 (W a (wrap (r₁ + 0xCE00)) 0xCE00 p₄ (from (wrap (r₁ + 0xCE00))) bytes (busy - 1 - 1 - 1))
+      → Path f may (W a r₁ r₂ p₃ (from x) bytes busy) 3
+      (W a (wrap (r₁ + 0xCE00)) 0xCE00 p₄ (from (wrap (r₁ + 0xCE00))) bytes (busy - 1 - 1 - 1))
   -- BRn once more
   pub gets : (a r₁ r₂ x : ℕ) → x < 2 → (bytes : List ℕ) (busy : ℕ)
       → Path f may (W a r₁ r₂ p₄ (from x) bytes busy) 1 (W a r₁ r₂ get (from x) bytes (busy - 1))
@@ -142,7 +144,8 @@ module _ {f : Frame} {may : ℕ → Bool} {W : ℕ → ℕ → ℕ → ℕ → K
       abbrev difference : ℕ
       difference = wrap (sum + 0xCE00)
 
-      second : Path f may (W a r₁ r₂ p₁ c bytes busy) 7 (W a difference 0xCE00 p₄ (from difference) bytes (left - 1 - 1 - 1))
+      second : Path f may (W a r₁ r₂ p₁ c bytes busy) 7
+          (W a difference 0xCE00 p₄ (from difference) bytes (left - 1 - 1 - 1))
       unfolding codesOf
       second = elim (decLe 1 sum) [
         | yes h ↦ then to-branch

@@ -9,8 +9,8 @@ use Rattle.monitor.specs.Uses.{outCode}
 use Rattle.monitor.specs.Out.{outStepsOf}
 use Rattle.monitor.specs.Calls.{Calls, NoInterrupt, notRead, Resumes}
 
--- R0's low byte is shown and nothing else, registers and PSR are as before, and no word is changed but three of the stack's.
--- The byte was shown four steps before the end, so that the display's count is 5.
+-- R0's low byte is shown and nothing else, registers and PSR are as before, and no word is changed but three of the
+-- stack's. The byte was shown four steps before the end, so that the display's count is 5.
 abbrev pub OutResumes : Type 0
 OutResumes = (user : Bool) (s : Start) (n : ℕ) → Calls 0x21 outCode 3 user s n → 0 < length (s .output)
     → outStepsOf s ≤ n → NoInterrupt s (outStepsOf s)

@@ -55,7 +55,8 @@ pub record HaltsAgain (s : Start) (n : ℕ) : Type 0 where
 
 -- Three steps, the entry, LD and STI: halted, nothing shown, no word changed but two of the stack's.
 pub record StopHalts : Type 0 where
-  pub other-trap : (vector : ℕ) → OtherTrap vector → (user : Bool) (s : Start) (n : ℕ) → Calls vector stopCode 2 user s n
+  pub other-trap : (vector : ℕ) → OtherTrap vector → (user : Bool) (s : Start) (n : ℕ)
+      → Calls vector stopCode 2 user s n
       → 3 < n → NoInterrupt s 3 → Halts s n 3 [] (s .machine .devices .busy - 3) 2
   pub privilege-exception : (s : Start) (n : ℕ) → Raises privilege stopCode 2 s n → 3 < n → NoInterrupt s 3
       → Halts s n 3 [] (s .machine .devices .busy - 3) 2

@@ -91,7 +91,8 @@ getc : (user : Bool) (sp : ℕ) → StackApart 2 sp → Calls 0x20 getcCode 2 us
 unfolding handed
 getc user sp apart = record {
   begins =
-      ready 0xF020 (withVector 0x20 getcCode) (with-vector-below 0x20 getcCode (omega arith) getc-below) 2 sp apart user;
+      ready 0xF020 (withVector 0x20 getcCode) (with-vector-below 0x20 getcCode (omega arith) getc-below) 2 sp apart
+      user;
   may-fetch = allowed user;
   trap = refl;
 }
@@ -109,7 +110,8 @@ puts : (user : Bool) (sp : ℕ) → StackApart 5 sp → Calls 0x22 putsCode 5 us
 unfolding handed
 puts user sp apart = record {
   begins =
-      ready 0xF022 (withVector 0x22 putsCode) (with-vector-below 0x22 putsCode (omega arith) puts-below) 5 sp apart user;
+      ready 0xF022 (withVector 0x22 putsCode) (with-vector-below 0x22 putsCode (omega arith) puts-below) 5 sp apart
+      user;
   may-fetch = allowed user;
   trap = refl;
 }
@@ -127,7 +129,8 @@ putsp : (user : Bool) (sp : ℕ) → StackApart 6 sp → Calls 0x24 putspCode 6 
 unfolding handed
 putsp user sp apart = record {
   begins =
-      ready 0xF024 (withVector 0x24 putspCode) (with-vector-below 0x24 putspCode (omega arith) putsp-below) 6 sp apart user;
+      ready 0xF024 (withVector 0x24 putspCode) (with-vector-below 0x24 putspCode (omega arith) putsp-below) 6 sp apart
+      user;
   may-fetch = allowed user;
   trap = refl;
 }
@@ -136,7 +139,8 @@ halt : (user : Bool) (sp : ℕ) → StackApart 5 sp → Calls 0x25 haltCode 5 us
 unfolding handed
 halt user sp apart = record {
   begins =
-      ready 0xF025 (withVector 0x25 haltCode) (with-vector-below 0x25 haltCode (omega arith) halt-below) 5 sp apart user;
+      ready 0xF025 (withVector 0x25 haltCode) (with-vector-below 0x25 haltCode (omega arith) halt-below) 5 sp apart
+      user;
   may-fetch = allowed user;
   trap = refl;
 }
@@ -145,7 +149,8 @@ other : (user : Bool) (sp : ℕ) → StackApart 2 sp → Calls 0xFF stopCode 2 u
 unfolding handed
 other user sp apart = record {
   begins =
-      ready 0xF0FF (withVector 0xFF stopCode) (with-vector-below 0xFF stopCode (omega arith) stop-below) 2 sp apart user;
+      ready 0xF0FF (withVector 0xFF stopCode) (with-vector-below 0xFF stopCode (omega arith) stop-below) 2 sp apart
+      user;
   may-fetch = allowed user;
   trap = refl;
 }
@@ -191,7 +196,13 @@ illegal-begins user sp apart =
 
 illegal-raised : Raises illegal stopCode 2 (example true 0xD000 0x8000) 1000
 unfolding stepping
-illegal-raised = record { begins = illegal-begins true 0x3000 at-x3000; pushed-psr = 0x8002; pushed-pc = 0x3000; cause = refl }
+illegal-raised = record {
+  begins = illegal-begins true 0x3000 at-x3000;
+  pushed-psr = 0x8002;
+  pushed-pc = 0x3000;
+  cause =
+      refl;
+}
 
 illegal-word : readOf (getD (exampleMemory 0xD000) 0x3000 0) ≡ Reserved 0
 unfolding handed

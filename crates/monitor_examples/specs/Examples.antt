@@ -74,17 +74,23 @@ pub record ExamplesHold : Type 0 where
   pub lowest : StackApart 6 0x02AB
   pub highest : StackApart 6 0xFE00
   -- each routine is called, wherever the stack is
-  pub getc : (user : Bool) (sp : ℕ) → StackApart 2 sp → Calls 0x20 getcCode 2 user (exampleWith sp user 0xF020 0x8000) 1000
+  pub getc : (user : Bool) (sp : ℕ) → StackApart 2 sp
+      → Calls 0x20 getcCode 2 user (exampleWith sp user 0xF020 0x8000) 1000
   pub getc-key : (user : Bool) (sp : ℕ) → KeyComes (exampleWith sp user 0xF020 0x8000) 1 0
-  pub out : (user : Bool) (sp : ℕ) → StackApart 3 sp → Calls 0x21 outCode 3 user (exampleWith sp user 0xF021 0x8000) 1000
-  pub puts : (user : Bool) (sp : ℕ) → StackApart 5 sp → Calls 0x22 putsCode 5 user (exampleWith sp user 0xF022 0x8000) 1000
-  pub input : (user : Bool) (sp : ℕ) → StackApart 4 sp → Calls 0x23 inCode 4 user (exampleWith sp user 0xF023 0x8000) 1000
+  pub out : (user : Bool) (sp : ℕ) → StackApart 3 sp
+      → Calls 0x21 outCode 3 user (exampleWith sp user 0xF021 0x8000) 1000
+  pub puts : (user : Bool) (sp : ℕ) → StackApart 5 sp
+      → Calls 0x22 putsCode 5 user (exampleWith sp user 0xF022 0x8000) 1000
+  pub input : (user : Bool) (sp : ℕ) → StackApart 4 sp
+      → Calls 0x23 inCode 4 user (exampleWith sp user 0xF023 0x8000) 1000
   pub input-key : (user : Bool) (sp : ℕ)
       → KeyComes (exampleWith sp user 0xF023 0x8000) (firstPoll (exampleWith sp user 0xF023 0x8000)) 0
   pub putsp : (user : Bool) (sp : ℕ) → StackApart 6 sp
       → Calls 0x24 putspCode 6 user (exampleWith sp user 0xF024 0x8000) 1000
-  pub halt : (user : Bool) (sp : ℕ) → StackApart 5 sp → Calls 0x25 haltCode 5 user (exampleWith sp user 0xF025 0x8000) 1000
-  pub other : (user : Bool) (sp : ℕ) → StackApart 2 sp → Calls 0xFF stopCode 2 user (exampleWith sp user 0xF0FF 0x8000) 1000
+  pub halt : (user : Bool) (sp : ℕ) → StackApart 5 sp
+      → Calls 0x25 haltCode 5 user (exampleWith sp user 0xF025 0x8000) 1000
+  pub other : (user : Bool) (sp : ℕ) → StackApart 2 sp
+      → Calls 0xFF stopCode 2 user (exampleWith sp user 0xF0FF 0x8000) 1000
   -- the string from x3002 on is apart from a stack at x3000; and from one right above it, at x3009 and x300A
   pub puts-string : (user : Bool)
       → StringFrom (mayRead user 5 0x3000) (exampleMemory 0xF022) 0x3002 (0x0061 ∷ 0xABCD ∷ []) 0x3004
