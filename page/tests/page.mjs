@@ -19,7 +19,7 @@ const bound = (name) => (...args) => desk[name](...args);
 const [open, status, display, sitting, until] = ["open", "status", "display", "sitting", "until"].map(bound);
 const [change, drop, files, write, load, saved] = ["change", "drop", "files", "write", "load", "saved"].map(bound);
 const example = (name) => fileURLToPath(new URL(`examples/${name}`, ROOT));
-const RUNS = 2000, AT_ONCE = 250; // runs of the reference, and how many are handed over at once
+const ENGINE = "the browser's own engine makes runs of the reference", RUNS = 2000, AT_ONCE = 250;
 const [DOWN, ENTER, HOME, ESCAPE, LEFT] = ["\uE015", "\uE007", "\uE011", "\uE00C", "\uE012"];
 
 const ENDS = {
@@ -481,8 +481,7 @@ const TESTS = {
         await b.click("#clear-program");
         await b.cdp("Emulation.clearDeviceMetricsOverride");
     },
-    async "the browser's own engine makes runs of the reference"() {
-        if (!options.runs) return;
+    async [ENGINE]() {
         await open("");
         const script = await readFile(new URL("engine.js", import.meta.url), "utf8"), lines = [];
         for await (const line of linesOf(options.runs)) if (lines.push(line) === RUNS) break;
@@ -505,6 +504,7 @@ const TESTS = {
     },
 };
 
+if (!options.runs) delete TESTS[ENGINE];
 await desk.run(TESTS, only, async () => {
     await open("hello");
     const ready = await b.run("return document.documentElement.dataset.ready");
