@@ -3,3 +3,4 @@ pub mod Numbers
 pub mod Answers
 pub mod Buffers
 pub mod Counts
+pub mod Claims
