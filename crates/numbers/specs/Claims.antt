@@ -1,14 +1,11 @@
--- What `lc3_certify` is handed as numbers, and what they say: the words of a claim, its values, states and rows; and
--- the least monitor that is certified, a lone RTI.
+-- What `lc3_certify` is handed as numbers, and what they say: the words of a claim, its values, states and rows. What it
+-- answers of them is in crates/certify_examples.
 use Prim.Native.Nat.{ℕ, zero, suc, _+_}
 use mathlib.Core.Path.{_≡_}
-use mathlib.Core.Bool.{Bool, true, false}
-use mathlib.Core.List.{List, [], _∷_, _++_}
-use lib.ListN.{replicate}
+use mathlib.Core.List.{List, [], _∷_}
 use Rattle.sitting.specs.Values.{Value, unset, any, is, high, low, sum, allowed}
 use Rattle.sitting.specs.Test.{Cell, fixed, own, hidden, State, Row, Claim}
 use Rattle.claims.specs.Encoding.{cellsOf, valuesOf, stateOf, rowsOf, claimOf}
-use Rattle.certify.specs.Answer.{certifiedBy}
 
 -- So many numbers from n on, and so many known values.
 abbrev pub upFrom : ℕ → ℕ → List ℕ
@@ -26,21 +23,7 @@ stateFrom n = record { regs = known 8 n; codes = is (n + 8); words = known 8 (n 
 abbrev pub threeStates : List ℕ
 threeStates = upFrom 56 0x20001
 
--- What is known on entry from User mode: of R6 that it is x2FFE, of the codes nothing, of all else that it is a value.
-abbrev pub entryState : List ℕ
-entryState = replicate 6 0x10000 ++ (0x22FFE ∷ 0x10000 ∷ 0 ∷ replicate 8 0x10000)
-
--- Every vector leads to x0200. The words there are handed in, with their kinds.
-abbrev pub vectors : List ℕ → List ℕ
-vectors words = replicate 0x0200 0x0200 ++ words
-
-abbrev pub kinds : List ℕ → List ℕ
-kinds more = replicate 0x0200 1 ++ more
-
-abbrev pub watchedWords : List ℕ
-watchedWords = upFrom 8 0x2FF6
-
-pub record NumbersOfClaims : Type 0 where
+pub record ClaimsHold : Type 0 where
   -- 1 a word that never changes, 2 the monitor's own, any other number secret; as far as both lists go
   pub cells : cellsOf (0 ∷ 1 ∷ 2 ∷ 3 ∷ 1 ∷ []) (10 ∷ 11 ∷ 12 ∷ 13 ∷ []) ≡ hidden ∷ fixed 11 ∷ own ∷ hidden ∷ []
   pub more-words : cellsOf (1 ∷ []) (0xFFFF ∷ 8 ∷ []) ≡ fixed 0xFFFF ∷ []
@@ -60,22 +43,3 @@ pub record NumbersOfClaims : Type 0 where
         watched = 6 ∷ 7 ∷ [];
         table = (stateFrom 1 ∷ []) ∷ [];
       }
-
-pub record Certifying : Type 0 where
-  -- a lone RTI is certified, with a stack from right above its four words of room on
-  pub lone-rti :
-      certifiedBy (vectors (0x8000 ∷ [])) (kinds (1 ∷ [])) 0x0205 watchedWords (1 ∷ []) entryState ≡ true
-  pub no-room : certifiedBy (vectors (0x8000 ∷ [])) (kinds (1 ∷ [])) 0x0204 watchedWords (1 ∷ []) entryState ≡ false
-  -- eight words are watched, no fewer and no more
-  pub seven-watched :
-      certifiedBy (vectors (0x8000 ∷ [])) (kinds (1 ∷ [])) 0x0205 (upFrom 7 0x2FF6) (1 ∷ []) entryState ≡ false
-  pub nine-watched :
-      certifiedBy (vectors (0x8000 ∷ [])) (kinds (1 ∷ [])) 0x0205 (upFrom 9 0x2FF6) (1 ∷ []) entryState ≡ false
-  -- no state, another word, and one that may change
-  pub no-state : certifiedBy (vectors (0x8000 ∷ [])) (kinds (1 ∷ [])) 0x0205 watchedWords (0 ∷ []) entryState ≡ false
-  pub reserved : certifiedBy (vectors (0xD000 ∷ [])) (kinds (1 ∷ [])) 0x0205 watchedWords (1 ∷ []) entryState ≡ false
-  pub own-word : certifiedBy (vectors (0x8000 ∷ [])) (kinds (2 ∷ [])) 0x0205 watchedWords (1 ∷ []) entryState ≡ false
-
-pub record ClaimsHold : Type 0 where
-  pub numbers : NumbersOfClaims
-  pub certifying : Certifying
