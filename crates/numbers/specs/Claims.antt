@@ -1,5 +1,5 @@
--- What `lc3_certify` is handed as numbers, and what they say: the words of a claim, its values, states and rows. What it
--- answers of them is in crates/certify_examples.
+-- What `lc3_certify` is handed as numbers, and what they say: the words of a claim, its values, states and rows. What
+-- it answers of them is in crates/certify_examples.
 use Prim.Native.Nat.{ℕ, zero, suc, _+_}
 use mathlib.Core.Path.{_≡_}
 use mathlib.Core.List.{List, [], _∷_}
