@@ -154,13 +154,15 @@ build/libfanthrig.so: build/$(SONAME)
 # For browsers and hosts in JavaScript: the LLVM modules of the archives, compiled by the kit for WebAssembly.
 page: build/page/lc3.html build/fanthrig.mjs
 
-build/wasm/%.bc: target/staticlib/lib%.a tools/bitcode
+BITCODE = $(EXPORTS:%=build/wasm/%.bc)
+$(BITCODE): build/wasm/%.bc: target/staticlib/lib%.a tools/bitcode
 	@$(KIT)
-	@mkdir -p $(@D)
 	@tools/bitcode $*
 
-build/fanthrig.wasm: $(EXPORTS:%=build/wasm/%.bc) tools/wasm include/$(HEADER)
-	tools/wasm $@ $(EXPORTS:%=build/wasm/%.bc)
+# Two at a time, as the archives are.
+build/fanthrig.wasm: $(ARCHIVES) tools/bitcode tools/wasm include/$(HEADER)
+	@$(MAKE) --no-print-directory -j2 $(BITCODE)
+	tools/wasm $@ $(BITCODE)
 
 build/fanthrig.mjs: tools/page.py $(wildcard page/lib/*)
 	python3 tools/page.py module $@
