@@ -61,7 +61,7 @@ function rates() {
         library.bytes(record, 48).fill(0);
         library.shorts(record).set([0x3000, 0x8002, 0, 0, 0, 0, 0x8000], 8);
         let best = 0;
-        for (let turn = 0; turn < 40; turn++) {
+        for (let turn = 0; turn < 200; turn++) { // a busy host takes its time to compile what is called often
             const begun = performance.now(), n = name === "runLogged" ? 65536 : 1048576;
             for (let again = 0; again < 1048576 / n; again++)
                 if (name === "runLogged") library.runLogged(record, lent, log, 196608, n);

@@ -492,6 +492,7 @@ const TESTS = {
         console.log(`    ${RUNS} runs of the reference in Chromium ${b.version} itself, ${calls} calls: all equal`);
     },
     async "nothing was asked for from anywhere, and nothing was complained of"() {
+        await open("");
         const requests = (await b.log("performance")).map((entry) => JSON.parse(entry.message).message)
             .filter(({ method }) => method === "Network.requestWillBeSent").map(({ params }) => params.request.url);
         const elsewhere = requests.filter((one) => !one.startsWith(url) && !/^(data|blob|about|chrome):/.test(one));
