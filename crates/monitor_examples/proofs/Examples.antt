@@ -280,6 +280,10 @@ two-quiet zero l = refl
 two-quiet (suc zero) l = refl
 two-quiet (suc (suc j)) l = absurd (omega arith)
 
+stack-first : stackOf (keyOnTheWay .machine) ≡ 0x3000
+unfolding handed keyOnTheWay
+stack-first = refl
+
 mcr-now : callOf keyOnTheWay 2 .machine .devices .mcr ≡ 0x8000
 unfolding stepping keyOnTheWay
 mcr-now = refl
@@ -295,7 +299,7 @@ own-returned = record {
   not-ended = omega arith;
   fits = omega arith;
   quiet = record { none = two-quiet };
-  apart = record { above-monitor = omega arith; below-devices = omega arith };
+  apart = record { above-monitor = omega (arith, stack-first); below-devices = omega (arith, stack-first) };
   returned = record {
     registers = refl;
     pc = refl;
