@@ -16,12 +16,12 @@ abbrev pub known : ℕ → ℕ → List Value
 known zero n = []
 known (suc k) n = is n ∷ known k (suc n)
 
--- The state of 17 values from n on, and three of them as numbers, with five numbers more that are no state.
+-- The state of 17 values from n on, and three of them as numbers, with 16 numbers more that are no state.
 abbrev pub stateFrom : ℕ → State
 stateFrom n = record { regs = known 8 n; codes = is (n + 8); words = known 8 (n + 9) }
 
 abbrev pub threeStates : List ℕ
-threeStates = upFrom 56 0x20001
+threeStates = upFrom 67 0x20001
 
 pub record ClaimsHold : Type 0 where
   -- 1 a word that never changes, 2 the monitor's own, any other number secret; as far as both lists go
