@@ -53,7 +53,7 @@ static bool makes_all(run_function *run, const program *p, uint64_t steps, unsig
 }
 
 /* Whether every single step was made, on one record that is lent. */
-static bool makes_each(step_function *step, const program *p, unsigned long calls) {
+static __attribute__((noinline)) bool makes_each(step_function *step, const program *p, unsigned long calls) {
     lc3_record record = start_program(memory, p);
     lc3_report r = {.steps = 1};
     while (calls-- && r.steps == 1) {
@@ -80,7 +80,6 @@ int main(int argc, char **argv) {
                         "long, logged, second, plain, tuned, step, step_second\n");
         return 2;
     }
-    const unsigned long calls = strtoul(argv[4], NULL, 10);
-    if (step) return !makes_each(step, p, calls);
-    return !makes_all(run, p, strtoull(argv[3], NULL, 10), calls);
+    if (step) return !makes_each(step, p, strtoul(argv[4], NULL, 10));
+    return !makes_all(run, p, strtoull(argv[3], NULL, 10), strtoul(argv[4], NULL, 10));
 }
