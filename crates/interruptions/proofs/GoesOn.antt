@@ -22,7 +22,7 @@ use Rattle.monitor.proofs.Execution.{View, Quiet}
 use Rattle.monitor.proofs.Instructions.{kept}
 use Rattle.monitor.proofs.Entries.{calledFrame}
 use Rattle.monitor.proofs.Calls.{quiet-steps, Eight, eight, begun, routine-begins}
-use Rattle.monitor.proofs.Paths.{Readable, Ends, Path}
+use Rattle.monitor.proofs.Paths.{Readable, Ends, Path, no-step-more}
 use Rattle.monitor.proofs.Strings.{is-not, readable}
 use Rattle.monitor.proofs.Out.{routine, returning, ends, restored, the-byte}
 use Rattle.monitor.proofs.Puts.{few-of}
@@ -50,13 +50,15 @@ module _ (vector : ℕ) (code : ℕ → Bool) (words : ℕ) (user : Bool) (s : S
   goes-on may below away end len way ends room k total z r m o regs same bytes shown =
       let b = c .begins in
       let quiet : Quiet s 0 k = quiet-steps s n k 0 (b .accepted) (o .fits) (takes-none (o .quiet)) in
+      let nothing-more : 2 + len ≡ 2 + (len + 0) = omega arith in
       let few : k ≤ 1 + len = omega (arith, o .not-ended, z) in
-      subst (λ (t : ℕ). GoesOn s k t r m bytes (words + below) regs) (sym z)
+      subst (λ (t : ℕ). GoesOn s k t r m bytes (words + below) regs) (sym (z ∙ nothing-more))
       (resumed (withVector vector code) (with-vector-below vector code (omega arith) low) words user s n b two may below
-      (o .apart) away (begun s x to (next (s .machine .pc))) end len way ends room
+      (o .apart) away (begun s x to (next (s .machine .pc))) end end len 0 way (no-step-more end) (ends .returns .fine)
+      (let d = ends .depth in omega (arith, d)) room
       (kept refl refl (le-leb 2 words two)) k (o .begun) few (o .fits) quiet
       (routine-begins code words user s n k x vector to c two quiet (o .begun) is-trap leads) r m (o .returned)
-      (o .accepted) (omega (arith, o .enough, z)) (quiet-steps r m m 0 (o .accepted) (omega arith) (o .no-other)) regs
+      (o .accepted) (omega (arith, o .enough, z)) (quiet-steps r m m 0 (o .accepted) (omega arith) (o .no-other)) ends regs
       same bytes shown)
 
 -- What is apart from more words of the stack is apart from fewer.

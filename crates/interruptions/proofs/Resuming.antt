@@ -12,7 +12,7 @@ use Rattle.machine.specs.declared.Machine.{Machine}
 use Rattle.machine.specs.Words.{next}
 use Rattle.machine.specs.Psr.{inUserMode}
 use Rattle.run.specs.declared.Admission.the-variants.{Accepted}
-use Rattle.run.specs.Run.{Start, End}
+use Rattle.run.specs.Run.{Start, End, endedBy}
 use Rattle.run.specs.Refusals.{admissionOf}
 use Rattle.run.specs.Call.{callOf}
 use Rattle.run.proofs.Acceptance.{accepted-is-acceptable}
@@ -26,10 +26,10 @@ use Rattle.monitor.proofs.Intact.{Intact, cellsFine, slot-with, usable, wordAt}
 use Rattle.monitor.proofs.Instructions.{Sound, codes-below, planAt, slot-is, deeper, Kept}
 use Rattle.monitor.proofs.Entries.{startFrame, startViewWith, at-start-with, calledFrame, up-one, up-two, psr-parts}
 use Rattle.monitor.proofs.Entries.{returnedFrame, returnedView, return-once}
-use Rattle.monitor.proofs.Calls.{begins-sound, psr-is-defined, words-below, words-above, call-stands, steps-are-made}
+use Rattle.monitor.proofs.Calls.{begins-sound, psr-is-defined, words-below, words-above, call-stands, call-halts, steps-are-made}
 use Rattle.monitor.proofs.Calls.{six-is-restored, ssp-is-restored}
-use Rattle.monitor.proofs.Paths.{holds, Readable, Ends, Path, other-word}
-use Rattle.interruptions.specs.GoesOn.{sixAfter, Returned, Resumed, GoesOn}
+use Rattle.monitor.proofs.Paths.{holds, Readable, Ends, Path, then, other-word}
+use Rattle.interruptions.specs.GoesOn.{sixAfter, Returned, Resumed, GoesOn, Stops}
 use Rattle.interruptions.proofs.Leaving.{Before, before, Left, leaves}
 use Rattle.interruptions.proofs.Following.{Rest, twin, beside, Like, holds-fine, holds-least, own-plan, Followed}
 use Rattle.interruptions.proofs.Following.{follows}
@@ -216,12 +216,14 @@ later i j one other le e =
 module _ (uses : ℕ → Bool) (low : (x : ℕ) → uses x ≡ true → x < 0x02A5) (words : ℕ) (user : Bool) (s : Start) (n : ℕ)
     (b : Begins uses words user s n) (two : 2 ≤ words) (may : ℕ → Bool) (below : ℕ)
     (apart : StackApart (words + below) (stackOf (s .machine)))
-    (away : (x : ℕ) → may x ≡ true → Readable (words + below) (stackOf (s .machine)) x) (begin end : View) (len : ℕ)
-    (way : Path (calledFrame uses words user s) may begin len end) (ends : Ends uses words user s end)
-    (room : length (end .bytes) ≤ length (s .output)) (kept : Kept (calledFrame uses words user s) begin) (k : ℕ)
-    (some : 0 < k) (few : k ≤ 1 + len) (le : k ≤ n) (quiet : Quiet s 0 k)
-    (a : At s 0 1 (calledFrame uses words user s) begin) (r : Start) (m : ℕ) (back : Returned s k below r)
-    (accepted : admissionOf r m ≡ Accepted) (enough : 2 + len ≤ k + m) (quiet′ : Quiet r 0 m) where
+    (away : (x : ℕ) → may x ≡ true → Readable (words + below) (stackOf (s .machine)) x) (begin mid end : View)
+    (len more : ℕ) (way : Path (calledFrame uses words user s) may begin len mid)
+    (tail : Path (calledFrame uses words user s) may mid more end) (mid-fine : cellsFine words (mid .cells) ≡ true)
+    (mid-deep : 0 < mid .depth) (room : length (end .bytes) ≤ length (s .output))
+    (kept : Kept (calledFrame uses words user s) begin) (k : ℕ) (some : 0 < k) (few : k ≤ 1 + len) (le : k ≤ n)
+    (quiet : Quiet s 0 k) (a : At s 0 1 (calledFrame uses words user s) begin) (r : Start) (m : ℕ)
+    (back : Returned s k below r) (accepted : admissionOf r m ≡ Accepted) (enough : 2 + (len + more) ≤ k + m)
+    (quiet′ : Quiet r 0 m) where
   abbrev frame : Frame
   frame = calledFrame uses words user s
 
@@ -229,7 +231,7 @@ module _ (uses : ℕ → Bool) (low : (x : ℕ) → uses x ≡ true → x < 0x02
   top = stackOf (s .machine)
 
   -- where it was left
-  left : Left quiet frame (begins-sound s n b) may (k - 1) len 1 end
+  left : Left quiet frame (begins-sound s n b) may (k - 1) len 1 mid
   left = leaves quiet frame (begins-sound s n b) may way (k - 1) 1 (omega arith) (omega arith) kept a
 
   abbrev view : View
@@ -238,14 +240,14 @@ module _ (uses : ℕ → Bool) (low : (x : ℕ) → uses x ≡ true → x < 0x02
   at-left : At s 0 k frame view
   at-left = let z : 1 + (k - 1) ≡ k = omega arith in subst (λ (q : ℕ). At s 0 q frame view) z (left .at)
 
-  abbrev earlier : Before frame view end
+  abbrev earlier : Before frame view mid
   earlier = before (left .rest)
 
   was-fine : cellsFine words (view .cells) ≡ true
-  was-fine = earlier .fine (ends .returns .fine)
+  was-fine = earlier .fine mid-fine
 
   was-deep : 0 < view .depth
-  was-deep = earlier .known (let d = ends .depth in omega (arith, d))
+  was-deep = earlier .known mid-deep
 
   abbrev g : Frame
   g = beside frame (r .memory) (r .output)
@@ -261,7 +263,7 @@ module _ (uses : ℕ → Bool) (low : (x : ℕ) → uses x ≡ true → x < 0x02
   all-bytes : length (s .output) ≡ length (view .bytes) + length (r .output)
   all-bytes =
       total uses words user s n b two k below le apart r m back accepted view at-left (left .kept) was-fine was-deep low
-      (omega (arith, earlier .fewer, room))
+      (omega (arith, earlier .fewer, before tail .fewer, room))
 
   same-word : (x : ℕ) → may x ≡ true → getD (r .memory) x 0 ≡ getD (s .memory) x 0
   same-word x ok =
@@ -269,57 +271,29 @@ module _ (uses : ℕ → Bool) (low : (x : ℕ) → uses x ≡ true → x < 0x02
       low x (away x ok .outside)
 
   followed : Followed quiet′ frame (r .memory) (r .output) (view .bytes) sound′ all-bytes may same-word view rest₀
-      (left .steps) end
+      (left .steps + more) end
   followed =
-      follows quiet′ frame (r .memory) (r .output) (view .bytes) sound′ all-bytes may same-word (left .rest)
-      (left .kept) rest₀
+      follows quiet′ frame (r .memory) (r .output) (view .bytes) sound′ all-bytes may same-word
+      (then (left .rest) tail) (left .kept) rest₀
       (like uses words user s n b two k below le apart r m back accepted view at-left (left .kept) was-fine was-deep
       low)
 
   abbrev i : ℕ
   i = followed .steps
 
-  in-time : k + suc i ≤ 2 + len
+  in-time : k + suc i ≤ 2 + (len + more)
   in-time = omega (arith, followed .fewer, left .fewer)
 
   abbrev last : View
   last = twin end (followed .rest)
 
-  at-rti : At r 0 i g last
-  at-rti =
+  at-end : At r 0 i g last
+  at-end =
       let z : 0 + i ≡ i = omega arith in
       subst (λ (q : ℕ). At r 0 q g last) z
       (followed .leads .on (omega (arith, in-time))
       (at-begin uses words user s n b two k below le apart r m back accepted view at-left (left .kept) was-fine was-deep
       low))
-
-  pc-there : wordAt g last (top - 2) ≡ next (s .machine .pc)
-  pc-there =
-      slot-is g sound′ last (followed .like .fine) 2 (omega arith) two
-      ∙ followed .like .slots 2 (ends .pc-stored) (let d = ends .depth in omega (arith, d))
-      ∙ ends .returns .pc
-
-  psr-there : wordAt g last (next (top - 2)) ≡ s .machine .psr
-  psr-there =
-      ap (λ (x : ℕ). wordAt g last x) (up-one (b .stack) two)
-      ∙ slot-is g sound′ last (followed .like .fine) 1 (omega arith) (omega arith)
-      ∙ followed .like .slots 1 (ends .psr-stored) (let d = ends .depth in omega (arith, d))
-      ∙ ends .returns .psr
-
-  at-back : At r 0 (suc i) (returnedFrame g user (top - 2) (s .machine .psr))
-      (returnedView g last user (top - 2) (s .machine .psr) (next (s .machine .pc)))
-  at-back =
-      return-once g sound′ last (ends .returns .going) (followed .like .fine)
-      (own-plan quiet′ frame (r .memory) (r .output) (view .bytes) sound′ all-bytes may same-word end (followed .rest)
-      (ends .own)
-      ∙ ends .returns .plan)
-      (top - 2) (next (s .machine .pc)) (s .machine .psr) (ends .returns .six) pc-there psr-there (psr-is-defined s n b)
-      user (b .mode) at-rti (quiet′ .at at-rti (omega (arith, in-time)))
-
-  up-again : next (next (top - 2)) ≡ cond user (s .machine .«saved_ssp») (getD (s .machine .regs) 6 0)
-  up-again =
-      up-two (b .stack) two
-      ∙ ap (λ (u : Bool). cond u (s .machine .«saved_ssp») (getD (s .machine .regs) 6 0)) (b .mode)
 
   below-is : take (top - (words + below)) (memoryWith top (r .memory) (followed .rest .cells))
       ≡ take (top - (words + below)) (s .memory)
@@ -342,37 +316,96 @@ module _ (uses : ℕ → Bool) (low : (x : ℕ) → uses x ≡ true → x < 0x02
       was-deep low)
       ∙ words-above (b .stack) (s .memory) (view .cells) was-fine
 
-  pub resumed : (regs : List ℕ) → set (end .regs) 6 (getD (s .machine .regs) 6 0) ≡ regs → (bytes : List ℕ)
-      → end .bytes ≡ bytes → GoesOn s k (2 + len) r m bytes (words + below) regs
-  resumed regs same bytes shown =
-      let q = call-stands at-back m accepted (omega (arith, in-time)) in
+  -- ---- it returns
+
+  module _ (ends : Ends uses words user s end) where
+    pc-there : wordAt g last (top - 2) ≡ next (s .machine .pc)
+    pc-there =
+        slot-is g sound′ last (followed .like .fine) 2 (omega arith) two
+        ∙ followed .like .slots 2 (ends .pc-stored) (let d = ends .depth in omega (arith, d))
+        ∙ ends .returns .pc
+
+    psr-there : wordAt g last (next (top - 2)) ≡ s .machine .psr
+    psr-there =
+        ap (λ (x : ℕ). wordAt g last x) (up-one (b .stack) two)
+        ∙ slot-is g sound′ last (followed .like .fine) 1 (omega arith) (omega arith)
+        ∙ followed .like .slots 1 (ends .psr-stored) (let d = ends .depth in omega (arith, d))
+        ∙ ends .returns .psr
+
+    at-back : At r 0 (suc i) (returnedFrame g user (top - 2) (s .machine .psr))
+        (returnedView g last user (top - 2) (s .machine .psr) (next (s .machine .pc)))
+    at-back =
+        return-once g sound′ last (ends .returns .going) (followed .like .fine)
+        (own-plan quiet′ frame (r .memory) (r .output) (view .bytes) sound′ all-bytes may same-word end (followed .rest)
+        (ends .own)
+        ∙ ends .returns .plan)
+        (top - 2) (next (s .machine .pc)) (s .machine .psr) (ends .returns .six) pc-there psr-there (psr-is-defined s n b)
+        user (b .mode) at-end (quiet′ .at at-end (omega (arith, in-time)))
+
+    up-again : next (next (top - 2)) ≡ cond user (s .machine .«saved_ssp») (getD (s .machine .regs) 6 0)
+    up-again =
+        up-two (b .stack) two
+        ∙ ap (λ (u : Bool). cond u (s .machine .«saved_ssp») (getD (s .machine .regs) 6 0)) (b .mode)
+
+    pub resumed : (regs : List ℕ) → set (end .regs) 6 (getD (s .machine .regs) 6 0) ≡ regs → (bytes : List ℕ)
+        → end .bytes ≡ bytes → GoesOn s k (2 + (len + more)) r m bytes (words + below) regs
+    resumed regs same bytes shown =
+        let q = call-stands at-back m accepted (omega (arith, in-time)) in
+        let p = call-stands at-left n (b .accepted) le in
+        record {
+          steps = suc i;
+          in-time = in-time;
+          resumed = record {
+            made = steps-are-made at-back m accepted (omega (arith, in-time));
+            ending = rw q;
+            first = view .bytes;
+            second = followed .rest .bytes;
+            all = sym shown ∙ followed .like .bytes;
+            first-shown = rw p;
+            first-output = rw p;
+            second-shown = rw q;
+            second-output = rw q;
+            pc = rw q;
+            psr = rw q (sym (psr-parts (s .machine .psr)));
+            registers-are = rw q
+                (ap (λ (x : ℕ). set (end .regs) 6 x)
+                (six-is-restored (s .machine .«saved_ssp») (s .machine .«saved_usp») (getD (s .machine .regs) 6 0)
+                (next (next (top - 2))) user up-again)
+                ∙ same);
+            saved-ssp = rw q
+                (ssp-is-restored (s .machine .«saved_ssp») (s .machine .«saved_usp») (getD (s .machine .regs) 6 0)
+                (next (next (top - 2))) user up-again);
+            saved-usp = rw (q, b .mode);
+            mcr = rw q (ends .returns .going);
+            words-below = rw q below-is;
+            words-above = rw q above-is;
+          };
+        }
+
+  -- ---- it halts
+
+  pub halted : end .mcr ≡ 0 → end .pc ≡ 0x027E → psrAt frame end ≡ s .machine .psr / 8 % 4096 * 8 + 1
+      → end .regs ≡ set (s .machine .regs) 6 0x2FFE → (bytes : List ℕ) → end .bytes ≡ bytes
+      → Stops s k r m bytes (words + below)
+  unfolding endedBy
+  halted off pc psr regs bytes shown =
+      let q = call-halts at-end m accepted (omega (arith, in-time)) off in
       let p = call-stands at-left n (b .accepted) le in
       record {
-        steps = suc i;
-        in-time = in-time;
-        resumed = record {
-          made = steps-are-made at-back m accepted (omega (arith, in-time));
-          ending = rw q;
-          first = view .bytes;
-          second = followed .rest .bytes;
-          all = sym shown ∙ followed .like .bytes;
-          first-shown = rw p;
-          first-output = rw p;
-          second-shown = rw q;
-          second-output = rw q;
-          pc = rw q;
-          psr = rw q (sym (psr-parts (s .machine .psr)));
-          registers-are = rw q
-              (ap (λ (x : ℕ). set (end .regs) 6 x)
-              (six-is-restored (s .machine .«saved_ssp») (s .machine .«saved_usp») (getD (s .machine .regs) 6 0)
-              (next (next (top - 2))) user up-again)
-              ∙ same);
-          saved-ssp = rw q
-              (ssp-is-restored (s .machine .«saved_ssp») (s .machine .«saved_usp») (getD (s .machine .regs) 6 0)
-              (next (next (top - 2))) user up-again);
-          saved-usp = rw (q, b .mode);
-          mcr = rw q (ends .returns .going);
-          words-below = rw q below-is;
-          words-above = rw q above-is;
-        };
+        ending = rw q;
+        mcr = rw q off;
+        first = view .bytes;
+        second = followed .rest .bytes;
+        all = sym shown ∙ followed .like .bytes;
+        first-shown = rw p;
+        first-output = rw p;
+        second-shown = rw q;
+        second-output = rw q;
+        pc = rw q pc;
+        psr = rw q psr;
+        registers-are = rw q regs;
+        saved-ssp = rw q;
+        saved-usp = rw (q, b .mode);
+        words-below = rw q below-is;
+        words-above = rw q above-is;
       }

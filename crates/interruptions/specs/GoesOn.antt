@@ -2,15 +2,15 @@
 -- any of its steps, and a class's own interrupt routine returns with the machine as it was, but for clock, keyboard,
 -- timer, a display that has had time, and the words below the stack pointer. Then the routine goes on to its end, and
 -- shows and leaves what it would have shown and left.
-use Prim.Native.Nat.{ℕ, _+_, _-_, _%_, _≤_, _<_}
+use Prim.Native.Nat.{ℕ, _+_, _-_, _*_, _/_, _%_, _≤_, _<_}
 use mathlib.Core.Path.{_≡_}
 use mathlib.Core.Bool.{Bool, true, cond}
 use mathlib.Core.List.{List, [], _∷_, _++_}
-use lib.ListN.{length, getD, take, drop}
+use lib.ListN.{length, getD, set, take, drop}
 use Rattle.machine.specs.Words.{next}
 use Rattle.machine.specs.Psr.{inUserMode}
 use Rattle.run.specs.declared.Admission.the-variants.{Accepted}
-use Rattle.run.specs.declared.Ending.the-variants.{Done}
+use Rattle.run.specs.declared.Ending.the-variants.{Done, Halted}
 use Rattle.run.specs.Run.{Start}
 use Rattle.run.specs.Refusals.{admissionOf}
 use Rattle.run.specs.Call.{callOf}
@@ -70,6 +70,27 @@ pub record GoesOn (s : Start) (k total : ℕ) (r : Start) (m : ℕ) (bytes : Lis
   pub steps : ℕ
   pub in-time : k + steps ≤ total
   pub resumed : Resumed s k r m steps bytes words registers
+
+-- Where the routine halts the machine: r, of m steps, is halted, with R0 to R5 and R7 as the caller had them.
+pub record Stops (s : Start) (k : ℕ) (r : Start) (m : ℕ) (bytes : List ℕ) (words : ℕ) : Type 0 where
+  pub ending : callOf r m .ending ≡ Halted
+  pub mcr : callOf r m .machine .devices .mcr ≡ 0
+  pub first : List ℕ
+  pub second : List ℕ
+  pub all : bytes ≡ first ++ second
+  pub first-shown : callOf s k .shown ≡ length first
+  pub first-output : callOf s k .output ≡ writtenOver first (s .output)
+  pub second-shown : callOf r m .shown ≡ length second
+  pub second-output : callOf r m .output ≡ writtenOver second (r .output)
+  pub pc : callOf r m .machine .pc ≡ 0x027E
+  pub psr : callOf r m .machine .psr ≡ s .machine .psr / 8 % 4096 * 8 + 1
+  pub registers-are : callOf r m .machine .regs ≡ set (s .machine .regs) 6 0x2FFE
+  pub saved-ssp : callOf r m .machine .«saved_ssp» ≡ s .machine .«saved_ssp»
+  pub saved-usp : callOf r m .machine .«saved_usp»
+      ≡ cond (inUserMode (s .machine .psr)) (getD (s .machine .regs) 6 0) (s .machine .«saved_usp»)
+  pub words-below : take (stackOf (s .machine) - words) (callOf r m .memory)
+      ≡ take (stackOf (s .machine) - words) (s .memory)
+  pub words-above : drop (stackOf (s .machine)) (callOf r m .memory) ≡ drop (stackOf (s .machine)) (s .memory)
 
 -- The call s has made k steps without an interrupt, of the so many that its routine takes, the trap among them; the
 -- stack has room for the interrupt's words below the routine's; and r has enough steps and takes no other interrupt.
