@@ -26,7 +26,8 @@ use Rattle.monitor.proofs.Intact.{Intact, cellsFine, slot-with, usable, wordAt}
 use Rattle.monitor.proofs.Instructions.{Sound, codes-below, planAt, slot-is, deeper, Kept}
 use Rattle.monitor.proofs.Entries.{startFrame, startViewWith, at-start-with, calledFrame, up-one, up-two, psr-parts}
 use Rattle.monitor.proofs.Entries.{returnedFrame, returnedView, return-once}
-use Rattle.monitor.proofs.Calls.{begins-sound, psr-is-defined, words-below, words-above, call-stands, call-halts, steps-are-made}
+use Rattle.monitor.proofs.Calls.{begins-sound, psr-is-defined, words-below, words-above, call-stands, call-halts}
+use Rattle.monitor.proofs.Calls.{steps-are-made}
 use Rattle.monitor.proofs.Calls.{six-is-restored, ssp-is-restored}
 use Rattle.monitor.proofs.Paths.{holds, Readable, Ends, Path, then, other-word}
 use Rattle.interruptions.specs.GoesOn.{sixAfter, Returned, Resumed, GoesOn, Stops}
@@ -339,7 +340,8 @@ module _ (uses : ℕ → Bool) (low : (x : ℕ) → uses x ≡ true → x < 0x02
         (own-plan quiet′ frame (r .memory) (r .output) (view .bytes) sound′ all-bytes may same-word end (followed .rest)
         (ends .own)
         ∙ ends .returns .plan)
-        (top - 2) (next (s .machine .pc)) (s .machine .psr) (ends .returns .six) pc-there psr-there (psr-is-defined s n b)
+        (top - 2) (next (s .machine .pc)) (s .machine .psr) (ends .returns .six) pc-there psr-there
+        (psr-is-defined s n b)
         user (b .mode) at-end (quiet′ .at at-end (omega (arith, in-time)))
 
     up-again : next (next (top - 2)) ≡ cond user (s .machine .«saved_ssp») (getD (s .machine .regs) 6 0)

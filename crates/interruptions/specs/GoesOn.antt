@@ -1,5 +1,5 @@
--- "The routines with interrupts on the way (each goes on where it was)": a call of OUT, PUTS or PUTSP is interrupted at
--- any of its steps, and a class's own interrupt routine returns with the machine as it was, but for clock, keyboard,
+-- "The routines with interrupts on the way (each goes on where it was)": a call of OUT, PUTS, PUTSP or HALT is interrupted
+-- at any of its steps, and a class's own interrupt routine returns with the machine as it was, but for clock, keyboard,
 -- timer, a display that has had time, and the words below the stack pointer. Then the routine goes on to its end, and
 -- shows and leaves what it would have shown and left.
 use Prim.Native.Nat.{ℕ, _+_, _-_, _*_, _/_, _%_, _≤_, _<_}
@@ -9,17 +9,19 @@ use mathlib.Core.List.{List, [], _∷_, _++_}
 use lib.ListN.{length, getD, set, take, drop}
 use Rattle.machine.specs.Words.{next}
 use Rattle.machine.specs.Psr.{inUserMode}
+use Rattle.machine.specs.Protection.{privileged}
 use Rattle.run.specs.declared.Admission.the-variants.{Accepted}
 use Rattle.run.specs.declared.Ending.the-variants.{Done, Halted}
 use Rattle.run.specs.Run.{Start}
 use Rattle.run.specs.Refusals.{admissionOf}
 use Rattle.run.specs.Call.{callOf}
 use Rattle.monitor.specs.Install.{writtenOver}
-use Rattle.monitor.specs.Uses.{outCode, putsCode, putspCode}
+use Rattle.monitor.specs.Uses.{outCode, putsCode, putspCode, haltCode}
 use Rattle.monitor.specs.Calls.{stackOf, StackApart, Calls, NoInterrupt}
 use Rattle.monitor.specs.Out.{Uninterrupted, outStepsOf}
-use Rattle.monitor.specs.Puts.{mayReadOf, StringFrom, lowBytes, r0, putsSteps}
-use Rattle.monitor.specs.Putsp.{AreWords, pairBytes, putspSteps}
+use Rattle.monitor.specs.Puts.{mayReadOf, StringFrom, lowBytes, r0, putsSteps, refusedSteps}
+use Rattle.monitor.specs.Putsp.{AreWords, pairBytes, putspSteps, refusedPairSteps}
+use Rattle.monitor.specs.Halt.{message, haltSteps}
 
 -- R6 after k steps of a call.
 abbrev pub sixAfter : Start → ℕ → ℕ
@@ -121,3 +123,18 @@ pub record InterruptedGoOn : Type 0 where
       → length (pairBytes words) ≤ length (s .output) → (r : Start) (m : ℕ)
       → OnTheWay s n k (putspSteps user (r0 s) words b) 6 below r m
       → GoesOn s k (putspSteps user (r0 s) words b) r m (pairBytes words) (6 + below) (s .machine .regs)
+  -- HALT, interrupted before STOP loads R6
+  pub halt : (user : Bool) (s : Start) (n : ℕ) → Calls 0x25 haltCode 5 user s n → 7 ≤ length (s .output)
+      → (k below : ℕ) (r : Start) (m : ℕ) → OnTheWay s n k (haltSteps - 1) 5 below r m → haltSteps < k + m
+      → Stops s k r m message (5 + below)
+  -- a string of a caller in User mode that comes to a privileged word, the same
+  pub puts-refused : (s : Start) (n : ℕ) → Calls 0x22 putsCode 5 true s n → (words : List ℕ) (b k below : ℕ)
+      → StringFrom (mayReadOf true (5 + below) s) (s .memory) (r0 s) words b → privileged b ≡ true → b < 65536
+      → length words ≤ length (s .output) → (r : Start) (m : ℕ)
+      → OnTheWay s n k (refusedSteps s words - 1) 5 below r m → refusedSteps s words < k + m
+      → Stops s k r m (lowBytes words) (5 + below)
+  pub putsp-refused : (s : Start) (n : ℕ) → Calls 0x24 putspCode 6 true s n → (words : List ℕ) (b k below : ℕ)
+      → StringFrom (mayReadOf true (6 + below) s) (s .memory) (r0 s) words b → AreWords words → privileged b ≡ true
+      → b < 65536 → length (pairBytes words) ≤ length (s .output) → (r : Start) (m : ℕ)
+      → OnTheWay s n k (refusedPairSteps (r0 s) words - 1) 6 below r m → refusedPairSteps (r0 s) words < k + m
+      → Stops s k r m (pairBytes words) (6 + below)

@@ -1,5 +1,5 @@
 -- PUTS: four steps, the words one after the other, and the way back, or to STOP.
-use Prim.Native.Nat.{ℕ, suc, _+_, _-_, _%_, _≤_, _<_}
+use Prim.Native.Nat.{ℕ, suc, _+_, _-_, _*_, _/_, _%_, _≤_, _<_}
 use native.Mathlib.Omega.{arith}
 use native.Mathlib.Decide.{decLe}
 use mathlib.Core.Path.{_≡_, refl, sym, ap, _∙_}
@@ -19,7 +19,8 @@ use Rattle.monitor.specs.Out.{waitSteps}
 use Rattle.monitor.specs.Calls.{stackOf, Begins, Calls, NoInterrupt, notRead, Resumes, Halts}
 use Rattle.monitor.specs.Puts.{mayReadOf, StringFrom, lowBytes, lookSteps, wordSteps, r0, stringSteps, putsSteps}
 use Rattle.monitor.specs.Puts.{refusedSteps, PutsShows}
-use Rattle.monitor.proofs.Execution.{Frame, Known, from, codesNumber, cell, View, At, Quiet}
+use Rattle.monitor.proofs.Execution.{Frame, Known, from, codesNumber, cell, View, psrAt, At, Quiet}
+use Rattle.monitor.proofs.Intact.{cellsFine}
 use Rattle.monitor.proofs.Instructions.{kept, steppedBy, computing}
 use Rattle.monitor.proofs.Entries.{calledFrame, Polls}
 use Rattle.monitor.proofs.Calls.{begins-sound, quiet-steps, Eight, eight, begun, routine-begins, halts}
@@ -368,10 +369,37 @@ module _ (s : Start) (x : Eight (s .machine .regs)) (mode : inUserMode (s .machi
       (lowBytes words) (shown .busy) (unfold inUserMode in leb-true 0x8000 (s .machine .psr) mode) (shown .few) below
       privileged-word
 
-  stopped : View
+  pub stopped : View
   stopped = steppedBy 6 (f true s x) (W true s x b (bad .r₁) (bad .r₂) 0x0224 (bad .codes) (lowBytes words) 0)
 
-  stopped-registers : stopped .regs ≡ set (s .machine .regs) 6 0x2FFE
+  -- In front of STOP, with the registers restored.
+  pub refused-there : View
+  refused-there = steppedBy 4 (f true s x) (W true s x b (bad .r₁) (bad .r₂) 0x0224 (bad .codes) (lowBytes words) 0)
+
+  pub way-there : Path (f true s x) may (begun s x 0x020C (next (s .machine .pc)))
+      (4 + wordSteps true (s .machine .devices .busy - 5) (r0 s) words + (8 + 4)) refused-there
+  unfolding refused-there computing calm calmly
+  way-there =
+      then (to-look true s x mode few may allowed words b string room)
+      (then (bad .leads)
+      (treads (f true s x) may 0 (omega arith) 4
+      (W true s x b (bad .r₁) (bad .r₂) 0x0224 (bad .codes) (lowBytes words) 0) (kept refl refl refl) refl refl))
+
+  pub to-stop : Path (f true s x) may refused-there 2 stopped
+  unfolding refused-there stopped computing calm calmly
+  to-stop = treads (f true s x) may 0 (omega arith) 2 refused-there (kept refl refl refl) refl refl
+
+  pub in-front : (cellsFine 5 (refused-there .cells) ≡ true) × (refused-there .depth ≡ 5)
+  unfolding refused-there computing
+  in-front = (refl, refl)
+
+  pub halts-then : (stopped .mcr ≡ 0) × (stopped .pc ≡ 0x027E)
+      × (psrAt (f true s x) stopped ≡ s .machine .psr / 8 % 4096 * 8 + 1)
+      × (stopped .bytes ≡ lowBytes words)
+  unfolding stopped computing
+  halts-then = (refl, refl, refl, refl)
+
+  pub stopped-registers : stopped .regs ≡ set (s .machine .regs) 6 0x2FFE
   unfolding stopped computing
   stopped-registers = rw (x .are)
 

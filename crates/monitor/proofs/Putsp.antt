@@ -21,7 +21,8 @@ use Rattle.monitor.specs.Calls.{stackOf, Calls, NoInterrupt, notRead, Re
 use Rattle.monitor.specs.Puts.{mayReadOf, StringFrom, lookSteps, r0}
 use Rattle.monitor.specs.Putsp.{AreWords, unlessZero, pairBytes, shiftSteps, byteSteps, pairSteps, pairsSteps}
 use Rattle.monitor.specs.Putsp.{putspSteps, refusedPairSteps, PutspShows}
-use Rattle.monitor.proofs.Execution.{Frame, Known, from, codesNumber, cell, View, At, Quiet}
+use Rattle.monitor.proofs.Execution.{Frame, Known, from, codesNumber, cell, View, psrAt, At, Quiet}
+use Rattle.monitor.proofs.Intact.{cellsFine}
 use Rattle.monitor.proofs.Instructions.{kept, steppedBy, computing}
 use Rattle.monitor.proofs.Entries.{calledFrame}
 use Rattle.monitor.proofs.Calls.{begins-sound, quiet-steps, Eight, eight, begun, routine-begins, halts}
@@ -682,11 +683,40 @@ module _ (s : Start) (x : Eight (s .machine .regs)) (mode : inUserMode (s .machi
       look-refused (looks true s x may allowed (shown .r₃)) b (shown .r₁) (shown .r₂) (shown .codes) (pairBytes words)
       (shown .busy) (unfold inUserMode in leb-true 0x8000 (s .machine .psr) mode) (shown .few) below privileged-word
 
-  stopped : View
+  pub stopped : View
   stopped =
       steppedBy 7 (f true s x) (W true s x (shown .r₃) b (bad .r₁) (bad .r₂) 0x0268 (bad .codes) (pairBytes words) 0)
 
-  stopped-registers : stopped .regs ≡ set (s .machine .regs) 6 0x2FFE
+  -- In front of STOP, with the registers restored.
+  pub refused-there : View
+  refused-there = steppedBy 5 (f true s x)
+      (W true s x (shown .r₃) b (bad .r₁) (bad .r₂) 0x0268 (bad .codes) (pairBytes words) 0)
+
+  pub way-there : Path (f true s x) may (begun s x 0x023D (next (s .machine .pc)))
+      (5 + pairsSteps true (r0 s) words + (8 + 5)) refused-there
+  unfolding refused-there computing calm calmly
+  way-there =
+      then (to-look true s x mode few may allowed words b string fit room)
+      (then (bad .leads)
+      (treads (f true s x) may 0 (omega arith) 5
+      (W true s x (shown .r₃) b (bad .r₁) (bad .r₂) 0x0268 (bad .codes) (pairBytes words) 0) (kept refl refl refl)
+      refl refl))
+
+  pub to-stop : Path (f true s x) may refused-there 2 stopped
+  unfolding refused-there stopped computing calm calmly
+  to-stop = treads (f true s x) may 0 (omega arith) 2 refused-there (kept refl refl refl) refl refl
+
+  pub in-front : (cellsFine 6 (refused-there .cells) ≡ true) × (refused-there .depth ≡ 6)
+  unfolding refused-there computing
+  in-front = (refl, refl)
+
+  pub halts-then : (stopped .mcr ≡ 0) × (stopped .pc ≡ 0x027E)
+      × (psrAt (f true s x) stopped ≡ s .machine .psr / 8 % 4096 * 8 + 1)
+      × (stopped .bytes ≡ pairBytes words)
+  unfolding stopped computing
+  halts-then = (refl, refl, refl, refl)
+
+  pub stopped-registers : stopped .regs ≡ set (s .machine .regs) 6 0x2FFE
   unfolding stopped computing
   stopped-registers = rw (x .are)
 
