@@ -2,7 +2,6 @@
 -- end: it shows the same bytes, in as many steps at most.
 use Prim.Native.Nat.{ℕ, zero, suc, _+_, _-_, _%_, _≤_, _<_}
 use native.Mathlib.Omega.{arith}
-use native.Mathlib.Decide.{decLe}
 use mathlib.Core.Path.{_≡_, refl, sym, ap, subst, _∙_}
 use mathlib.Core.Bool.{Bool, true, false, cond, _&&_, _||_, true≢false}
 use mathlib.Core.List.{List, [], _∷_, _++_, append-assoc}
@@ -20,12 +19,12 @@ use Rattle.machine.proofs.Tests.{both-true}
 use Rattle.run.specs.Run.{Start}
 use Rattle.monitor.specs.Out.{waitSteps}
 use Rattle.monitor.proofs.UseLaws.{either}
-use Rattle.monitor.proofs.Execution.{Frame, Known, from, codesNumber, Cell, cell, View, At, Quiet, Leads, then, no-step}
+use Rattle.monitor.proofs.Execution.{Frame, Known, from, codesNumber, Cell, cell, View, Quiet, Leads, then, no-step}
 use Rattle.monitor.proofs.Intact.{cellsFine, cells-fine, wordWith, usable, wordAt, slotWith, slotAt}
 use Rattle.monitor.proofs.Instructions.{Sound, codesFor, planAt, changed, showing, clocked, valued, displayAt}
 use Rattle.monitor.proofs.Instructions.{performed}
 use Rattle.monitor.proofs.Instructions.{isPlain, mayPerform, Use, loadsSlot, storesSlot, movesStack, leavesStack}
-use Rattle.monitor.proofs.Instructions.{elsewhere, useOf, slotOf, deeper, used, onStack, isOther, keepsSix, mayUse}
+use Rattle.monitor.proofs.Instructions.{elsewhere, useOf, slotOf, deeper, used, keepsSix, mayUse}
 use Rattle.monitor.proofs.Instructions.{useAt}
 use Rattle.monitor.proofs.Instructions.{stepped, mayStep, PlanIs, plan-by-use, Kept, same, on-stack, by-plan, by-use}
 use Rattle.monitor.proofs.Entries.{within, Polls, waits, recoded}

@@ -8,7 +8,7 @@ use mathlib.Core.List.{List, [], _∷_}
 use borrow.Author.Tests.{ne-eqb}
 use lib.Dec.{eqb}
 use lib.IntN.{negsuc}
-use lib.ListN.{length, getD, length-append}
+use lib.ListN.{length, length-append}
 use lib.Seq.{set-set}
 use Rattle.word.specs.declared.Instruction.the-variants.{Br}
 use Rattle.machine.specs.declared.Plan.{Plan}
@@ -20,7 +20,7 @@ use Rattle.machine.specs.Devices.{MCR}
 use Rattle.machine.proofs.Tests.{both-true}
 use Rattle.run.specs.Run.{Start}
 use Rattle.monitor.specs.Out.{waitSteps}
-use Rattle.monitor.proofs.Execution.{Frame, Known, from, codesNumber, View, At, Quiet, Leads}
+use Rattle.monitor.proofs.Execution.{Frame, Known, from, View, At, Quiet, Leads}
 use Rattle.monitor.proofs.Intact.{cellsFine, usable, wordAt}
 use Rattle.monitor.proofs.Instructions.{Sound, codesFor, planAt, changed, valued, Kept, other, same, keeps-once}
 use Rattle.monitor.proofs.Instructions.{by-plan}

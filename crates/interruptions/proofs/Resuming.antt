@@ -4,33 +4,28 @@ use Prim.Native.Nat.{ℕ, suc, _+_, _-_, _*_, _/_, _%_, _≤_, _<_}
 use native.Mathlib.Omega.{arith}
 use native.Mathlib.Decide.{decLe}
 use mathlib.Core.Path.{_≡_, refl, sym, ap, subst, _∙_}
-use mathlib.Core.Bool.{Bool, true, false, cond}
-use mathlib.Core.List.{List, [], _∷_, _++_, append-nil}
+use mathlib.Core.Bool.{Bool, true, cond}
+use mathlib.Core.List.{List, [], _++_, append-nil}
 use lib.ListN.{length, getD, set, take, drop, length-append, length-drop}
 use lib.Seq.{getD-take, getD-drop, take-take, drop-drop}
-use Rattle.machine.specs.declared.Machine.{Machine}
 use Rattle.machine.specs.Words.{next}
-use Rattle.machine.specs.Psr.{inUserMode}
 use Rattle.run.specs.declared.Admission.the-variants.{Accepted}
 use Rattle.run.specs.Run.{Start, End, endedBy}
 use Rattle.run.specs.Refusals.{admissionOf}
 use Rattle.run.specs.Call.{callOf}
 use Rattle.run.proofs.Acceptance.{accepted-is-acceptable}
-use Rattle.monitor.specs.Routines.{monitorWords}
-use Rattle.monitor.specs.Install.{writtenOver}
-use Rattle.monitor.specs.Uses.{HasWords}
 use Rattle.monitor.specs.Calls.{stackOf, StackApart, Begins}
-use Rattle.monitor.proofs.Execution.{Frame, Known, codesNumber, Cell, View, psrAt, memoryWith, memoryAt, standingAt, At}
+use Rattle.monitor.proofs.Execution.{Frame, codesNumber, View, psrAt, memoryWith, memoryAt, standingAt, At}
 use Rattle.monitor.proofs.Execution.{Quiet}
-use Rattle.monitor.proofs.Intact.{Intact, cellsFine, slot-with, usable, wordAt}
-use Rattle.monitor.proofs.Instructions.{Sound, codes-below, planAt, slot-is, deeper, Kept}
+use Rattle.monitor.proofs.Intact.{Intact, cellsFine, slot-with, wordAt}
+use Rattle.monitor.proofs.Instructions.{Sound, codes-below, slot-is, deeper, Kept}
 use Rattle.monitor.proofs.Entries.{startFrame, startViewWith, at-start-with, calledFrame, up-one, up-two, psr-parts}
 use Rattle.monitor.proofs.Entries.{returnedFrame, returnedView, return-once}
 use Rattle.monitor.proofs.Calls.{begins-sound, psr-is-defined, words-below, words-above, call-stands, call-halts}
 use Rattle.monitor.proofs.Calls.{steps-are-made}
 use Rattle.monitor.proofs.Calls.{six-is-restored, ssp-is-restored}
-use Rattle.monitor.proofs.Paths.{holds, Readable, Ends, Path, then, other-word}
-use Rattle.interruptions.specs.GoesOn.{sixAfter, Returned, Resumed, GoesOn, Stops}
+use Rattle.monitor.proofs.Paths.{Readable, Ends, Path, then, other-word}
+use Rattle.interruptions.specs.GoesOn.{sixAfter, Returned, GoesOn, Stops}
 use Rattle.interruptions.proofs.Leaving.{Before, before, Left, leaves}
 use Rattle.interruptions.proofs.Following.{Rest, twin, beside, Like, holds-fine, holds-least, own-plan, Followed}
 use Rattle.interruptions.proofs.Following.{follows}

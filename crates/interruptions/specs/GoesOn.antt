@@ -1,7 +1,7 @@
 -- "The routines with interrupts on the way (each goes on where it was)": a call of OUT, PUTS, PUTSP or HALT is
--- interrupted, and a class's own interrupt routine returns with the machine as it was, but for clock, keyboard, timer, a
--- display that has had time, and the words below the stack pointer. Then the routine goes on to its end, and shows and
--- leaves what it would have shown and left.
+-- interrupted, and a class's own interrupt routine returns with the machine as it was, but for clock, keyboard, timer,
+-- a display that has had time, and the words below the stack pointer. Then the routine goes on to its end, and shows
+-- and leaves what it would have shown and left.
 use Prim.Native.Nat.{ℕ, _+_, _-_, _*_, _/_, _%_, _≤_, _<_}
 use mathlib.Core.Path.{_≡_}
 use mathlib.Core.Bool.{Bool, true, cond}

@@ -12,7 +12,7 @@ use Rattle.run.proofs.Acceptance.{accepted-is-acceptable}
 use Rattle.monitor.specs.Vectors.{vectorWord}
 use Rattle.monitor.specs.Uses.{withVector, haltCode}
 use Rattle.monitor.specs.Out.{waitSteps}
-use Rattle.monitor.specs.Calls.{stackOf, Begins, Calls, NoInterrupt, Halts}
+use Rattle.monitor.specs.Calls.{stackOf, Calls, NoInterrupt, Halts}
 use Rattle.monitor.specs.Halt.{message, haltSteps, HaltShows}
 use Rattle.monitor.proofs.Execution.{Frame, Known, from, cell, View, psrAt, At, Quiet}
 use Rattle.monitor.proofs.Intact.{cellsFine}

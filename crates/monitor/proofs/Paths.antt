@@ -2,9 +2,8 @@
 -- that stands where the way begins, and takes no interrupt, comes to where it ends; and the way can be left anywhere.
 use Prim.Native.Nat.{ℕ, zero, suc, _+_, _-_, _≤_, _<_}
 use native.Mathlib.Omega.{arith}
-use native.Mathlib.Decide.{decLe}
-use mathlib.Core.Path.{_≡_, refl, sym, ap, subst, _∙_}
-use mathlib.Core.Bool.{Bool, true, false, cond, _&&_, _||_}
+use mathlib.Core.Path.{_≡_, refl, sym, subst, _∙_}
+use mathlib.Core.Bool.{Bool, true, false, _&&_, _||_}
 use mathlib.Core.List.{List, [], _∷_}
 use borrow.Author.Tests.{lt-ltb}
 use lib.Dec.{eqb, leb, ltb}
@@ -18,7 +17,7 @@ use Rattle.machine.proofs.Tests.{both-true}
 use Rattle.run.specs.Run.{Start}
 use Rattle.monitor.specs.Out.{waitSteps}
 use Rattle.monitor.specs.Calls.{StackApart}
-use Rattle.monitor.proofs.Execution.{Frame, Known, from, codesNumber, Cell, View, memoryWith, At, Quiet, Leads}
+use Rattle.monitor.proofs.Execution.{Frame, Known, from, codesNumber, Cell, View, memoryWith, Quiet, Leads}
 use Rattle.monitor.proofs.Execution.{no-step}
 use Rattle.monitor.proofs.Execution.{then as thenLeads}
 use Rattle.monitor.proofs.Intact.{cellsFine, cells-fine, usable, wordAt}

@@ -2,7 +2,7 @@
 use Prim.Native.Nat.{ℕ, suc, _+_, _-_, _*_, _/_, _%_, _≤_, _<_}
 use native.Mathlib.Omega.{arith}
 use native.Mathlib.Decide.{decLe}
-use mathlib.Core.Path.{_≡_, refl, sym, ap, _∙_}
+use mathlib.Core.Path.{_≡_, refl, ap, _∙_}
 use mathlib.Core.Bool.{Bool, true}
 use mathlib.Core.List.{List, [], _∷_, _++_, append-nil}
 use borrow.Author.Tests.{lt-ltb, leb-true}
@@ -17,7 +17,7 @@ use Rattle.monitor.specs.Vectors.{vectorWord}
 use Rattle.monitor.specs.Uses.{withVector, putsCode}
 use Rattle.monitor.specs.Out.{waitSteps}
 use Rattle.monitor.specs.Calls.{stackOf, Begins, Calls, NoInterrupt, notRead, Resumes, Halts}
-use Rattle.monitor.specs.Puts.{mayReadOf, StringFrom, lowBytes, lookSteps, wordSteps, r0, stringSteps, putsSteps}
+use Rattle.monitor.specs.Puts.{mayReadOf, StringFrom, lowBytes, lookSteps, wordSteps, r0, putsSteps}
 use Rattle.monitor.specs.Puts.{refusedSteps, PutsShows}
 use Rattle.monitor.proofs.Execution.{Frame, Known, from, codesNumber, cell, View, psrAt, At, Quiet}
 use Rattle.monitor.proofs.Intact.{cellsFine}
