@@ -41,7 +41,7 @@ use Rattle.monitor.proofs.Putsp.{refused-there as putspThere, stopped as putspS
 use Rattle.monitor.proofs.Putsp.{to-stop as putspTail, in-front as putspFront, halts-then as putspThen}
 use Rattle.monitor.proofs.Putsp.{stopped-registers as putspStoppedRegisters}
 use Rattle.monitor.proofs.Putsp.{ends-there as putspEnds, same-registers as putspRegisters, nothing-else as putspRest}
-use Rattle.interruptions.specs.GoesOn.{OnTheWay, GoesOn, Stops, InterruptedGoOn}
+use Rattle.interruptions.specs.GoesOn.{OnTheWay, ResumesInTime, HaltedLater, InterruptedGoOn}
 use Rattle.interruptions.proofs.Resuming.{resumed, halted}
 
 -- A routine whose way from the trap to RTI is this.
@@ -57,13 +57,13 @@ module _ (vector : ℕ) (code : ℕ → Bool) (words : ℕ) (user : Bool) (s : S
       → Ends (withVector vector code) words user s end → length (end .bytes) ≤ length (s .output) → (k total : ℕ)
       → total ≡ 2 + len → (r : Start) (m : ℕ) → OnTheWay s n k total words below r m → (regs : List ℕ)
       → set (end .regs) 6 (getD (s .machine .regs) 6 0) ≡ regs → (bytes : List ℕ) → end .bytes ≡ bytes
-      → GoesOn s k total r m bytes (words + below) regs
+      → ResumesInTime s k total r m bytes (words + below) regs
   goes-on may below away end len way ends room k total z r m o regs same bytes shown =
       let b = c .begins in
       let quiet : Quiet s 0 k = quiet-steps s n k 0 (b .accepted) (o .fits) (takes-none (o .quiet)) in
       let nothing-more : 2 + len ≡ 2 + (len + 0) = omega arith in
       let few : k ≤ 1 + len = omega (arith, o .not-ended, z) in
-      subst (λ (t : ℕ). GoesOn s k t r m bytes (words + below) regs) (sym (z ∙ nothing-more))
+      subst (λ (t : ℕ). ResumesInTime s k t r m bytes (words + below) regs) (sym (z ∙ nothing-more))
       (resumed (withVector vector code) (with-vector-below vector code (omega arith) low) words user s n b two may below
       (o .apart) away (begun s x to (next (s .machine .pc))) end end len 0 way (no-step-more end) (ends .returns .fine)
       (let d = ends .depth in omega (arith, d)) room
@@ -83,7 +83,7 @@ module _ (vector : ℕ) (code : ℕ → Bool) (words : ℕ) (user : Bool) (s : S
       → OnTheWay s n k total words below r m → 1 + total < k + m → end .mcr ≡ 0 → end .pc ≡ 0x027E
       → psrAt (calledFrame (withVector vector code) words user s) end ≡ s .machine .psr / 8 % 4096 * 8 + 1
       → end .regs ≡ set (s .machine .regs) 6 0x2FFE → (bytes : List ℕ) → end .bytes ≡ bytes
-      → Stops s k r m bytes (words + below)
+      → HaltedLater s k r m bytes (words + below)
   stops may below away mid end len way tail fine deep room k total z r m o more off pc psr regs bytes shown =
       let b = c .begins in
       let quiet : Quiet s 0 k = quiet-steps s n k 0 (b .accepted) (o .fits) (takes-none (o .quiet)) in
@@ -120,7 +120,7 @@ module _ (user : Bool) (s : Start) (n : ℕ) (words : List ℕ) (b below : ℕ) 
       → StringFrom (mayReadOf user (5 + below) s) (s .memory) (r0 s) words b → mayReadOf user (5 + below) s b ≡ true
       → length words ≤ length (s .output) → (r : Start) (m : ℕ)
       → OnTheWay s n k (putsSteps user s words b) 5 below r m
-      → GoesOn s k (putsSteps user s words b) r m (lowBytes words) (5 + below) (s .machine .regs)
+      → ResumesInTime s k (putsSteps user s words b) r m (lowBytes words) (5 + below) (s .machine .regs)
   unfolding vectorWord
   puts c k string last room r m o =
       let e = eight (s .machine .regs) (c .begins .registers) in
@@ -144,7 +144,7 @@ module _ (user : Bool) (s : Start) (n : ℕ) (words : List ℕ) (b below : ℕ) 
       → StringFrom (mayReadOf user (6 + below) s) (s .memory) (r0 s) words b → AreWords words
       → mayReadOf user (6 + below) s b ≡ true → length (pairBytes words) ≤ length (s .output) → (r : Start) (m : ℕ)
       → OnTheWay s n k (putspSteps user (r0 s) words b) 6 below r m
-      → GoesOn s k (putspSteps user (r0 s) words b) r m (pairBytes words) (6 + below) (s .machine .regs)
+      → ResumesInTime s k (putspSteps user (r0 s) words b) r m (pairBytes words) (6 + below) (s .machine .regs)
   unfolding vectorWord
   putsp c k string fit last room r m o =
       let e = eight (s .machine .regs) (c .begins .registers) in
@@ -165,7 +165,7 @@ module _ (user : Bool) (s : Start) (n : ℕ) (words : List ℕ) (b below : ℕ) 
 
 out : (user : Bool) (s : Start) (n : ℕ) → Calls 0x21 outCode 3 user s n → 0 < length (s .output) → (k below : ℕ)
     (r : Start) (m : ℕ) → OnTheWay s n k (outStepsOf s) 3 below r m
-    → GoesOn s k (outStepsOf s) r m ((getD (s .machine .regs) 0 0 % 256) ∷ []) (3 + below) (s .machine .regs)
+    → ResumesInTime s k (outStepsOf s) r m ((getD (s .machine .regs) 0 0 % 256) ∷ []) (3 + below) (s .machine .regs)
 unfolding vectorWord
 out user s n c free k below r m o =
     let e = eight (s .machine .regs) (c .begins .registers) in
@@ -176,7 +176,7 @@ out user s n c free k below r m o =
 
 halt : (user : Bool) (s : Start) (n : ℕ) → Calls 0x25 haltCode 5 user s n → 7 ≤ length (s .output) → (k below : ℕ)
     (r : Start) (m : ℕ) → OnTheWay s n k (haltSteps - 1) 5 below r m → haltSteps < k + m
-    → Stops s k r m message (5 + below)
+    → HaltedLater s k r m message (5 + below)
 unfolding vectorWord
 halt user s n c room k below r m o more =
     let e = eight (s .machine .regs) (c .begins .registers) in
@@ -196,7 +196,7 @@ module _ (s : Start) (n : ℕ) (words : List ℕ) (b below : ℕ) (privileged-wo
   puts-refused : Calls 0x22 putsCode 5 true s n → (k : ℕ)
       → StringFrom (mayReadOf true (5 + below) s) (s .memory) (r0 s) words b → length words ≤ length (s .output)
       → (r : Start) (m : ℕ) → OnTheWay s n k (refusedSteps s words - 1) 5 below r m → refusedSteps s words < k + m
-      → Stops s k r m (lowBytes words) (5 + below)
+      → HaltedLater s k r m (lowBytes words) (5 + below)
   unfolding vectorWord
   puts-refused c k string room r m o more =
       let e = eight (s .machine .regs) (c .begins .registers) in
@@ -224,7 +224,7 @@ module _ (s : Start) (n : ℕ) (words : List ℕ) (b below : ℕ) (privileged-wo
       → StringFrom (mayReadOf true (6 + below) s) (s .memory) (r0 s) words b → AreWords words
       → length (pairBytes words) ≤ length (s .output) → (r : Start) (m : ℕ)
       → OnTheWay s n k (refusedPairSteps (r0 s) words - 1) 6 below r m → refusedPairSteps (r0 s) words < k + m
-      → Stops s k r m (pairBytes words) (6 + below)
+      → HaltedLater s k r m (pairBytes words) (6 + below)
   unfolding vectorWord
   putsp-refused c k string fit room r m o more =
       let e = eight (s .machine .regs) (c .begins .registers) in

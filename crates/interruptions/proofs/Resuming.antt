@@ -25,7 +25,7 @@ use Rattle.monitor.proofs.Calls.{begins-sound, psr-is-defined, words-below, wor
 use Rattle.monitor.proofs.Calls.{steps-are-made}
 use Rattle.monitor.proofs.Calls.{six-is-restored, ssp-is-restored}
 use Rattle.monitor.proofs.Paths.{Readable, Ends, Path, then, other-word}
-use Rattle.interruptions.specs.GoesOn.{sixAfter, Returned, GoesOn, Stops}
+use Rattle.interruptions.specs.GoesOn.{sixAfter, Returned, ResumesInTime, HaltedLater}
 use Rattle.interruptions.proofs.Leaving.{Before, before, Left, leaves}
 use Rattle.interruptions.proofs.Following.{Rest, twin, beside, Like, holds-fine, holds-least, own-plan, Followed}
 use Rattle.interruptions.proofs.Following.{follows}
@@ -345,7 +345,7 @@ module _ (uses : ℕ → Bool) (low : (x : ℕ) → uses x ≡ true → x < 0x02
         ∙ ap (λ (u : Bool). cond u (s .machine .«saved_ssp») (getD (s .machine .regs) 6 0)) (b .mode)
 
     pub resumed : (regs : List ℕ) → set (end .regs) 6 (getD (s .machine .regs) 6 0) ≡ regs → (bytes : List ℕ)
-        → end .bytes ≡ bytes → GoesOn s k (2 + (len + more)) r m bytes (words + below) regs
+        → end .bytes ≡ bytes → ResumesInTime s k (2 + (len + more)) r m bytes (words + below) regs
     resumed regs same bytes shown =
         let q = call-stands at-back m accepted (omega (arith, in-time)) in
         let p = call-stands at-left n (b .accepted) le in
@@ -383,7 +383,7 @@ module _ (uses : ℕ → Bool) (low : (x : ℕ) → uses x ≡ true → x < 0x02
 
   pub halted : end .mcr ≡ 0 → end .pc ≡ 0x027E → psrAt frame end ≡ s .machine .psr / 8 % 4096 * 8 + 1
       → end .regs ≡ set (s .machine .regs) 6 0x2FFE → (bytes : List ℕ) → end .bytes ≡ bytes
-      → Stops s k r m bytes (words + below)
+      → HaltedLater s k r m bytes (words + below)
   unfolding endedBy
   halted off pc psr regs bytes shown =
       let q = call-halts at-end m accepted (omega (arith, in-time)) off in

@@ -44,7 +44,7 @@ pub record Returned (s : Start) (k below : ℕ) (r : Start) : Type 0 where
 
 -- j steps of r later the caller of s has resumed at Next, with its PSR and these registers. What s showed before the
 -- interrupt and what r shows are these bytes; no word is changed but so many of the stack's.
-pub record Resumed (s : Start) (k : ℕ) (r : Start) (m j : ℕ) (bytes : List ℕ) (words : ℕ) (registers : List ℕ) :
+pub record ResumedLater (s : Start) (k : ℕ) (r : Start) (m j : ℕ) (bytes : List ℕ) (words : ℕ) (registers : List ℕ) :
     Type 0 where
   pub made : j ≤ callOf r m .steps
   pub ending : callOf r j .ending ≡ Done
@@ -67,14 +67,14 @@ pub record Resumed (s : Start) (k : ℕ) (r : Start) (m j : ℕ) (bytes : List �
   pub words-above : drop (stackOf (s .machine)) (callOf r j .memory) ≡ drop (stackOf (s .machine)) (s .memory)
 
 -- In as many steps at most as the routine had left.
-pub record GoesOn (s : Start) (k total : ℕ) (r : Start) (m : ℕ) (bytes : List ℕ) (words : ℕ) (registers : List ℕ) :
-    Type 0 where
+pub record ResumesInTime (s : Start) (k total : ℕ) (r : Start) (m : ℕ) (bytes : List ℕ) (words : ℕ)
+    (registers : List ℕ) : Type 0 where
   pub steps : ℕ
   pub in-time : k + steps ≤ total
-  pub resumed : Resumed s k r m steps bytes words registers
+  pub resumed : ResumedLater s k r m steps bytes words registers
 
 -- Where the routine halts the machine: r, of m steps, is halted, with R0 to R5 and R7 as the caller had them.
-pub record Stops (s : Start) (k : ℕ) (r : Start) (m : ℕ) (bytes : List ℕ) (words : ℕ) : Type 0 where
+pub record HaltedLater (s : Start) (k : ℕ) (r : Start) (m : ℕ) (bytes : List ℕ) (words : ℕ) : Type 0 where
   pub ending : callOf r m .ending ≡ Halted
   pub mcr : callOf r m .machine .devices .mcr ≡ 0
   pub first : List ℕ
@@ -110,31 +110,31 @@ pub record OnTheWay (s : Start) (n k total words below : ℕ) (r : Start) (m : �
 pub record InterruptedGoOn : Type 0 where
   pub out : (user : Bool) (s : Start) (n : ℕ) → Calls 0x21 outCode 3 user s n → 0 < length (s .output)
       → (k below : ℕ) (r : Start) (m : ℕ) → OnTheWay s n k (outStepsOf s) 3 below r m
-      → GoesOn s k (outStepsOf s) r m ((getD (s .machine .regs) 0 0 % 256) ∷ []) (3 + below) (s .machine .regs)
+      → ResumesInTime s k (outStepsOf s) r m ((getD (s .machine .regs) 0 0 % 256) ∷ []) (3 + below) (s .machine .regs)
   -- the string is apart from the interrupt's words too
   pub puts : (user : Bool) (s : Start) (n : ℕ) → Calls 0x22 putsCode 5 user s n → (words : List ℕ) (b k below : ℕ)
       → StringFrom (mayReadOf user (5 + below) s) (s .memory) (r0 s) words b → mayReadOf user (5 + below) s b ≡ true
       → getD (s .memory) b 0 ≡ 0 → length words ≤ length (s .output) → (r : Start) (m : ℕ)
       → OnTheWay s n k (putsSteps user s words b) 5 below r m
-      → GoesOn s k (putsSteps user s words b) r m (lowBytes words) (5 + below) (s .machine .regs)
+      → ResumesInTime s k (putsSteps user s words b) r m (lowBytes words) (5 + below) (s .machine .regs)
   pub putsp : (user : Bool) (s : Start) (n : ℕ) → Calls 0x24 putspCode 6 user s n → (words : List ℕ) (b k below : ℕ)
       → StringFrom (mayReadOf user (6 + below) s) (s .memory) (r0 s) words b → AreWords words
       → mayReadOf user (6 + below) s b ≡ true → getD (s .memory) b 0 ≡ 0
       → length (pairBytes words) ≤ length (s .output) → (r : Start) (m : ℕ)
       → OnTheWay s n k (putspSteps user (r0 s) words b) 6 below r m
-      → GoesOn s k (putspSteps user (r0 s) words b) r m (pairBytes words) (6 + below) (s .machine .regs)
+      → ResumesInTime s k (putspSteps user (r0 s) words b) r m (pairBytes words) (6 + below) (s .machine .regs)
   -- HALT, interrupted before STOP loads R6
   pub halt : (user : Bool) (s : Start) (n : ℕ) → Calls 0x25 haltCode 5 user s n → 7 ≤ length (s .output)
       → (k below : ℕ) (r : Start) (m : ℕ) → OnTheWay s n k (haltSteps - 1) 5 below r m → haltSteps < k + m
-      → Stops s k r m message (5 + below)
+      → HaltedLater s k r m message (5 + below)
   -- a string of a caller in User mode that comes to a privileged word, the same
   pub puts-refused : (s : Start) (n : ℕ) → Calls 0x22 putsCode 5 true s n → (words : List ℕ) (b k below : ℕ)
       → StringFrom (mayReadOf true (5 + below) s) (s .memory) (r0 s) words b → privileged b ≡ true → b < 65536
       → length words ≤ length (s .output) → (r : Start) (m : ℕ)
       → OnTheWay s n k (refusedSteps s words - 1) 5 below r m → refusedSteps s words < k + m
-      → Stops s k r m (lowBytes words) (5 + below)
+      → HaltedLater s k r m (lowBytes words) (5 + below)
   pub putsp-refused : (s : Start) (n : ℕ) → Calls 0x24 putspCode 6 true s n → (words : List ℕ) (b k below : ℕ)
       → StringFrom (mayReadOf true (6 + below) s) (s .memory) (r0 s) words b → AreWords words → privileged b ≡ true
       → b < 65536 → length (pairBytes words) ≤ length (s .output) → (r : Start) (m : ℕ)
       → OnTheWay s n k (refusedPairSteps (r0 s) words - 1) 6 below r m → refusedPairSteps (r0 s) words < k + m
-      → Stops s k r m (pairBytes words) (6 + below)
+      → HaltedLater s k r m (pairBytes words) (6 + below)
