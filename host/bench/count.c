@@ -52,8 +52,12 @@ static bool makes_all(run_function *run, const program *p, uint64_t steps, unsig
     return a.steps == steps;
 }
 
-/* Whether every single step was made, on one record that is lent. */
-static __attribute__((noinline)) bool makes_each(step_function *step, const program *p, unsigned long calls) {
+/*
+ * Whether every single step was made, on one record that is lent. It is a function of its own:
+ * inlined beside the loop of makes_all it would cost that some instructions a call.
+ */
+static __attribute__((noinline)) bool makes_each(step_function *step, const program *p,
+                                                 unsigned long calls) {
     lc3_record record = start_program(memory, p);
     lc3_report r = {.steps = 1};
     while (calls-- && r.steps == 1) {
