@@ -9,10 +9,10 @@
 # lc3_step_second: they make a single step with no loop, on a record that is lent. What the caller does for the call is
 # counted in both.
 #
-# `count`, `timer`, `copy`, `sieve` and `last` are loops that fit the window of the run for long sittings. It has a limit
-# of its own there, which is what a ratio to the run was when that was slower: a ratio would fail where the run alone
-# gets faster. Elsewhere, and in a call with n = 1, it may be a little slower than the run. Its polls and shows are
-# ordinary steps: for `poll`, `show`, `hello` and `echo` it has the highest limit, and no ratio.
+# `count`, `timer`, `copy`, `sieve` and `last` are loops that fit the window of the run for long sittings. It has a
+# limit of its own there: a ratio to the run would fail where the run alone gets faster. Elsewhere, and in a call with
+# n = 1, it may be a little slower than the run. Its polls and shows are ordinary steps: for `poll`, `show`, `hello`
+# and `echo` it has the highest limit, and no ratio.
 #
 # The cost of starting and of the call itself is the same for any number of steps, so the
 # difference between two lengths counts steps alone, and that between two numbers of calls, calls.
