@@ -4,3 +4,4 @@ pub mod Answers
 pub mod Buffers
 pub mod Counts
 pub mod Claims
+pub mod Lines
