@@ -4,7 +4,7 @@ use Rattle.word.specs.Reading.{readOf}
 use Rattle.word.specs.FixedBits.{fixedOf}
 use Rattle.text.specs.Operands.{digits, decimal}
 use Rattle.line.specs.Line.{lineOf}
-use Rattle.line.specs.Page.{linesOf}
+use Rattle.lines.specs.Page.{linesOf}
 use Rattle.numbers.specs.Lines.{LinesApart}
 
 pub lines-apart : LinesApart

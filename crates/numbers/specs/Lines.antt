@@ -4,7 +4,7 @@ use mathlib.Core.Path.{_≡_}
 use mathlib.Core.List.{List, [], _∷_}
 use Rattle.text.specs.Characters.{codesIn}
 use Rattle.line.specs.Line.{lineOf}
-use Rattle.line.specs.Page.{pageText}
+use Rattle.lines.specs.Page.{pageText}
 
 pub record LinesApart : Type 0 where
   -- the lines of a page stand in the order of its words
