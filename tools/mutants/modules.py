@@ -175,6 +175,11 @@ def rust_type(text: str) -> str:
     return 'List ℕ' if text.startswith('[') else RUST.get(text, text)
 
 
+# Crates whose definitions have pairs, which are not read here: how instructions are kept, which no
+# host sees.
+UNREAD = {'decoded'}
+
+
 class Repository:
     """Every spec file of the crates that crates.txt lists, with names resolved."""
 
@@ -184,7 +189,8 @@ class Repository:
         self.fields: Dict[Tuple[str, str], List[Tuple[str, str]]] = {}
         self.enums: Dict[str, List[Constructor]] = {}
         lines = (root / 'crates.txt').read_text().splitlines()
-        self.crates = [line.split(':')[0] for line in lines if line and line[0] != '#']
+        listed = [line.split(':')[0] for line in lines if line and line[0] != '#']
+        self.crates = [crate for crate in listed if crate not in UNREAD]
         for crate in self.crates:
             self.read(crate)
         for module in self.modules.values():
