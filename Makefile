@@ -32,7 +32,7 @@ RELEASE := $(shell cat VERSION)
 HEADER = fanthrig/lc3.h
 INTERFACE := $(shell sed -n 's/^.define LC3_VERSION //p' include/$(HEADER))
 SONAME := libfanthrig.so.$(INTERFACE)
-CARGO = cargo test --quiet --offline --release --manifest-path host/Cargo.toml --target-dir build/cargo
+CARGO = $(APART) cargo test --quiet --offline --release --manifest-path host/Cargo.toml --target-dir build/cargo
 
 # Where things are installed. Debian's own Python is taken where it is there: the command runs by it.
 PREFIX = /usr/local
@@ -116,7 +116,7 @@ host-counts: lib
 host-rust: lib
 	$(CARGO) --workspace -- --nocapture
 	$(subst cargo test,cargo run,$(CARGO)) --example log | diff host/examples/log.txt -
-	RUSTDOCFLAGS="-D warnings" \
+	$(APART) RUSTDOCFLAGS="-D warnings" \
 	    cargo doc --workspace --quiet --no-deps --offline --manifest-path host/Cargo.toml --target-dir build/cargo
 
 host-python: lib page
