@@ -318,6 +318,8 @@ def interrupted(shown: OnTerminal, count: int) -> None:
         shown.press(b"\x03")
         with contextlib.suppress(AssertionError):
             return prompted(shown, count, 0.5)
+        # A terminal throws away what was typed before it, for which readline may wait already.
+        shown.press(b"x")
     return prompted(shown, count)
 
 
@@ -377,6 +379,7 @@ class OnPrompt(Folder):
             # At the prompt it begins a new line, and a bad command is answered.
             prompted(shown, 2)
             shown.press(b"abc")
+            shown.see(b"(lc3) abc")
             interrupted(shown, 3)
             answered(shown, b"bogus\n", b"is no command")
             shown.press(b"\x04")

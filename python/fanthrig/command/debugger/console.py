@@ -42,8 +42,9 @@ class Console:
     that are typed by a command."""
 
     def __init__(self) -> None:
-        """Nothing runs. ``stopped`` tells whether Ctrl-C has stopped something."""
-        self._line_begun = self.stopped = False
+        """Nothing runs. ``stopped`` tells whether Ctrl-C has come, ``told`` whether the last answer
+        says so."""
+        self._line_begun = self.stopped = self.told = False
 
     def _keyboard(self, signals: Signals) -> Keyboard:
         """The program's keyboard for one run."""

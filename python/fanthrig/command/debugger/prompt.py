@@ -70,6 +70,7 @@ def obey(debugger: Debugger, console: Console, line: str) -> bool:
         answer, right, console.stopped = STOPPED, False, True
     tell(console.line_feed())
     tell(f"{answer}\n" if answer else "")
+    console.told = STOPPED in answer
     return right
 
 
@@ -91,8 +92,8 @@ def interact(debugger: Debugger, console: Console) -> Code:
         elif not line.lstrip().startswith("#"):
             if not (obey(debugger, console, line) or lines.on_terminal):
                 code = Code.NOT_HALTED
-        elif before and not lines.on_terminal:
-            tell(f"{STOPPED}\n")
         if console.stopped and not lines.on_terminal:
+            # A command that was just done when it came has told its own answer alone.
+            tell("" if console.told else f"{STOPPED}\n")
             debugger.ended, code = True, Code.NOT_HALTED
     return code
