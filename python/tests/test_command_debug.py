@@ -323,14 +323,28 @@ def interrupted(shown: OnTerminal, count: int) -> None:
     return prompted(shown, count)
 
 
+# Ctrl-U: the line that was begun is cleared.
+CLEARED = b"\x15"
+
+
 def answered(shown: OnTerminal, line: bytes, answer: bytes) -> None:
-    """Types a line until it is answered: a Ctrl-C that is noticed late throws it away."""
+    """Types a line, in the place of what may stand there, until it is answered: a Ctrl-C that is
+    noticed late throws it away."""
     for _ in range(40):
-        shown.press(line)
+        shown.press(CLEARED + line)
         with contextlib.suppress(AssertionError):
             shown.see(answer, 0.5)
             return
     shown.see(answer)
+
+
+def left_by_ctrl_d(shown: OnTerminal) -> int:
+    """The exit status of a debugger that is left by Ctrl-D, pressed until it ends."""
+    for _ in range(40):
+        shown.press(CLEARED + b"\x04")
+        with contextlib.suppress(subprocess.TimeoutExpired):
+            return shown.process.wait(0.5)
+    return shown.process.wait(1)
 
 
 def ended_by(process: subprocess.Popen[bytes], number: int) -> int:
@@ -382,8 +396,7 @@ class OnPrompt(Folder):
             shown.see(b"(lc3) abc")
             interrupted(shown, 3)
             answered(shown, b"bogus\n", b"is no command")
-            shown.press(b"\x04")
-            self.assertEqual(shown.process.wait(20), 0)
+            self.assertEqual(left_by_ctrl_d(shown), 0)
             self.assertEqual(shown.attributes(), shown.before)
             self.assertNotIn(b"Traceback", shown.seen)
 
