@@ -67,7 +67,7 @@ run: told lib
 
 told:
 	@command -v python3 >/dev/null || { echo "The command needs python3, and none is found." >&2; exit 2; }
-	@[ -e build/libfanthrig.so ] || echo "The library is proved and built first: about 5 minutes on two cores, once."
+	@[ -e build/libfanthrig.so ] || echo "The library is proved and built first: about 6 minutes on two cores, once."
 
 # `make test` compares what it prints with crates/demo/stdout.
 demo:
