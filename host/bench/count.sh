@@ -23,7 +23,8 @@
 #   ECHO_LIMIT    for echo                                        46
 #   LONG_LIMIT    for the long run                                115
 #   LOG_LIMIT     for logged runs                                 110
-#   LOOP_LIMIT    for its loops in the window, in hundredths      2270
+#   LOOP_LIMIT    for its loops in the window, in hundredths      2100
+#   TIMER_LIMIT   for timer, the same                             2270
 #   OTHER_RATIO   of the long run's to the run's, in hundredths   125
 #   CALL_RATIO    for calls with n = 1                            130
 #   CALL_LIMIT    instructions of a call with n = 1               325
@@ -35,7 +36,8 @@ limit=${COUNT_LIMIT:-40}
 echo_limit=${ECHO_LIMIT:-46}
 long_limit=${LONG_LIMIT:-115}
 log_limit=${LOG_LIMIT:-110}
-loop_limit=${LOOP_LIMIT:-2270}
+loop_limit=${LOOP_LIMIT:-2100}
+timer_limit=${TIMER_LIMIT:-2270}
 other_ratio=${OTHER_RATIO:-125}
 call_ratio=${CALL_RATIO:-130}
 call_limit=${CALL_LIMIT:-325}
@@ -131,10 +133,12 @@ count_steps() {
 status=0
 any=$((long_limit * 100))
 echo "instructions per step, limit $limit, for echo $echo_limit, for the long run $long_limit and" \
-    "$(decimal "$loop_limit") for count, timer, copy, sieve and last, for logged runs $log_limit;"
+    "$(decimal "$loop_limit") for count, copy, sieve and last, $(decimal "$timer_limit") for timer," \
+    "for logged runs $log_limit;"
 echo "ratio of the long run, limit $(decimal "$other_ratio") for self, calls, outs and wander," \
     "$(decimal "$call_ratio") for calls with n = 1"
-for program in count timer copy sieve last; do count_program $program "$limit" "$loop_limit"; done
+for program in count copy sieve last; do count_program $program "$limit" "$loop_limit"; done
+count_program timer "$limit" "$timer_limit"
 for program in self calls outs wander; do count_program $program "$limit" "$any" "$other_ratio"; done
 for program in poll show hello; do count_program $program "$limit" "$any"; done
 count_program echo "$echo_limit" "$any"
