@@ -18,8 +18,6 @@
 EXPORTS = lc3_machine lc3_step lc3_step_second lc3_logging lc3_long lc3_second lc3_words lc3_lines lc3_objects \
     lc3_monitor lc3_certify lc3_version
 ARCHIVES = $(EXPORTS:%=target/staticlib/lib%.a)
-# The crates that they rest on.
-BELOW := $(sort $(foreach name,$(EXPORTS),$(shell sed -n 's/^$(name)://p' crates.txt)))
 # How many crates rt proves at a time, or wrong programs it tries. It waits for all of them before it begins the next
 # ones, so that four keep two cores busier than two would, and six busier still; each takes up to 1.8 GB.
 export RT_JOBS ?= $(shell awk '/^MemTotal:/ { print ($$2 < 12000000) ? 4 : 6 }' /proc/meminfo)
@@ -124,20 +122,17 @@ host-python: lib page
 
 lib: build/libfanthrig.so
 
-# The archives rest on the same crates, which are proved first, several at a time. Each archive is then proved and
-# written in seconds, two at a time.
+# The archives, and the crates that they rest on, each proved once.
 KIT = command -v rt >/dev/null || { cat tools/no-kit.txt >&2; exit 2; }
 build/proved: crates.txt $(shell find crates -name '*.rt' -o -name '*.antt')
 	@$(KIT)
-	@tools/progress build/proved.log rt check $(BELOW)
+	@tools/progress build/proved.log tools/prove.py staticlib $(EXPORTS)
 	@touch $@
 
-$(ARCHIVES): target/staticlib/lib%.a: build/proved
-	@tools/archive $*
+$(ARCHIVES): build/proved ;
 
 # The archives' objects under names of their own.
 build/libfanthrig.a: build/proved
-	@$(MAKE) --no-print-directory -j2 $(ARCHIVES)
 	rm -rf $@ build/objects
 	@for name in $(EXPORTS); do \
 	    mkdir -p build/objects/$$name && (cd build/objects/$$name && ar x ../../../target/staticlib/lib$$name.a) && \
