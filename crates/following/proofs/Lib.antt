@@ -1,4 +1,3 @@
 -- Laws of what an instruction leads to.
-pub mod AccessLaws
-pub mod DeviceLaws
+pub mod JumpLaws
 pub mod BranchLaws

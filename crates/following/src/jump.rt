@@ -16,7 +16,8 @@ ghost use Prim.Native.Nat.{ℕ, _%_, _≤_};
 ghost use lib.ListN.{length, getD};
 ghost use Rattle.sitting.specs.Test.{State, Claim, accepts, cellAt, valueIn, jumpsBy, callsBy, returnsBy};
 ghost use Rattle.claims.specs.Encoding.{valueOf, stateOf, claimWith};
-ghost use Rattle.following.specs.Ways.{Leads, Goes};
+ghost use Rattle.accesses.specs.Leads.{Leads};
+ghost use Rattle.following.specs.Ways.{Goes};
 ghost use Rattle.following.specs.Pushed.{pushed};
 
 // JMP, RET, JSRR: to a known address.

@@ -3,7 +3,7 @@ use borrow.Author.Needs.{needs}
 use native.Mathlib.Omega.{arith}
 use lib.ListN.{getD}
 use Rattle.claims.specs.Encoding.{stateOf, claimWith}
-use Rattle.following.proofs.AccessLaws.{calls-no, calls-unknown, calls-low, calls-of}
+use Rattle.following.proofs.JumpLaws.{calls-no, calls-unknown, calls-low, calls-of}
 use Rattle.following.proofs.jump.calls_by.Statement.{statement}
 use Rattle.following.proofs.jump.calls_by.Tie as tie
 

@@ -5,7 +5,7 @@ use native.Mathlib.Omega.{arith}
 use Rattle.machine.specs.Words.{next}
 use Rattle.claims.specs.Encoding.{stateOf}
 use Rattle.claims.proofs.ValueLaws.{value-is}
-use Rattle.following.proofs.AccessLaws.{value-low, pushed-is}
+use Rattle.following.proofs.JumpLaws.{value-low, pushed-is}
 use Rattle.following.proofs.jump.push_two.Statement.{statement}
 use Rattle.following.proofs.jump.push_two.Tie as tie
 

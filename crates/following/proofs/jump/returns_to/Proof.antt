@@ -9,7 +9,7 @@ use Rattle.sitting.specs.Test.{held}
 use Rattle.claims.specs.Encoding.{stateOf, claimWith}
 use Rattle.claims.proofs.StateLaws.{value-in}
 use Rattle.following.specs.Ways.{wayHolds}
-use Rattle.following.proofs.AccessLaws.{returns-unknown, returns-user, returns-no, returns-back, returning-is}
+use Rattle.following.proofs.JumpLaws.{returns-unknown, returns-user, returns-no, returns-back, returning-is}
 use Rattle.following.proofs.jump.returns_to.Statement.{statement}
 use Rattle.following.proofs.jump.returns_to.Tie as tie
 

@@ -1,7 +1,7 @@
 -- `following::jump::target_of` meets its contract.
 use borrow.Author.Needs.{needs}
 use native.Mathlib.Omega.{arith}
-use Rattle.following.proofs.AccessLaws.{jumps-of, jumps-not}
+use Rattle.following.proofs.JumpLaws.{jumps-of, jumps-not}
 use Rattle.following.proofs.jump.target_of.Statement.{statement}
 use Rattle.following.proofs.jump.target_of.Tie as tie
 

@@ -1,0 +1,3 @@
+-- Laws of loads and stores.
+pub mod AccessLaws
+pub mod DeviceLaws

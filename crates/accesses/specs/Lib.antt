@@ -1,0 +1,2 @@
+-- What a load or a store of a monitor leads to.
+pub mod Leads

@@ -1,0 +1,27 @@
+-- `following::forms::st` meets its contract.
+use borrow.Author.Needs.{needs}
+use mir.Syntax.{w16}
+use mir.Val.{toZ, ofZ}
+use mathlib.Core.Path.{_≡_, refl, _∙_}
+use Rattle.sitting.specs.Test.{harmless}
+use Rattle.following.proofs.forms.st.Statement.{statement}
+use Rattle.following.proofs.forms.st.Tie as tie
+
+returns : tie.Need-returns
+unfolding harmless
+returns c = let l = c .before .before in let n = l .before .before in let r = n .before .before in
+    let w = r .before in let s = w .before .before .before .before .before in
+    let known = s .fits .o in
+    let e : toZ w16 (ofZ w16 (s .args .o)) ≡ s .args .o = search needs in
+    λ rows. l .stores-at .ensures rows ∙ rw (
+      l .before .offset .ensures,
+      n .next .ensures,
+      r .register .ensures,
+      e,
+    ) refl
+
+pub st-spec : {M : Type 1} → statement M
+st-spec =
+    tie.close
+    (tie.spec (λ c κs. search needs) (λ c κs. search needs) (λ c κs. search needs) (λ c κs. search needs)
+    (λ c. search needs) returns)

@@ -1,0 +1,21 @@
+-- `following::forms::str` meets its contract.
+use borrow.Author.Needs.{needs}
+use mir.Syntax.{w16}
+use mir.Val.{toZ, ofZ}
+use mathlib.Core.Path.{_≡_, refl, _∙_}
+use Rattle.sitting.specs.Test.{harmless}
+use Rattle.following.proofs.forms.str.Statement.{statement}
+use Rattle.following.proofs.forms.str.Tie as tie
+
+returns : tie.Need-returns
+unfolding harmless
+returns c = let l = c .before .before in let v = l .before .before in let b = v .before .before in
+    let w = b .before in let s = w .before .before .before .before .before in
+    let known = s .fits .o in
+    let e : toZ w16 (ofZ w16 (s .args .o)) ≡ s .args .o = search needs in
+    λ rows. l .stores-by .ensures rows ∙ rw (b .register .ensures, v .register2 .ensures, e) refl
+
+pub str-spec : {M : Type 1} → statement M
+str-spec =
+    tie.close
+    (tie.spec (λ c κs. search needs) (λ c κs. search needs) (λ c κs. search needs) (λ c. search needs) returns)
