@@ -1,7 +1,7 @@
 // The logged run for hosts in C and Rust, in an archive of its own: its loop calls the step, and two loops in one
 // archive would cost both their inlining.
-use lc3_machine::ending_stop;
-use lc3_machine::report_of;
+use answers::ending_stop;
+use answers::report_of;
 use logging::LoggedEnding;
 use machine::Machine;
 use run::Ending;

@@ -1,10 +1,10 @@
 // The run for long sittings, for hosts in C and Rust. It answers and leaves what `lc3_run` does, for every call; it
 // takes less time where a program stays in loops. Nothing is required of a caller.
-use lc3_machine::Lc3Answer;
+use answers::Lc3Answer;
 use machine::Machine;
 ghost use mathlib.Core.Path.{_≡_};
 ghost use Rattle.run.specs.Call.{startOf, callOf};
-ghost use Rattle.lc3_machine.specs.Answer.{answerOf, answered};
+ghost use Rattle.answers.specs.Answer.{answerOf, answered};
 
 // The run of n steps. A call that is turned down answers its number and leaves everything as it was handed in.
 #[no_mangle]
@@ -20,5 +20,5 @@ pub extern "C" fn lc3_run_long(
         ≡ answerOf (callOf (startOf m (now (memory .entry)) (now (times .entry)) (now (bytes .entry))
         (now (output .entry))) n) ⌝ }
 {
-    lc3_machine::answer_of(long::run(m, memory, times, bytes, output, n))
+    answers::answer_of(long::run(m, memory, times, bytes, output, n))
 }

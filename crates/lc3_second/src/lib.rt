@@ -1,15 +1,15 @@
 // The run by the rules of the second edition, for hosts in C and Rust: answered as that of `lc3_machine` is. It has an
 // archive of its own: the edition is a constant in each archive, so that the compiler leaves out what the other edition
 // needs.
-use lc3_machine::Lc3Answer;
-use lc3_machine::answer_of;
-use lc3_machine::refused;
+use answers::Lc3Answer;
+use answers::answer_of;
+use answers::refused;
 use machine::Machine;
 use run::Admission;
 use runner::stepping::run_accepted;
 ghost use mathlib.Core.Path.{_≡_};
 ghost use Rattle.run.specs.Call.{startOf, secondCallOf};
-ghost use Rattle.lc3_machine.specs.Answer.{answerOf, answered};
+ghost use Rattle.answers.specs.Answer.{answerOf, answered};
 
 // The run of n steps. A call that is turned down answers its number and leaves everything as it was handed in.
 #[no_mangle]

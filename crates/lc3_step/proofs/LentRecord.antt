@@ -48,10 +48,10 @@ use Rattle.machine.proofs.Machine as T
 use Rattle.machine.proofs.Machine.Laws as T′
 use Rattle.run.specs.Run.{Start}
 use Rattle.run.specs.Call.{startOf}
-use Rattle.lc3_machine.specs.Answer.{Answered, reported}
+use Rattle.answers.specs.Answer.{Answered, reported}
 use Rattle.lc3_step.specs.declared.Called.{Called}
-use Rattle.lc3_machine.proofs.Lc3Report as P
-use Rattle.lc3_machine.proofs.Lc3Report.Laws as P′
+use Rattle.answers.proofs.Lc3Report as P
+use Rattle.answers.proofs.Lc3Report.Laws as P′
 use Rattle.lc3_step.proofs.Called as N
 use Rattle.lc3_step.proofs.Called.Laws as N′
 use Rattle.lc3_step.proofs.one_step as step

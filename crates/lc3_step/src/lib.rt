@@ -1,11 +1,11 @@
 // Document 01's single step for hosts in C and Rust, on a record that the host keeps: the by-value step of `single`,
 // answered as a run is. It has an archive of its own, with the one call of the step in it and no loop, so that the
 // compiler inlines all of it. Nothing is required of a caller.
-use lc3_machine::Lc3Report;
+use answers::Lc3Report;
 use machine::Machine;
 ghost use mathlib.Core.Path.{_≡_};
 ghost use Rattle.run.specs.Call.{startOf, callOf};
-ghost use Rattle.lc3_machine.specs.Answer.{answerOf, reported};
+ghost use Rattle.answers.specs.Answer.{answerOf, reported};
 
 // What a single step answers by value: the record, and the report in numbers.
 pub struct Called {
@@ -27,7 +27,7 @@ fn one_step(
 {
     let a = single::step(false, m, memory, times, bytes, output);
     let machine = a.machine;
-    let report = lc3_machine::report_of(a.report);
+    let report = answers::report_of(a.report);
     Called { machine, report }
 }
 

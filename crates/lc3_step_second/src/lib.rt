@@ -1,11 +1,11 @@
 // The single step by the rules of the second edition, for hosts in C and Rust: as that of `lc3_step`, in an archive of
 // its own for the same reason.
-use lc3_machine::Lc3Report;
+use answers::Lc3Report;
 use lc3_step::Called;
 use machine::Machine;
 ghost use mathlib.Core.Path.{_≡_};
 ghost use Rattle.run.specs.Call.{startOf, secondCallOf};
-ghost use Rattle.lc3_machine.specs.Answer.{answerOf, reported};
+ghost use Rattle.answers.specs.Answer.{answerOf, reported};
 
 // The single step by value, its report in numbers.
 fn one_step(
@@ -21,7 +21,7 @@ fn one_step(
 {
     let a = single::step(true, m, memory, times, bytes, output);
     let machine = a.machine;
-    let report = lc3_machine::report_of(a.report);
+    let report = answers::report_of(a.report);
     Called { machine, report }
 }
 

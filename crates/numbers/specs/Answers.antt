@@ -19,7 +19,7 @@ use Rattle.logging.specs.LoggedCall.{loggedEndOf}
 use Rattle.object.specs.Calls.{loading, saving}
 use Rattle.start.specs.Start.{starting}
 use Rattle.lines.specs.Answer.{answered as lineAnswered}
-use Rattle.lc3_machine.specs.Answer.{Answered, answerOf, reportOf, reported, answered}
+use Rattle.answers.specs.Answer.{Answered, answerOf, reportOf, reported, answered}
 use Rattle.lc3_logging.specs.LoggedAnswer.{LoggedAnswered, loggedAnswerOf, loggedAnswered}
 use Rattle.lc3_objects.specs.Answers.{hostStarting, hostSaving}
 use Rattle.lc3_lines.specs.Counted.{answeredWith}

@@ -1,7 +1,7 @@
 -- `lc3_run_long` meets its contract, by that of `run`, whose answer `answer_of` puts into numbers.
 use mathlib.Core.Path.{ap, _∙_}
 use borrow.Author.Needs.{needs}
-use Rattle.lc3_machine.specs.Answer.{answerOf}
+use Rattle.answers.specs.Answer.{answerOf}
 use Rattle.lc3_long.proofs.lc3_run_long.Statement.{statement}
 use Rattle.lc3_long.proofs.lc3_run_long.Tie as tie
 

@@ -3,7 +3,7 @@
 use mathlib.Core.Path.{sym, ap, _∙_}
 use Rattle.run.specs.Call.{admittedBy, callBy, startOf}
 use Rattle.run.proofs.Acceptance.{accepted-is-acceptable}
-use Rattle.lc3_machine.specs.Answer.{answerOf}
+use Rattle.answers.specs.Answer.{answerOf}
 use borrow.Author.Needs.{needs}
 use Rattle.lc3_machine.proofs.lc3_run.Statement.{statement}
 use Rattle.lc3_machine.proofs.lc3_run.Tie as tie

@@ -4,7 +4,7 @@ use denote.Triple.Spec.{tripleOf}
 use denote.Triple.Table.{entered, cited}
 use Rattle.run.specs.Call.{callOf}
 use Rattle.run.specs.Run.{Start}
-use Rattle.lc3_machine.specs.Answer.{Answered, answerOf}
+use Rattle.answers.specs.Answer.{Answered, answerOf}
 use Rattle.lc3_step.proofs.LentRecord.{Step, meets}
 use Rattle.lc3_step.proofs.one_step.Symbol.{name as #one-step, routine as one-step-routine}
 use Rattle.lc3_step.proofs.one_step.Met as one-step

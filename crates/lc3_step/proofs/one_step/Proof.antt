@@ -1,7 +1,7 @@
 -- `lc3_step::one_step` meets its contract, by that of `single::step`, whose report `report_of` puts into numbers.
 use mathlib.Core.Path.{ap}
 use borrow.Author.Needs.{needs}
-use Rattle.lc3_machine.specs.Answer.{answerOf}
+use Rattle.answers.specs.Answer.{answerOf}
 use Rattle.lc3_step.proofs.one_step.Statement.{statement}
 use Rattle.lc3_step.proofs.one_step.Tie as tie
 

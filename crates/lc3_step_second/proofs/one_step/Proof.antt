@@ -2,7 +2,7 @@
 -- numbers.
 use mathlib.Core.Path.{ap}
 use borrow.Author.Needs.{needs}
-use Rattle.lc3_machine.specs.Answer.{answerOf}
+use Rattle.answers.specs.Answer.{answerOf}
 use Rattle.lc3_step_second.proofs.one_step.Statement.{statement}
 use Rattle.lc3_step_second.proofs.one_step.Tie as tie
 

@@ -13,25 +13,28 @@ use Rattle.following.proofs.instruction.leads.Tie as tie
 returns : tie.Need-returns
 returns c = let i = c .before .before in
     let m = i .before in let a = m .before .before .before .before .before .args in
+    let claim = claimWith (a .memory .now) (a .kinds .now) (a .lowest) (a .watched .now) in
     let n = i .i .given .0 .1 .0 in
     let known = c .before .known-told .given in
     let e : toZ w16 (ofZ w16 n) ≡ n = search needs in
-    λ rows. rw (i .i .given .1) (c .br .ensures (claimWith (a .memory .now) (a .kinds .now) (a .lowest) (a .watched .now) rows) (stateOf (a .t .now)) ∙ rw e refl)
+    λ rows. rw (i .i .given .1) (c .br .ensures (claim rows) (stateOf (a .t .now)) ∙ rw e refl)
 
 returns-2 : tie.Need-returns-2
 unfolding wayHolds
 returns-2 c = let f = c .before .before in let i = f .before .before .before in
     let m = i .before in let a = m .before .before .before .before .before .args in
-    λ rows. rw (i .i2 .given .1) (f .add-register .ensures (claimWith (a .memory .now) (a .kinds .now) (a .lowest) (a .watched .now) rows))
+    let claim = claimWith (a .memory .now) (a .kinds .now) (a .lowest) (a .watched .now) in
+    λ rows. rw (i .i2 .given .1) (f .add-register .ensures (claim rows))
 
 returns-3 : tie.Need-returns-3
 unfolding wayHolds
 returns-3 c = let f = c .before .before in let i = f .before .before .before in
     let m = i .before in let a = m .before .before .before .before .before .args in
+    let claim = claimWith (a .memory .now) (a .kinds .now) (a .lowest) (a .watched .now) in
     let n = i .i3 .given .0 .1 .1 .0 in
     let known = f .before .before .known-told3 .given in
     let e : toZ w16 (ofZ w16 n) ≡ n = search needs in
-    λ rows. rw (i .i3 .given .1) (f .add-immediate .ensures (claimWith (a .memory .now) (a .kinds .now) (a .lowest) (a .watched .now) rows) ∙ rw e refl)
+    λ rows. rw (i .i3 .given .1) (f .add-immediate .ensures (claim rows) ∙ rw e refl)
 
 returns-4 : tie.Need-returns-4
 unfolding wayHolds
@@ -53,31 +56,35 @@ returns-6 : tie.Need-returns-6
 unfolding wayHolds
 returns-6 c = let f = c .before .before in let i = f .before .before .before in
     let m = i .before in let a = m .before .before .before .before .before .args in
+    let claim = claimWith (a .memory .now) (a .kinds .now) (a .lowest) (a .watched .now) in
     let n = i .i6 .given .0 .0 in
     let known = f .before .before .known-told6 .given in
     let e : toZ w16 (ofZ w16 n) ≡ n = search needs in
-    λ rows. rw (i .i6 .given .1) (f .jsr .ensures (claimWith (a .memory .now) (a .kinds .now) (a .lowest) (a .watched .now) rows) ∙ rw e refl)
+    λ rows. rw (i .i6 .given .1) (f .jsr .ensures (claim rows) ∙ rw e refl)
 
 returns-7 : tie.Need-returns-7
 unfolding wayHolds
 returns-7 c = let f = c .before .before in let i = f .before .before .before in
     let m = i .before in let a = m .before .before .before .before .before .args in
-    λ rows. rw (i .i7 .given .1) (f .jsrr .ensures (claimWith (a .memory .now) (a .kinds .now) (a .lowest) (a .watched .now) rows))
+    let claim = claimWith (a .memory .now) (a .kinds .now) (a .lowest) (a .watched .now) in
+    λ rows. rw (i .i7 .given .1) (f .jsrr .ensures (claim rows))
 
 returns-8 : tie.Need-returns-8
 unfolding wayHolds
 returns-8 c = let f = c .before .before in let i = f .before .before .before in
     let m = i .before in let a = m .before .before .before .before .before .args in
-    λ rows. rw (i .i8 .given .1) (f .and-register .ensures (claimWith (a .memory .now) (a .kinds .now) (a .lowest) (a .watched .now) rows))
+    let claim = claimWith (a .memory .now) (a .kinds .now) (a .lowest) (a .watched .now) in
+    λ rows. rw (i .i8 .given .1) (f .and-register .ensures (claim rows))
 
 returns-9 : tie.Need-returns-9
 unfolding wayHolds
 returns-9 c = let f = c .before .before in let i = f .before .before .before in
     let m = i .before in let a = m .before .before .before .before .before .args in
+    let claim = claimWith (a .memory .now) (a .kinds .now) (a .lowest) (a .watched .now) in
     let n = i .i9 .given .0 .1 .1 .0 in
     let known = f .before .before .known-told9 .given in
     let e : toZ w16 (ofZ w16 n) ≡ n = search needs in
-    λ rows. rw (i .i9 .given .1) (f .and-immediate .ensures (claimWith (a .memory .now) (a .kinds .now) (a .lowest) (a .watched .now) rows) ∙ rw e refl)
+    λ rows. rw (i .i9 .given .1) (f .and-immediate .ensures (claim rows) ∙ rw e refl)
 
 returns-10 : tie.Need-returns-10
 unfolding wayHolds
@@ -105,7 +112,8 @@ returns-13 : tie.Need-returns-13
 unfolding wayHolds
 returns-13 c = let f = c .before .before in let i = f .before .before .before in
     let m = i .before in let a = m .before .before .before .before .before .args in
-    λ rows. rw (i .i12 .given .1) (f .not .ensures (claimWith (a .memory .now) (a .kinds .now) (a .lowest) (a .watched .now) rows))
+    let claim = claimWith (a .memory .now) (a .kinds .now) (a .lowest) (a .watched .now) in
+    λ rows. rw (i .i12 .given .1) (f .not .ensures (claim rows))
 
 returns-14 : tie.Need-returns-14
 unfolding wayHolds
@@ -127,21 +135,24 @@ returns-16 : tie.Need-returns-16
 unfolding wayHolds
 returns-16 c = let i = c .before .before .before in
     let m = i .before in let a = m .before .before .before .before .before .args in
-    λ rows. rw (i .i15 .given .1) (c .jmp .ensures (claimWith (a .memory .now) (a .kinds .now) (a .lowest) (a .watched .now) rows) (a .pc))
+    let claim = claimWith (a .memory .now) (a .kinds .now) (a .lowest) (a .watched .now) in
+    λ rows. rw (i .i15 .given .1) (c .jmp .ensures (claim rows) (a .pc))
 
 returns-17 : tie.Need-returns-17
 unfolding harmless wayHolds
 returns-17 c = let m = c .before in let a = m .before .before .before .before .before .args in
-    λ rows. rw (c .enum-told2 .given .1) (nothing-at-0 (claimWith (a .memory .now) (a .kinds .now) (a .lowest) (a .watched .now) rows) (stateOf (a .t .now)))
+    let claim = claimWith (a .memory .now) (a .kinds .now) (a .lowest) (a .watched .now) in
+    λ rows. rw (c .enum-told2 .given .1) (nothing-at-0 (claim rows) (stateOf (a .t .now)))
 
 returns-18 : tie.Need-returns-18
 unfolding wayHolds
 returns-18 c = let f = c .before .before in let i = f .before .before .before in
     let m = i .before in let a = m .before .before .before .before .before .args in
+    let claim = claimWith (a .memory .now) (a .kinds .now) (a .lowest) (a .watched .now) in
     let n = i .i16 .given .0 .1 .0 in
     let known = f .before .before .known-told16 .given in
     let e : toZ w16 (ofZ w16 n) ≡ n = search needs in
-    λ rows. rw (i .i16 .given .1) (f .lea .ensures (claimWith (a .memory .now) (a .kinds .now) (a .lowest) (a .watched .now) rows) ∙ rw e refl)
+    λ rows. rw (i .i16 .given .1) (f .lea .ensures (claim rows) ∙ rw e refl)
 
 returns-19 : tie.Need-returns-19
 unfolding wayHolds harmless

@@ -1,7 +1,7 @@
--- `lc3_machine::ending_stop` meets its contract: each ending has its number.
+-- `answers::ending_stop` meets its contract: each ending has its number.
 use borrow.Author.Needs.{needs}
-use Rattle.lc3_machine.proofs.ending_stop.Statement.{statement}
-use Rattle.lc3_machine.proofs.ending_stop.Tie as tie
+use Rattle.answers.proofs.ending_stop.Statement.{statement}
+use Rattle.answers.proofs.ending_stop.Tie as tie
 
 done : tie.Need-returns
 done c = rw (c .enum-told .given .1)

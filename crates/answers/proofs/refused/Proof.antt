@@ -1,8 +1,8 @@
--- `lc3_machine::refused` meets its contract, by those of the numbers.
+-- `answers::refused` meets its contract, by those of the numbers.
 use Rattle.run.specs.Run.{begin, endedBy}
 use borrow.Author.Needs.{needs}
-use Rattle.lc3_machine.proofs.refused.Statement.{statement}
-use Rattle.lc3_machine.proofs.refused.Tie as tie
+use Rattle.answers.proofs.refused.Statement.{statement}
+use Rattle.answers.proofs.refused.Tie as tie
 
 returns : tie.Need-returns
 unfolding begin endedBy

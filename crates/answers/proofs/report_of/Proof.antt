@@ -1,7 +1,7 @@
 -- `report_of` meets its contract, by those of the numbers.
 use borrow.Author.Needs.{needs}
-use Rattle.lc3_machine.proofs.report_of.Statement.{statement}
-use Rattle.lc3_machine.proofs.report_of.Tie as tie
+use Rattle.answers.proofs.report_of.Statement.{statement}
+use Rattle.answers.proofs.report_of.Tie as tie
 
 returns : tie.Need-returns
 returns c = rw (c .before .before .ending-index .ensures, c .before .ending-refusal .ensures, c .ending-stop .ensures)

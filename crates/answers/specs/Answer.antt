@@ -6,8 +6,8 @@ use Rattle.machine.specs.declared.Machine.{Machine}
 use Rattle.run.specs.declared.Report.{Report}
 use Rattle.run.specs.Run.{End}
 use Rattle.run.specs.Refusals.{endingRefusal, endingIndex, endingStop}
-use Rattle.lc3_machine.specs.declared.Lc3Answer.{Lc3Answer}
-use Rattle.lc3_machine.specs.declared.Lc3Report.{Lc3Report}
+use Rattle.answers.specs.declared.Lc3Answer.{Lc3Answer}
+use Rattle.answers.specs.declared.Lc3Report.{Lc3Report}
 
 -- Everything that a call answers and leaves.
 pub record Answered : Type 0 where

@@ -1,7 +1,7 @@
--- `lc3_machine::ending_index` meets its contract: only a refusal has an index.
+-- `answers::ending_index` meets its contract: only a refusal has an index.
 use borrow.Author.Needs.{needs}
-use Rattle.lc3_machine.proofs.ending_index.Statement.{statement}
-use Rattle.lc3_machine.proofs.ending_index.Tie as tie
+use Rattle.answers.proofs.ending_index.Statement.{statement}
+use Rattle.answers.proofs.ending_index.Tie as tie
 
 done : tie.Need-returns
 done c = rw (c .enum-told .given .1)

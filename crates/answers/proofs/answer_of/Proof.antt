@@ -1,7 +1,7 @@
 -- `answer_of` meets its contract, by that of `report_of`.
 use borrow.Author.Needs.{needs}
-use Rattle.lc3_machine.proofs.answer_of.Statement.{statement}
-use Rattle.lc3_machine.proofs.answer_of.Tie as tie
+use Rattle.answers.proofs.answer_of.Statement.{statement}
+use Rattle.answers.proofs.answer_of.Tie as tie
 
 returns : tie.Need-returns
 returns c = λ memory output. rw (c .report-of .ensures)
