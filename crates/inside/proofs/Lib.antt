@@ -3,3 +3,4 @@ pub mod CodeLaws
 pub mod AccessLaws
 pub mod OutcomeLaws
 pub mod HopLaws
+pub mod NamedLaws
