@@ -1,0 +1,4 @@
+-- What is proved of the kept step.
+pub mod FormLaws
+pub mod WindowLaws
+pub mod Theorems
