@@ -1,0 +1,6 @@
+-- Laws of the kept steps that may leave the windows or change the mode.
+pub mod CodeLaws
+pub mod DeviceLaws
+pub mod ModeLaws
+pub mod OutcomeLaws
+pub mod CrossLaws
