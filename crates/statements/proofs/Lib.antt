@@ -6,3 +6,5 @@ pub mod Calm
 pub mod LastStep
 pub mod Demand3
 pub mod Continued
+pub mod Plain
+pub mod PlainRequests

@@ -5,3 +5,5 @@ pub mod NoOtherReads
 pub mod Excluded
 pub mod Demand3
 pub mod Continued
+pub mod Plain
+pub mod PlainRequests
