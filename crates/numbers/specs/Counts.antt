@@ -155,7 +155,7 @@ firstEntry pc kbsr status w =
     entryOf s (begin s)
 
 pub record FirstEntries : Type 0 where
-  -- "PC before the step, the word fetched .., and the reason"
+  -- "PC before the step, the word fetched .., and the reason"; ST R0, #-1 replaces the word that was fetched
   pub each :
       firstEntry 0x8401 0 0 0x1021
       ∷ firstEntry 0x8401 0 0 0xF025
@@ -163,6 +163,7 @@ pub record FirstEntries : Type 0 where
       ∷ firstEntry 0x8401 0 0 0xD000
       ∷ firstEntry 0x8401 0 0 0x6040
       ∷ firstEntry 0x2FFF 0 0 0x1021
+      ∷ firstEntry 0x8401 0 0 0x31FF
       ∷ firstEntry 0x8401 0xC000 0 0x1021
       ∷ firstEntry 0x8401 0 0xC000 0x1021
       ∷ []
@@ -172,6 +173,7 @@ pub record FirstEntries : Type 0 where
       ∷ (0x8401 ∷ 0xD000 ∷ 3 ∷ [])
       ∷ (0x8401 ∷ 0x6040 ∷ 4 ∷ [])
       ∷ (0x2FFF ∷ 0 ∷ 4 ∷ [])
+      ∷ (0x8401 ∷ 0x31FF ∷ 0 ∷ [])
       ∷ (0x8401 ∷ 0 ∷ 5 ∷ [])
       ∷ (0x8401 ∷ 0 ∷ 6 ∷ [])
       ∷ []

@@ -3,7 +3,7 @@ use mathlib.Core.Path.{refl}
 use Rattle.machine.proofs.Opened.{opened}
 use Rattle.rows.specs.OtherRecords.{Instructions, Accesses, Further, KeysAndVectors, Loads, MoreLoads}
 use Rattle.rows.specs.OtherRecords.{Stores, MoreStores, Supervisor, Second, SecondInUserMode}
-use Rattle.rows.specs.OtherRecords.{Single, OtherRecordsHold}
+use Rattle.rows.specs.OtherRecords.{SecondInUserModeLoads, Single, OtherRecordsHold}
 
 instructions : Instructions
 unfolding opened
@@ -49,6 +49,10 @@ second-in-user-mode : SecondInUserMode
 unfolding opened
 second-in-user-mode = record { device-registers = refl }
 
+second-in-user-mode-loads : SecondInUserModeLoads
+unfolding opened
+second-in-user-mode-loads = record { device-registers = refl; ends-of-memory = refl }
+
 single-values : Single
 unfolding opened
 single-values = record { values = refl }
@@ -66,5 +70,6 @@ other-records-hold = record {
   supervisor-mode = supervisor-mode;
   second-edition = second-edition;
   second-in-user-mode = second-in-user-mode;
+  second-in-user-mode-loads = second-in-user-mode-loads;
   single-values = single-values;
 }

@@ -254,6 +254,34 @@ pub record SecondInUserMode : Type 0 where
       ∷ userSecondQuiet 0x7640 (R 1 0xFE00 ∷ []) (KBSR 0x4000 ∷ [])  -- STR, KBSR
       ∷ userSecondQuiet 0x7640 (R 1 0xFE08 ∷ []) (TSR 0xC000 ∷ [])  -- STR, TSR
       ∷ userSecondQuiet 0x7640 (R 1 0xFFFE ∷ []) (MCR 0x8000 ∷ [])  -- STR, MCR
+      ∷ userSecondQuiet 0x7640 (R 1 0xFE02 ∷ []) []  -- STR, KBDR
+      ∷ userSecondQuiet 0x7640 (R 1 0xFE04 ∷ []) []  -- STR, DSR
+      ∷ userSecondQuiet 0x7640 (R 1 0xFE06 ∷ []) []  -- STR, DDR
+      ∷ userSecondQuiet 0x7640 (R 1 0xFE06 ∷ busy 0 ∷ []) (shows 0x00DE ∷ [])  -- STR, DDR, ready
+      ∷ [])
+
+-- The same by loads; and the addresses that would be privileged: both ends of memory fetched from, loaded and stored to.
+pub record SecondInUserModeLoads : Type 0 where
+  pub device-registers :
+      Hold
+      (userSecondQuiet 0x6A40 (R 1 0xFE00 ∷ KBSR 0x8000 ∷ []) (R 5 0x8000 ∷ PSR 0x8204 ∷ [])  -- LDR, KBSR
+      ∷ userSecondQuiet 0x6A40 (R 1 0xFE04 ∷ []) (R 5 0 ∷ [])  -- LDR, DSR, busy
+      ∷ userSecondQuiet 0x6A40 (R 1 0xFE06 ∷ []) (R 5 0 ∷ [])  -- LDR, DDR
+      ∷ userSecondQuiet 0x6A40 (R 1 0xFE08 ∷ []) (R 5 0x8000 ∷ PSR 0x8204 ∷ TSR 0 ∷ [])  -- LDR, TSR
+      ∷ userSecondQuiet 0x6A40 (R 1 0xFE0A ∷ TIR 0x8901 ∷ timerCount 0x8002 ∷ [])  -- LDR, TIR
+      (R 5 0x8901 ∷ PSR 0x8204 ∷ [])
+      ∷ userSecondQuiet 0x6A40 (R 1 0xFFFE ∷ MCR 0x8000 ∷ []) (R 5 0x8000 ∷ PSR 0x8204 ∷ [])  -- LDR, MCR
+      ∷ userSecondQuiet 0xAA01 (PC 0xFE00 ∷ KBSR 0x8000 ∷ [])  -- LDI R5, #1: a pointer at KBDR
+      (reads 0x00D5 ∷ R 5 0xAA01 ∷ PSR 0x8204 ∷ KBSR 0 ∷ [])
+      ∷ [])
+  pub ends-of-memory :
+      Hold
+      (userSecondQuiet 0x1A6F (PC 0xFFFF ∷ []) (R 5 0x5A4B ∷ PC 0x0000 ∷ PSR 0x8201 ∷ [])  -- ADD R5, R1, #15
+      ∷ userSecondQuiet 0x1A6F (PC 0x0000 ∷ []) (R 5 0x5A4B ∷ PSR 0x8201 ∷ [])  -- ADD R5, R1, #15
+      ∷ userSecondQuiet 0x6A40 (R 1 0xFFFF ∷ []) (reads 0xFFFF ∷ R 5 0x6A40 ∷ PSR 0x8201 ∷ [])  -- LDR
+      ∷ userSecondQuiet 0x7640 (R 1 0xFFFF ∷ []) (word 0xFFFF 0xC0DE ∷ [])  -- STR
+      ∷ userSecondQuiet 0x6A40 (R 1 0x0000 ∷ []) (reads 0x0000 ∷ R 5 0x6A40 ∷ PSR 0x8201 ∷ [])  -- LDR
+      ∷ userSecondQuiet 0x7640 (R 1 0x2FFF ∷ []) (word 0x2FFF 0xC0DE ∷ [])  -- STR
       ∷ [])
 
 -- A load of 1; a word that stands at PC alone; a store to the PSR while the timer is off; counts and an interval of
@@ -269,6 +297,7 @@ pub record Single : Type 0 where
       ∷ supervisorQuiet 0x0000 (timerCount 0x8000 ∷ []) []  -- the count falls
       ∷ supervisorQuiet 0x0000 (TIR 0x8000 ∷ timerCount 0x0002 ∷ []) []  -- the count falls
       ∷ supervisorQuiet 0x0000 (TIR 0xFFFF ∷ timerCount 0x0002 ∷ []) []  -- the count falls
+      ∷ supervisorQuiet 0x0000 (TIR 0xFFFF ∷ []) (TSR 0x8000 ∷ timerCount 0xFFFF ∷ [])  -- the count comes to zero
       ∷ user 0x0410 (PSR 0x8206 ∷ []) (PC 0xB466 ∷ [])  -- BRz #16, N and Z set
       ∷ user 0x0210 (PSR 0x8207 ∷ []) (PC 0xB466 ∷ [])  -- BRp #16, all set
       ∷ supervisor 0x8000 (R 6 0xFFFE ∷ word 0xFFFE 0x8AAB ∷ word 0xFFFF 0x0101 ∷ [])  -- RTI, and the stack wraps
@@ -287,4 +316,5 @@ pub record OtherRecordsHold : Type 0 where
   pub supervisor-mode : Supervisor
   pub second-edition : Second
   pub second-in-user-mode : SecondInUserMode
+  pub second-in-user-mode-loads : SecondInUserModeLoads
   pub single-values : Single
