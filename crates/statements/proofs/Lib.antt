@@ -8,3 +8,4 @@ pub mod Demand3
 pub mod Continued
 pub mod Plain
 pub mod PlainRequests
+pub mod Accepted

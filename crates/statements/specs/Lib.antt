@@ -1,5 +1,5 @@
 -- What a reader of the theorems needs besides: what the cause of a step means, what a step reads, what request 10
--- excludes, and what demand 3 rests on.
+-- excludes, and what demand 3 rests on; demand 3 and requests 10 and 14 in plain terms; when a call is accepted.
 pub mod Entries
 pub mod NoOtherReads
 pub mod Excluded
@@ -7,3 +7,4 @@ pub mod Demand3
 pub mod Continued
 pub mod Plain
 pub mod PlainRequests
+pub mod Accepted
