@@ -8,15 +8,13 @@ from __future__ import annotations
 
 import signal
 from dataclasses import dataclass
-from typing import Dict, List, Set
+from typing import List
 
 from .alterations import Alteration
-from .modules import Definition, Meaning, Module, Repository, parsed
+from .modules import Definition, Repository, with_text
 from .program import Program
-from .roots import names_in, rests_on
 from .samples import Samples
 from .statements import Found, Statement, statements
-from .syntax import Node
 
 SECONDS = 10                                   # for one definition; one that has no end is noticed
 SLOW = 0.5                                     # seconds beyond which a theorem is not tried
@@ -33,45 +31,13 @@ class Verdict:
     by: str = ''
 
 
-class Reach:
-    """Which definitions a statement rests on."""
-
-    def __init__(self) -> None:
-        self.known: Dict[int, Set[int]] = {}
-
-    def of_meaning(self, meaning: Meaning) -> Set[int]:
-        found: Set[int] = set()
-        waiting: List[Meaning] = [meaning]
-        seen: Set[int] = set()
-        while waiting:
-            each = waiting.pop()
-            if id(each) in seen:
-                continue
-            seen.add(id(each))
-            if isinstance(each, Definition):
-                found.add(each.number)
-            for module, names in rests_on(each):
-                waiting += [module.scope[name] for name in names if name in module.scope]
-        return found
-
-    def of(self, module: Module, node: Node) -> Set[int]:
-        found: Set[int] = set()
-        for name in names_in(node):
-            meaning = module.scope.get(name)
-            if meaning is not None:
-                if id(meaning) not in self.known:
-                    self.known[id(meaning)] = self.of_meaning(meaning)
-                found |= self.known[id(meaning)]
-        return found
-
-
 class Judge:
     def __init__(self, repository: Repository) -> None:
         self.repository, self.samples = repository, Samples()
         self.program = Program(repository, self.samples.hold)
         step = next(d for d in repository.definitions() if d.name == 'stepBy')
         self.samples.step = lambda *given: self.program.names[f'f_{step.number}'](*given)
-        self.found: Found = statements(repository, self.program, Reach().of)
+        self.found: Found = statements(repository, self.program)
         self.found.untried += [s.name for s in self.found.laws if s.seconds > SLOW]
         self.found.laws = [s for s in self.found.laws if s.seconds <= SLOW]
 
@@ -100,9 +66,7 @@ class Judge:
 
     def exchange(self, alteration: Alteration) -> None:
         old = alteration.definition
-        altered = parsed(old.module.crate, old.module.name, alteration.text()).definitions[old.name]
-        altered.module, altered.number = old.module, old.number
-        self.program.define(altered)
+        self.program.define(with_text(old, alteration.text(), alteration.start))
         if f'f_{old.number}' not in self.program.names:
             raise NameError(old.name)
 
@@ -113,7 +77,7 @@ class Judge:
         for at, statement in enumerate(tried):
             if statement.name.startswith(LONG) and not of_runs:
                 continue
-            if altered.number in statement.reach and not statement.holds():
+            if altered.number in statement.calls and not statement.holds():
                 if statement.seconds <= QUICK:
                     tried.insert(0, tried.pop(at))
                 return statement.name

@@ -19,6 +19,7 @@ class Equation:
     patterns: List[Node]
     body: Node
     start: int
+    end: int
 
 
 @dataclass
@@ -131,7 +132,9 @@ def add_record(module: Module, words: List[Token], texts: List[str]) -> None:
     module.records[texts[2]] = RecordType(module, texts[2], parameters, fields)
 
 
-def add_equation(module: Module, words: List[Token], texts: List[str], start: int) -> None:
+def add_equation(module: Module, start: int, end: int) -> None:
+    words = tokens(module.text, start, end)
+    texts = [token.text for token in words]
     depth, equals = 0, 1
     while texts[equals] != '=' or depth:
         depth += (texts[equals] == '(') - (texts[equals] == ')')
@@ -144,7 +147,7 @@ def add_equation(module: Module, words: List[Token], texts: List[str], start: in
     if not right.finished():
         raise SyntaxError(f'{module.name}.{texts[0]}: the rest is {right.peek()}')
     definition = module.definitions.setdefault(texts[0], Definition(module, texts[0]))
-    definition.equations.append(Equation(patterns, body, start))
+    definition.equations.append(Equation(patterns, body, start, end))
 
 
 def parsed(crate: str, name: str, text: str) -> Module:
@@ -166,18 +169,27 @@ def parsed(crate: str, name: str, text: str) -> Module:
             definition = module.definitions.setdefault(texts[at], Definition(module, texts[at]))
             definition.type = Parser(words[at + 2:]).expression()
         else:
-            add_equation(module, words, texts, start)
+            add_equation(module, start, end)
     return module
+
+
+def with_text(old: Definition, text: str, after: int) -> Definition:
+    """The definition as it stands in the altered text of its module. What came after this place
+    has moved with the end of the text."""
+    moved = len(text) - len(old.module.text)
+    module = Module(old.module.crate, old.module.name, text)
+    for equation in old.equations:
+        start, end = (place + moved if place > after else place
+                      for place in (equation.start, equation.end))
+        add_equation(module, start, end)
+    altered = module.definitions[old.name]
+    altered.module, altered.number = old.module, old.number
+    return altered
 
 
 def rust_type(text: str) -> str:
     text = text.strip()
     return 'List ℕ' if text.startswith('[') else RUST.get(text, text)
-
-
-# Crates whose definitions have pairs, which are not read here: how instructions are kept, which no
-# host sees.
-UNREAD = {'decoded'}
 
 
 class Repository:
@@ -189,8 +201,7 @@ class Repository:
         self.fields: Dict[Tuple[str, str], List[Tuple[str, str]]] = {}
         self.enums: Dict[str, List[Constructor]] = {}
         lines = (root / 'crates.txt').read_text().splitlines()
-        listed = [line.split(':')[0] for line in lines if line and line[0] != '#']
-        self.crates = [crate for crate in listed if crate not in UNREAD]
+        self.crates = [line.split(':')[0] for line in lines if line and line[0] != '#']
         for crate in self.crates:
             self.read(crate)
         for module in self.modules.values():

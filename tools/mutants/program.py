@@ -1,7 +1,7 @@
 """Definitions turned into Python functions, and statements into tests."""
 from __future__ import annotations
 
-from typing import Any, Callable, Dict, List, Tuple
+from typing import Any, Callable, Dict, List, Set, Tuple
 
 from . import values
 from .modules import Constructor, Definition, Module, Primitive, RecordType, Repository
@@ -52,6 +52,8 @@ class Program:
             ('Case', 'Function', 'apply', 'cons', 'append', 'minus', 'divided', 'remainder',
              'power', 'tail')}
         self.names['for_all'] = for_all
+        self.called = bytearray(sum(1 for _ in repository.definitions()))
+        self.names['called'] = self.called
         self.names.update((python_name(name), b.function) for name, b in BUILTINS.items())
         for definition in repository.definitions():
             self.define(definition)
@@ -61,7 +63,7 @@ class Program:
         key = f'f_{definition.number}'
         at_once = AT_ONCE.get((definition.module.name, definition.name))
         if at_once:
-            self.names[key] = at_once
+            self.names[key] = self.marking(definition.number, at_once)
             return
         try:
             source = self.source(definition)
@@ -71,6 +73,21 @@ class Program:
         exec(compile(source, definition.name, 'exec'), self.names)
         if definition.name in REMEMBERED:
             self.names[key] = self.remembering(definition.number, self.names[key])
+
+    def forget(self) -> None:
+        """What was computed, and which definitions were called for it."""
+        self.remembered.clear()
+        self.called[:] = bytes(len(self.called))
+
+    def calls(self) -> Set[int]:
+        """The definitions called since then."""
+        return {number for number, called in enumerate(self.called) if called}
+
+    def marking(self, number: int, function: Callable[..., Value]) -> Callable[..., Value]:
+        def marked(*arguments: Value) -> Value:
+            self.called[number] = 1
+            return function(*arguments)
+        return marked
 
     def remembering(self, number: int, function: Callable[..., Value]) -> Callable[..., Value]:
         def remembered(*arguments: Value) -> Value:
@@ -83,7 +100,8 @@ class Program:
     def source(self, definition: Definition) -> str:
         count = len(definition.equations[0].patterns)
         arguments = [f'a{i}' for i in range(count)]
-        lines = [f'def f_{definition.number}({", ".join(arguments)}):']
+        lines = [f'def f_{definition.number}({", ".join(arguments)}):',
+                 f'  called[{definition.number}] = 1']
         for equation in definition.equations:
             tests: List[str] = []
             names: Names = {}

@@ -14,7 +14,7 @@ THEOREMS = (
     'Noninterference', 'EndsAsNewerRun', 'CommonStepsAgree', 'OneAlteredWord', 'StepReads',
     'StepWrites', 'LogTells', 'TimerTheorems', 'MaskInPlaces', 'WrittenDiffersInMaskedBits',
     'DistinctWordsGiveDistinctLines', 'SavedFileLoads', 'LoggedRunIsTheRun',
-    'PrivilegedWordsStay', 'ReadAfterWrite', 'WriteAfterReadExactly')
+    'PrivilegedWordsStay', 'ReadAfterWrite', 'WriteAfterReadExactly', 'WindowTheorems')
 # Statements of these are not tried: they speak of runs of the monitor, thousands of steps each.
 LEFT_OUT = ('monitor', 'sitting', 'monitor_examples', 'sitting_examples')
 # Of the monitor its words are not altered: they are a program, and what it does is proved of its

@@ -1,6 +1,7 @@
 """The statements of the specs: tables, which are computed, and laws, which are tried on samples."""
 from __future__ import annotations
 
+import dataclasses
 import signal
 import time
 from dataclasses import dataclass
@@ -18,8 +19,9 @@ from .values import Value
 class Statement:
     name: str
     test: Callable[[], Value]
-    reach: Set[int]
     seconds: float = 0.0
+    # The definitions that computing it calls: with any other one altered it comes to the same.
+    calls: Set[int] = dataclasses.field(default_factory=set)
 
     def holds(self) -> bool:
         try:
@@ -111,10 +113,7 @@ def within(seconds: float, statement: Statement) -> Value:
         statement.seconds = time.process_time() - begin
 
 
-Reaching = Callable[[Module, Node], Set[int]]
-
-
-def statements(repository: Repository, program: Program, reach: Reaching) -> Found:
+def statements(repository: Repository, program: Program) -> Found:
     """Every statement that can be tried, in the order of the time that it takes."""
     found = Found([], [], [], [])
     seen = set()
@@ -127,9 +126,10 @@ def statements(repository: Repository, program: Program, reach: Reaching) -> Fou
         try:
             if uncertain(module, node):
                 raise Unknown(name)
-            statement = Statement(name, program.test(module, node), reach(module, node))
-            program.remembered.clear()
+            statement = Statement(name, program.test(module, node))
+            program.forget()
             value = within(LONGEST, statement)
+            statement.calls = program.calls()
         except Unknown:
             if is_law:
                 found.untried.append(name)

@@ -185,6 +185,8 @@ class Parser:
         token = self.take()
         if token.text == '(':
             inner = self.expression()
+            if self.peek() == ',':
+                return self.pair(token.start, inner)
             return Node('par', None, [inner], token.start, self.take(')').end)
         if token.text == 'record':
             return self.record(token.start)
@@ -193,6 +195,12 @@ class Parser:
         if NUMBER.fullmatch(token.text):
             return Node('num', int(token.text, 0), [], token.start, token.end)
         return Node('var', token.text, [], token.start, token.end)
+
+    def pair(self, start: int, first: Node) -> Node:
+        """A pair is a record of its parts, .0 and .1."""
+        self.take(',')
+        second = self.expression()
+        return Node('rec', ['0', '1'], [first, second], start, self.take(')').end)
 
     def record(self, start: int) -> Node:
         self.take('{')

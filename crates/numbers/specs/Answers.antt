@@ -1,5 +1,5 @@
 -- What a function answers and what it leaves, packed as one value: each number in its place, for any record. No two
--- numbers are the same.
+-- numbers are the same, and the counts of runs have bits beyond the fifteenth.
 use Prim.Native.Nat.{ℕ}
 use mathlib.Core.Path.{_≡_}
 use mathlib.Core.List.{List, [], _∷_}
@@ -29,10 +29,18 @@ use Rattle.lc3_words.specs.Writing.{hostAnswer}
 -- ---- a run
 
 abbrev pub report : Ending → Report
-report w = record { steps = 1; keys = 2; shown = 3; ending = w }
+report w = record { steps = 0x18081; keys = 0x8083; shown = 0x8085; ending = w }
 
 abbrev pub ended : Machine → Ending → End
-ended m w = record { machine = m; memory = 8 ∷ []; output = 9 ∷ []; steps = 1; keys = 2; shown = 3; ending = w }
+ended m w = record {
+  machine = m;
+  memory = 8 ∷ [];
+  output = 9 ∷ [];
+  steps = 0x18081;
+  keys = 0x8083;
+  shown = 0x8085;
+  ending = w;
+}
 
 -- What a host has of it: index, refusal and stop besides.
 abbrev pub placed : Machine → ℕ → ℕ → ℕ → Answered
@@ -40,9 +48,9 @@ placed m index refusal stop = record {
   machine = m;
   memory = 8 ∷ [];
   output = 9 ∷ [];
-  steps = 1;
-  keys = 2;
-  shown = 3;
+  steps = 0x18081;
+  keys = 0x8083;
+  shown = 0x8085;
   index = index;
   refusal = refusal;
   stop = stop;
@@ -52,16 +60,18 @@ pub record RunsInPlace (m : Machine) : Type 0 where
   pub of-a-run : answerOf (ended m OutputFull) ≡ placed m 0 0 2
   pub of-a-refusal : answerOf (ended m (Refused (TimesOutOfOrder 4))) ≡ placed m 4 19 0
   pub report-of-a-run : reportOf (report OutputFull)
-      ≡ record { steps = 1; keys = 2; shown = 3; index = 0; refusal = 0; stop = 2 }
+      ≡ record { steps = 0x18081; keys = 0x8083; shown = 0x8085; index = 0; refusal = 0; stop = 2 }
   pub report-of-a-refusal : reportOf (report (Refused (TimesOutOfOrder 4)))
-      ≡ record { steps = 1; keys = 2; shown = 3; index = 4; refusal = 19; stop = 0 }
+      ≡ record { steps = 0x18081; keys = 0x8083; shown = 0x8085; index = 4; refusal = 19; stop = 0 }
   -- the step on a lent record, and the run, as C has them
   pub step-to-c :
-      reported m (record { steps = 1; keys = 2; shown = 3; index = 4; refusal = 5; stop = 6 }) (8 ∷ []) (9 ∷ [])
+      reported m (record { steps = 0x18081; keys = 0x8083; shown = 0x8085; index = 4; refusal = 5; stop = 6 }) (8 ∷ [])
+      (9 ∷ [])
       ≡ placed m 4 5 6
   pub run-to-c :
-      answered (record { machine = m; steps = 1; keys = 2; shown = 3; index = 4; refusal = 5; stop = 6 }) (8 ∷ [])
-      (9 ∷ [])
+      answered
+      (record { machine = m; steps = 0x18081; keys = 0x8083; shown = 0x8085; index = 4; refusal = 5; stop = 6 })
+      (8 ∷ []) (9 ∷ [])
       ≡ placed m 4 5 6
   -- the run of crate `runner`, and the step of crate `single`
   pub run : endOf (record { machine = m; report = report Halted }) (8 ∷ []) (9 ∷ []) ≡ ended m Halted
@@ -69,7 +79,7 @@ pub record RunsInPlace (m : Machine) : Type 0 where
 -- ---- a logged run
 
 abbrev pub loggedWith : Machine → LoggedEnding → Logged
-loggedWith m w = withLog w (ended m Done) (10 ∷ []) 11
+loggedWith m w = withLog w (ended m Done) (10 ∷ []) 0x8089
 
 abbrev pub placedWithLog : Machine → ℕ → ℕ → ℕ → LoggedAnswered
 placedWithLog m index refusal stop = record {
@@ -77,10 +87,10 @@ placedWithLog m index refusal stop = record {
   memory = 8 ∷ [];
   output = 9 ∷ [];
   log = 10 ∷ [];
-  steps = 1;
-  keys = 2;
-  shown = 3;
-  logged = 11;
+  steps = 0x18081;
+  keys = 0x8083;
+  shown = 0x8085;
+  logged = 0x8089;
   index = index;
   refusal = refusal;
   stop = stop;
@@ -92,12 +102,21 @@ pub record LoggedRunsInPlace (m : Machine) : Type 0 where
   pub of-a-refusal : loggedAnswerOf (loggedWith m (Run (Refused (TimesOutOfOrder 4)))) ≡ placedWithLog m 4 19 0
   pub to-c :
       loggedAnswered
-      (record { machine = m; steps = 1; keys = 2; shown = 3; logged = 11; index = 4; refusal = 5; stop = 6 })
+      (record {
+        machine = m;
+        steps = 0x18081;
+        keys = 0x8083;
+        shown = 0x8085;
+        logged = 0x8089;
+        index = 4;
+        refusal = 5;
+        stop = 6;
+      })
       (8 ∷ []) (9 ∷ []) (10 ∷ [])
       ≡ placedWithLog m 4 5 6
   pub run :
       loggedEndOf
-      (record { machine = m; steps = 1; keys = 2; shown = 3; words = 11; ending = Run Halted })
+      (record { machine = m; steps = 0x18081; keys = 0x8083; shown = 0x8085; words = 0x8089; ending = Run Halted })
       (8 ∷ []) (9 ∷ []) (10 ∷ [])
       ≡ loggedWith m (Run Halted)
 

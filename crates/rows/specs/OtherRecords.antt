@@ -260,7 +260,7 @@ pub record SecondInUserMode : Type 0 where
       ∷ userSecondQuiet 0x7640 (R 1 0xFE06 ∷ busy 0 ∷ []) (shows 0x00DE ∷ [])  -- STR, DDR, ready
       ∷ [])
 
--- The same by loads; and the addresses that would be privileged: both ends of memory fetched from, loaded and stored to.
+-- The same by loads; and addresses that would be privileged: both ends of memory fetched from, loaded and stored to.
 pub record SecondInUserModeLoads : Type 0 where
   pub device-registers :
       Hold

@@ -156,7 +156,9 @@ plain-request-10 s n made stopped =
 
 not-taken : (step : Step) (w : ℕ) (s : Start) (k : ℕ) → NoneTakes step w s k → NotTaken step w s k
 unfolding takes readsAt
-not-taken step w s k h = record { none = λ j l. none-is-not-among w (nextStepBy step s (callBy step s j) .reads) (h j l) }
+not-taken step w s k h = record {
+  none = λ j l. none-is-not-among w (nextStepBy step s (callBy step s j) .reads) (h j l);
+}
 
 none-takes : (step : Step) (w : ℕ) (s : Start) (k : ℕ) → NotTaken step w s k → NoneTakes step w s k
 unfolding takes readsAt
