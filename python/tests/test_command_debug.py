@@ -227,6 +227,18 @@ class Script(Folder):
         done = ran("debug", "--replay", saved, keys=b"run\nback 5\n")
         self.assertEqual((done.code, done.out), (0, b"abqHalted\n"))
 
+    def test_signs_that_are_characters_and_words_in_brackets(self) -> None:
+        lines = ("set R0 '='", "set R1='a'", "set [R6 - 1] = 7", "step", "back write [x3010]")
+        told = self.told(self.busy, *lines)
+        self.assertIn("R0 = x003D  #61  '='\n", told)
+        self.assertIn("R1 = x0061  #97  'a'\n", told)
+        self.assertIn("[R6 - 1] = x0007  #7  .FILL x0007  at xFDFE\n", told)
+        self.assertIn("COUNT x3010 has not been written since the start\n", told)
+
+    def test_one_that_is_deleted_twice(self) -> None:
+        told = self.told(self.busy, "break x3000", "watch R1", "delete 1 1 2 1", "break")
+        self.assertIn("deleted: 1, 2\nno breakpoints and no watches\n", told)
+
     def test_a_wait_without_keys_and_a_loop(self) -> None:
         told = self.told(self.file("echo.obj", ECHO), "run", "type ab", "run", "back change KBDR")
         self.assertEqual(told.count("the program waits for a key, and no more keys come; "), 2)

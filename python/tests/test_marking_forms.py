@@ -3,10 +3,12 @@ course platforms; files of equal words."""
 
 from __future__ import annotations
 
+import fcntl
 import json
 import os
 import re
 import subprocess
+import time
 import unittest
 from pathlib import Path
 from typing import Any
@@ -205,6 +207,48 @@ class Feedback(Forms):
         refused = (self.folder / "back/dan/refused.obj.feedback.txt").read_text()
         self.assertIn("refused (17)", refused)
 
+    def feedback_on(self, file: bytes, *cases: marking.Case, seed: int | None = None) -> str:
+        """The feedback on a file."""
+        options = marking.Options(steps=1000, seed=seed)
+        result = marking.Marking(cases, options).mark_bytes("a.obj", file)
+        return marking.feedback(result, cases, (), seed)
+
+    def test_what_was_expected_and_shown_whatever_failed(self) -> None:
+        # The display is right, and the end is not.
+        crash, word = object_file(0x3000, "TRAP x20", "TRAP x21", "RTI"), {"R1": 5}
+        shown = marking.Case("a", b"k", b"k")
+        told = self.feedback_on(crash, shown)
+        self.assertIn("stopped by the privilege exception; ", told)
+        self.assertIn("\n  shown in all, as expected:\n    | k\n", told)
+        # The display is not compared.
+        told = self.feedback_on(doubling(), marking.Case("a", None, b"k", end="exception"))
+        self.assertIn("\n  end: expected exception, got halted\n", told)
+        self.assertIn("\n  shown in all:\n    | kkHalted\n", told)
+        silent = marking.Case("a", after=marking.Contents.of(word), end="steps made", steps=0)
+        told = self.feedback_on(crash, silent)
+        self.assertIn("\n  R1: expected x0005 (5), got x0000 (0)\n", told)
+        self.assertNotIn("shown in all", told)
+        self.assertNotIn("seed", told)
+        self.assertIn("; random contents by --seed 7\n", self.feedback_on(crash, shown, seed=7))
+
+    def test_the_end_that_was_expected_is_in_the_table(self) -> None:
+        self.file("cases/two.json", '{"end": "waiting"}')
+        table = self.mark(self.top / "bob").out.decode()
+        self.assertIn("wrong.obj, case two: wrong end\n  halted by HALT; ", table)
+        self.assertIn("\n  end: expected waiting, got halted\n", table)
+
+    def test_the_seed_is_told_in_every_form(self) -> None:
+        for chosen in ("random", "41"):
+            options, top = ("--seed", chosen, "--feedback", self.folder / "back"), self.top / "ada"
+            for form in ("--json", "--csv", "--one", "--gradescope", "--junit", None):
+                out = self.mark(*options, *filter(None, [form]), top).out.decode()
+                (text,) = (self.folder / "back").rglob("right.obj.feedback.txt")
+                (seed,) = re.findall(r"random contents by --seed (\d+)\n", text.read_text())
+                self.assertIn(chosen, ("random", seed))
+                pattern = rf'"seed"+: {seed}\b|name="seed" value="{seed}"|; random contents by'
+                self.assertRegex(out, pattern, form)
+                self.assertIn(seed, out)
+
     def test_names(self) -> None:
         top, other = self.top / "ada", self.folder / "other"
         self.file("other/right.obj", doubling())
@@ -272,6 +316,10 @@ class Feedback(Forms):
         self.assertEqual(self.mark("--texts", named).code, 1)
 
 
+# A difference of displays by what is no byte.
+NO_BYTE = {"byte": 1, "line": 1, "expected": 256, "got": 1, "expected_text": "", "got_text": ""}
+
+
 class Resume(Forms):
     """Going on from results that are there."""
 
@@ -316,6 +364,11 @@ class Resume(Forms):
             whole.replace('"points": 3.5', '"points": "3"'),
             whole.replace('"last": []', '"last": 5'),
             whole.replace('"flags": []', '"flags": [{}]'),
+            whole.replace('"points": 3.5', '"points": NaN'),
+            whole.replace('"most": 3.5', '"most": 1e999'),
+            whole.replace('"seconds": ', '"seconds": 1' + "0" * 400),
+            whole.replace('"display": ""', '"display": "\\u0100"'),
+            re.sub('"difference": null', f'"difference": {json.dumps(NO_BYTE)}', whole),
             "[]\n7\n\n{\n",
             "\0" * 100,
             "[" * 100_000,
@@ -331,6 +384,25 @@ class Resume(Forms):
             done = self.mark("--resume", path, self.top)
             self.assertEqual((done.code, done.out), (3, b""))
             self.assertIn(f"lc3: {path}: ", done.err)
+
+    def test_lines_of_two_markings_that_add_to_one_file(self) -> None:
+        # Many cases that fail make lines that are not written in one piece.
+        for number in range(12):
+            self.file(f"cases/more{number}.expected", "x" * 50)
+        options = ["--cases", str(self.cases), "--steps", "20000", "--json", str(self.top)]
+        path = self.folder / "both.jsonl"
+        with open(path, "ab") as stream:
+            command = [*PYTHON, "mark", *options]
+            fcntl.lockf(stream, fcntl.LOCK_EX)
+            both = [subprocess.Popen(command, stdout=stream, env=ENVIRONMENT) for _ in range(2)]
+            # Nothing is written into a line of another.
+            time.sleep(1.5)
+            self.assertEqual(path.stat().st_size, 0)
+            fcntl.lockf(stream, fcntl.LOCK_UN)
+            self.assertEqual([marking.wait(60) for marking in both], [1, 1])
+        lines = lines_of(path.read_bytes())
+        self.assertEqual(len(of_kind("candidate", lines)), 10)
+        self.assertGreater(max(map(len, path.read_bytes().splitlines())), 4096)
 
     def test_not_onto_itself(self) -> None:
         before = self.file("before.jsonl", self.mark("--json", self.top).out)

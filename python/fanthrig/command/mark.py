@@ -35,6 +35,9 @@ from .terminal import Signals, die
 # The bits of a seed that nobody has named.
 SEED_BITS = 32
 
+# The forms of lines, to which several processes may add at once: each line is written whole.
+LINES = ("json", "one")
+
 
 def command(options: argparse.Namespace) -> Code:
     """Marks as the options have it, and answers the exit code."""
@@ -125,7 +128,8 @@ def _feedback(options: argparse.Namespace, marking: Marking) -> FeedbackFolder |
     """The folder of feedback files, where one is asked for."""
     if options.feedback is None:
         return None
-    return FeedbackFolder(options.feedback, marking.cases, marking.options.lenient)
+    chosen = marking.options
+    return FeedbackFolder(options.feedback, marking.cases, chosen.lenient, chosen.seed)
 
 
 class _Writing:
@@ -149,7 +153,7 @@ class _Writing:
         names = [file.name for file in found if not file.passed_over]
         left = [name for name in names if name not in before]
         total = Total(len(names))
-        self._output.write(self._form.head())
+        self._write(self._form.head())
         jobs = self._options.jobs or processors()
         by_processes = mark_all(self._marking, left, jobs, self._signals, say)
         with Bar(len(names)) as bar, closing(by_processes) as results:
@@ -159,21 +163,29 @@ class _Writing:
                 total.resumed += file.name in before and result is not None
                 bar.grow(total.marked)
         total.stopped_by = self._signals.name if self._signals.caught else None
-        self._output.write(self._form.end(total))
+        self._write(self._form.end(total))
         return total
+
+    def _write(self, text: str) -> bool:
+        """Writes a piece of the results; whether it could be."""
+        shared = self._options.form in LINES
+        if shared and not self._output.lock():
+            return False
+        self._output.write(text)
+        if shared:
+            self._output.unlock()
+        return True
 
     def _wrote(self, file: Found, result: Result | None, total: Total) -> bool:
         """Writes a result, or that a file was passed over; whether it could be."""
         if result is None:
             total.passed_over += 1
-            self._output.write(self._form.passed_over(file))
-            return True
-        if self._options.form == "one" and not self._output.lock():
-            return False
+            return self._write(self._form.passed_over(file))
         if file.student is not None:
             result = replace(result, student=file.student.name, student_id=file.student.id)
+        if not self._write(self._form.result(result)):
+            return False
         total.add(result)
-        self._output.write(self._form.result(result))
         if self._feedback is not None:
             self._feedback.write(result, file.place)
         return True

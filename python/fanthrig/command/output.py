@@ -9,6 +9,7 @@ import os
 import select
 import sys
 import time
+from contextlib import suppress
 
 from ..telling import of_os_error
 from .messages import GONE, CommandError, let_go, tell
@@ -80,8 +81,8 @@ class Output:
 
     def lock(self) -> bool:
         """Waits until no other process writes a line; not where a signal has come and one does.
-        Those that xargs starts share their output, and a pipe takes only short lines in one
-        piece."""
+        Those that xargs starts share their output, as do markings that are added to one file, and
+        only short lines are taken in one piece."""
         while self._fd is not None:
             try:
                 fcntl.lockf(self._fd, fcntl.LOCK_EX | fcntl.LOCK_NB)
@@ -94,6 +95,12 @@ class Output:
                 # What can't be locked, as a file on some network, is written to all the same.
                 break
         return True
+
+    def unlock(self) -> None:
+        """Lets other processes write."""
+        if self._fd is not None:
+            with suppress(OSError):
+                fcntl.lockf(self._fd, fcntl.LOCK_UN)
 
 
 class Bar:

@@ -13,7 +13,7 @@ from ..choices import CHOICES
 from ..telling import FileError, counted, of_os_error, plain
 from .candidates import FEEDBACK_SUFFIX as SUFFIX
 from .cases import Case
-from .marker import REFUSED, RIGHT, TOLD_BYTES, CaseResult, Result
+from .marker import REFUSED, RIGHT, TOLD_BYTES, WRONG_END, CaseResult, Result
 
 # The bytes of the longest name that a file may have.
 LONGEST_NAME = 255
@@ -45,10 +45,21 @@ def counted_points(points: float) -> str:
     return f"{number(points)} point{'' if points == 1 else 's'}"
 
 
-def failure(one: CaseResult) -> Iterator[str]:
+def by_seed(seed: int | None) -> str:
+    """How it is told that a case's contents were random; empty where they were not.
+
+    >>> by_seed(7)
+    'random contents by --seed 7'
+    """
+    return "" if seed is None else f"random contents by --seed {seed}"
+
+
+def failure(one: CaseResult, case: Case | None) -> Iterator[str]:
     """The lines that tell of a case that failed, but for the displays."""
     steps, line = counted(one.steps, "step"), one.line or "not fetched"
     yield f"{one.ended}; {steps}; PC x{one.pc:04X}: {line}"
+    if one.verdict == WRONG_END and case is not None:
+        yield f"end: expected {case.end}, got {one.ending}"
     yield from (f"flagged: {flag}" for flag in one.flags)
     if one.difference is not None:
         yield str(one.difference)
@@ -62,18 +73,25 @@ def failure(one: CaseResult) -> Iterator[str]:
 
 
 def case_text(one: CaseResult, case: Case | None, lenient: Sequence[str] = ()) -> str:
-    """All that is told of a case, with the displays where it failed by them; ``lenient`` are the
-    choices of the comparison."""
-    lines = list(failure(one)) if one.verdict != RIGHT else []
-    if one.verdict == RIGHT and one.flags:
-        lines = [f"flagged: {flag}" for flag in one.flags]
-    if one.difference is not None and case is not None and case.expected is not None:
-        lines += ["expected in all:", *_shown(case.expected), "shown in all:"]
-        lines += _shown(one.display.encode("latin-1"), one.shown)
-        if lenient:
-            chosen = ", ".join(choice for choice in CHOICES if choice in lenient)
-            lines.append(f"compared without regard to: {chosen}")
-    return "\n".join(lines)
+    """All that is told of a case, with the displays where it failed; ``lenient`` are the choices of
+    the comparison."""
+    if one.verdict == RIGHT:
+        return "\n".join(f"flagged: {flag}" for flag in one.flags)
+    expected = None if case is None else case.expected
+    return "\n".join([*failure(one, case), *_displays(one, expected, lenient)])
+
+
+def _displays(one: CaseResult, expected: bytes | None, lenient: Sequence[str]) -> Iterator[str]:
+    """What was expected of the display of a case that failed, and what was shown."""
+    got = _shown(one.display.encode("latin-1"), one.shown)
+    if one.difference is None or expected is None:
+        as_expected = "" if expected is None else ", as expected"
+        yield from [f"shown in all{as_expected}:", *got] if got else []
+        return
+    yield from ["expected in all:", *_shown(expected), "shown in all:", *got]
+    if lenient:
+        chosen = ", ".join(choice for choice in CHOICES if choice in lenient)
+        yield f"compared without regard to: {chosen}"
 
 
 def _shown(display: bytes, length: int | None = None) -> list[str]:
@@ -87,8 +105,13 @@ def _shown(display: bytes, length: int | None = None) -> list[str]:
     return [*lines, *more]
 
 
-def feedback(result: Result, cases: Sequence[Case], options_lenient: Sequence[str] = ()) -> str:
-    """The feedback on a candidate."""
+def feedback(
+    result: Result,
+    cases: Sequence[Case],
+    options_lenient: Sequence[str] = (),
+    seed: int | None = None,
+) -> str:
+    """The feedback on a candidate; ``seed`` is that of random contents."""
     lines = [f"Feedback on {plain(os.path.basename(result.candidate))}"]
     if result.student is not None:
         lines.append(f"Handed in by {plain(result.student)} ({plain(result.student_id or '')})")
@@ -102,7 +125,8 @@ def feedback(result: Result, cases: Sequence[Case], options_lenient: Sequence[st
         lenient = (*options_lenient, *(case.lenient if case is not None else ()))
         text = case_text(one, case, lenient)
         lines += [f"  {line}" for line in text.split("\n")] if text else []
-    lines += ["", f"SHA-256 of the file: {result.sha256 or 'none'}; marked at {result.time}"]
+    made = [f"SHA-256 of the file: {result.sha256 or 'none'}", f"marked at {result.time}"]
+    lines += ["", "; ".join(filter(None, [*made, by_seed(seed)]))]
     return "\n".join(lines) + "\n"
 
 
@@ -110,9 +134,15 @@ class FeedbackFolder:
     """A folder of feedback files. Each stands where its candidate stands in the folder of hand-ins,
     so that a course platform takes them back in the same order."""
 
-    def __init__(self, folder: str, cases: Sequence[Case], lenient: Sequence[str]) -> None:
+    def __init__(
+        self,
+        folder: str,
+        cases: Sequence[Case],
+        lenient: Sequence[str],
+        seed: int | None = None,
+    ) -> None:
         """Makes the folder."""
-        self._folder, self._cases, self._lenient = folder, cases, lenient
+        self._folder, self._told_by = folder, (cases, lenient, seed)
         self._taken: set[str] = set()
         try:
             os.makedirs(folder, exist_ok=True)
@@ -124,7 +154,7 @@ class FeedbackFolder:
     def write(self, result: Result, place: str) -> str:
         """Writes the feedback on the candidate of a place, and answers the name of the file. Where
         the names of a candidate's folders do not allow it, the file lies at the top."""
-        text = feedback(result, self._cases, self._lenient)
+        text = feedback(result, *self._told_by)
         try:
             try:
                 return self._written(place, text)
@@ -147,6 +177,7 @@ class FeedbackFolder:
             os.unlink(path)
         with open(path, "x", encoding="utf-8", errors="backslashreplace") as stream:
             stream.write(text)
+        self._taken.add(path)
         return path
 
     def _path(self, place: str) -> str:
@@ -157,7 +188,6 @@ class FeedbackFolder:
         while True:
             path = os.path.join(self._folder, folder, _named(base, again))
             if path not in self._taken and not os.path.isdir(path):
-                self._taken.add(path)
                 return path
             again += 1
 

@@ -10,7 +10,7 @@ from typing import Any, Sequence
 
 from ..telling import plain
 from .cases import Case
-from .feedback import case_text
+from .feedback import by_seed, case_text
 from .marker import REFUSED, RIGHT, CaseResult, Result
 from .report import Form, safe_text
 
@@ -20,14 +20,19 @@ class Gradescope(Form):
 
     def result(self, result: Result) -> str:
         """The object."""
-        lenient = self.audit.options["lenient"]
-        return json.dumps(safe_text(results_json(result, self.cases, lenient)), indent=2) + "\n"
+        chosen = self.audit.options
+        told = results_json(result, self.cases, chosen["lenient"], chosen["seed"])
+        return json.dumps(safe_text(told), indent=2) + "\n"
 
 
 def results_json(
-    result: Result, cases: Sequence[Case], lenient: Sequence[str] = ()
+    result: Result,
+    cases: Sequence[Case],
+    lenient: Sequence[str] = (),
+    seed: int | None = None,
 ) -> dict[str, Any]:
-    """The members of results.json. Gradescope adds up the scores of the tests."""
+    """The members of results.json; ``seed`` is that of random contents. Gradescope adds up the
+    scores of the tests."""
     by_name = {case.name: case for case in cases}
     tests = [
         _test(number, one, by_name.get(one.case), lenient)
@@ -38,11 +43,15 @@ def results_json(
     return {
         "score": result.points,
         "execution_time": round(result.seconds, 3),
-        "output": plain(result.problem),
+        "output": "\n".join(filter(None, [plain(result.problem), by_seed(seed)])),
         "output_format": "text",
         "visibility": "visible",
         "tests": tests,
-        "extra_data": {"sha256": result.sha256, "words_sha256": result.words_sha256},
+        "extra_data": {
+            "sha256": result.sha256,
+            "words_sha256": result.words_sha256,
+            "seed": seed,
+        },
     }
 
 

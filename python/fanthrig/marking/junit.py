@@ -28,7 +28,8 @@ class Junit(Form):
     def result(self, result: Result) -> str:
         """The suite of a candidate."""
         self._number += 1
-        return suite(result, self.cases, self._number - 1, self.audit.options["lenient"])
+        chosen = self.audit.options
+        return suite(result, self.cases, self._number - 1, chosen["lenient"], chosen["seed"])
 
     def end(self, total: Total) -> str:
         """The end of the document."""
@@ -36,9 +37,13 @@ class Junit(Form):
 
 
 def suite(
-    result: Result, cases: Sequence[Case], number: int = 0, lenient: Sequence[str] = ()
+    result: Result,
+    cases: Sequence[Case],
+    number: int = 0,
+    lenient: Sequence[str] = (),
+    seed: int | None = None,
 ) -> str:
-    """The test suite of a candidate, whose number is told."""
+    """The test suite of a candidate, whose number is told; ``seed`` is that of random contents."""
     by_name = {case.name: case for case in cases}
     refused = result.verdict == REFUSED
     failed = sum(one.verdict != RIGHT for one in result.results)
@@ -51,6 +56,7 @@ def suite(
         "    <properties>",
         f'      <property name="sha256" value={_quoted(result.sha256 or "none")}/>',
         f'      <property name="points" value="{points(result.points)}"/>',
+        *([] if seed is None else [f'      <property name="seed" value="{seed}"/>']),
         "    </properties>",
     ]
     for one in result.results:

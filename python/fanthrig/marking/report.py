@@ -17,7 +17,7 @@ from ..telling import counted, plain
 from .audit import Audit, now
 from .candidates import Found
 from .cases import Case
-from .feedback import failure, number
+from .feedback import by_seed, failure, number
 from .flags import Flag
 from .marker import REFUSED, RIGHT, CaseResult, Result
 
@@ -281,13 +281,15 @@ class Table(Form):
 
     def end(self, total: Total) -> str:
         """The sums, what was passed over, and the cases that failed."""
-        lines = ["", _sums(total)]
+        random = by_seed(self.audit.options["seed"])
+        lines = ["", "; ".join(filter(None, [_sums(total), random]))]
         if self._told.passed_over:
             lines += ["", f"{PASSED_OVER}:", *self._told.passed_over]
         if total.duplicates:
             lines += ["", "equal words:", *map(_group, total.duplicates)]
+        by_name = {case.name: case for case in self.cases}
         for name, one in self._told.failures:
-            lines += ["", *_failure(name, one)]
+            lines += ["", *_failure(name, one, by_name.get(one.case))]
         return "\n".join(lines) + "\n"
 
 
@@ -341,7 +343,7 @@ def _flags(flagged: Sequence[tuple[str, Flag]]) -> Iterator[str]:
         yield f"{flag} in {case}{more}"
 
 
-def _failure(candidate: str, one: CaseResult) -> Iterator[str]:
+def _failure(candidate: str, one: CaseResult, case: Case | None) -> Iterator[str]:
     """The lines that tell of a case that failed."""
     yield f"{candidate}, case {plain(one.case)}: {one.verdict}"
-    yield from (f"  {line}" for line in failure(one))
+    yield from (f"  {line}" for line in failure(one, case))

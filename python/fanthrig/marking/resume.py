@@ -8,6 +8,7 @@ import os
 from dataclasses import fields
 from typing import Any, TypeVar
 
+from ..constants import MAX_CLOCK
 from ..telling import FileError
 from .audit import Audit, sha256
 from .candidates import candidate_file
@@ -73,8 +74,11 @@ def _result(line: bytes, audit: Audit) -> Result | None:
 
 
 def _case_result(told: dict[str, Any]) -> CaseResult:
-    """The result of a case."""
+    """The result of a case; what is told in bytes has to be bytes."""
     found = told["difference"]
+    if found is not None:
+        bytes(byte for byte in (found["expected"], found["got"]) if byte is not None)
+    told["display"].encode("latin-1")
     parts = {
         "flags": tuple(_made(Flag, flag) for flag in told["flags"]),
         "difference": None if found is None else _made(Difference, found),
@@ -85,12 +89,15 @@ def _case_result(told: dict[str, Any]) -> CaseResult:
 
 
 def _made(kind: type[_Made], told: dict[str, Any]) -> _Made:
-    """An object of members as JSON has them; a ``TypeError`` where one is of another type."""
+    """An object of members as JSON has them; a ``TypeError`` where one is of another type, and a
+    ``ValueError`` where a number is none that a result can have, such as NaN."""
     members = {}
     for member in fields(kind):
         value = told[member.name]
         wanted = _TYPES.get(str(member.type))
         if wanted is not None and (not isinstance(value, wanted) or isinstance(value, bool)):
             raise TypeError(f"{member.name} is no {member.type}")
+        if isinstance(value, (int, float)) and not 0 <= value <= MAX_CLOCK:
+            raise ValueError(f"{member.name} is no number of a result")
         members[member.name] = value
     return kind(**members)

@@ -22,6 +22,7 @@ LINES = 12
 # The words in a line of memory.
 IN_A_LINE = 8
 
+_SETTING = re.compile(r"\s*(\[[^\]]*\]|[^\s=]+)(?:\s*=\s*|\s+)(.*)", re.DOTALL)
 _ESCAPE = re.compile(r"\\(?:x([0-9A-Fa-f]{2})|(.))", re.DOTALL)
 _ESCAPES = {"n": "\n", "r": "\r", "t": "\t", "\\": "\\", "e": "\x1b", "0": "\0"}
 
@@ -88,8 +89,7 @@ class Looking:
 
     def set(self, text: str) -> str:
         """Sets a register or a word to a number, and a word also to a line."""
-        name, _, rest = text.replace("=", " ", 1).strip().partition(" ")
-        rest = rest.strip()
+        name, rest = _parted(text)
         if not rest:
             raise Wrong("set takes a register or a word, and its new value")
         value = Value.of(name, self.names.labels)
@@ -145,6 +145,16 @@ class Looking:
         except CommandError as error:
             raise Wrong(str(error)) from None
         return f"saved: {plain(text)}"
+
+
+def _parted(text: str) -> tuple[str, str]:
+    """What is set, and to what. A sign may stand between them; '=' is also a character.
+
+    >>> _parted("R0 = x1F"), _parted("[R6 + 1]=5"), _parted("R0 '='")
+    (('R0', 'x1F'), ('[R6 + 1]', '5'), ('R0', "'='"))
+    """
+    found = _SETTING.match(text)
+    return (found[1], found[2].strip()) if found else (text, "")
 
 
 def _unescaped(found: re.Match[str]) -> str:

@@ -14,7 +14,7 @@ from ..log import row
 from ..messages import end_line
 from ..terminal import Display, Signals
 from .console import Console
-from .names import Names
+from .names import Names, unbracketed
 from .stops import Stops
 
 HALTED = "the machine is halted; go back, or set MCR"
@@ -146,7 +146,7 @@ class Motion:
         """Back to the last write of a word, or the last change of a register."""
         sitting = self.sitting
         if way == "write":
-            address = address_of(text, self.names.labels)
+            address = address_of(unbracketed(text), self.names.labels)
             moment, name = sitting.last_write(address), self.names.place(address)
         else:
             name = registers_of(text)

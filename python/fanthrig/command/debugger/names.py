@@ -9,6 +9,16 @@ from ...labels import Labels
 from ...sitting import Sitting
 
 
+def unbracketed(text: str) -> str:
+    """The address of a word, which may be written as the word itself.
+
+    >>> unbracketed("[x4000]"), unbracketed("LOOP+1")
+    ('x4000', 'LOOP+1')
+    """
+    text = text.strip()
+    return text[1:-1].strip() if text.startswith("[") and text.endswith("]") else text
+
+
 class Names:
     """Labels by their addresses, and addresses by their labels."""
 

@@ -5,7 +5,7 @@ from __future__ import annotations
 from ...conditions import Condition, ConditionError, Value, address_of
 from ...events import At, Changed, Event, Holds, Written
 from ...sitting import Sitting
-from .names import Names
+from .names import Names, unbracketed
 
 
 class Stops:
@@ -47,9 +47,7 @@ class Stops:
 
     def watch(self, text: str) -> str:
         """Sets a watch of a register, or of a word by its address or label."""
-        text = text.strip()
-        if text.startswith("[") and text.endswith("]"):
-            text = text[1:-1]
+        text = unbracketed(text)
         value = Value.of(text, self._names.labels)
         if value.is_word:
             raise ConditionError(f"{text!r} is no register and no address")
@@ -57,7 +55,9 @@ class Stops:
 
     def delete(self, text: str) -> str:
         """Deletes those of some numbers, or all."""
-        numbers = list(self._events) if text in ("", "all") else [_number(w) for w in text.split()]
+        named = self._events if text in ("", "all") else map(_number, text.split())
+        # One that is named twice is deleted once.
+        numbers = list(dict.fromkeys(named))
         unknown = [number for number in numbers if number not in self._events]
         if unknown:
             raise ConditionError(f"there is no breakpoint or watch {unknown[0]}")
