@@ -7,6 +7,7 @@ import fcntl
 import os
 import re
 import select
+import shlex
 import signal
 import struct
 import subprocess
@@ -634,6 +635,61 @@ class OnScreen(Folder):
                 self.until(shown, "(lc3)")
                 shown.close()
                 self.assertIn(shown.process.wait(20), (-signal.SIGHUP, 0))
+
+    def shell(self, *arguments: object) -> OnTerminal:
+        """The command as a job of a shell in such a window."""
+        bash = ["bash", "--norc", "--noprofile", "-i"]
+        with mock.patch.dict("tests.command_support.ENVIRONMENT", PS1="shell> "):
+            with mock.patch("tests.command_support.PYTHON", bash):
+                shown = self.opened()
+        shown.see(b"shell> ")
+        shown.press(shlex.join([*PYTHON, *map(str, arguments)]).encode() + b"\n")
+        return shown
+
+    def suspended(self, shown: OnTerminal) -> None:
+        """Presses Ctrl-Z: the shell has the terminal, and sets the job going again."""
+        shown.press(b"\x1a")
+        shown.see(b"Stopped")
+        shown.seen = b""
+        shown.press(b"stty -a; fg\n")
+        shown.see(b" icanon")
+        shown.see(b"fanthrig debug")
+
+    def test_ctrl_z_at_the_prompt(self) -> None:
+        with self.shell("debug", self.file("until.obj", UNTIL_Q)) as shown:
+            shown.see(b"(lc3) ")
+            shown.press(b"regi")
+            shown.see(b"regi")
+            self.suspended(shown)
+            # What was typed stands there again, and can be gone on with.
+            shown.see(b"(lc3) regi")
+            shown.press(b"\t\nrun\n")
+            shown.see(b"MCR x8000")
+            shown.see(b"the program waits for a key")
+            self.suspended(shown)
+            shown.press(b"q")
+            shown.see(b"halted by HALT")
+            shown.press(b"quit\necho ended $?\n")
+            shown.see(b"ended 0")
+            self.assertNotIn(b"Traceback", shown.seen)
+
+    def test_ctrl_z_in_the_screen(self) -> None:
+        with self.shell("debug", "--screen", self.file("until.obj", UNTIL_Q)) as shown:
+            self.until(shown, "(lc3)")
+            self.suspended(shown)
+            self.until(shown, "last steps")
+            shown.press(b"run\n")
+            self.until(shown, "the program waits for a key")
+            self.suspended(shown)
+            # All of it is drawn anew, and nothing of the shell's is left.
+            picture = self.until(shown, "the program runs")
+            self.assertIn("last steps", picture)
+            self.assertNotIn("icanon", picture)
+            shown.press(b"q")
+            self.until(shown, "halted by HALT")
+            shown.press(b"quit\necho ended $?\n")
+            shown.see(b"ended 0")
+            self.assertNotIn(b"Traceback", shown.seen)
 
     def test_a_terminal_that_is_not_known(self) -> None:
         with self.opened("debug", "--screen", self.file("shows.obj", SHOWS), term="none") as shown:

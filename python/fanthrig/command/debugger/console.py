@@ -3,7 +3,8 @@
 from __future__ import annotations
 
 import sys
-from typing import Callable, Sequence
+from types import FrameType
+from typing import Sequence
 
 from ...constants import MAX_CLOCK
 from ...ending import Ending
@@ -20,20 +21,27 @@ WAITS = "the program waits for a key: press it, or Ctrl-C for the prompt"
 
 class Keys(Terminal):
     """The keys of a terminal. That the program waits for one is said once in a run: nothing else
-    would tell it from one that hangs."""
+    would tell it from one that hangs. Ctrl-Z leaves the whole terminal as it was, and what is shown
+    is shown again when the process goes on."""
 
-    def __init__(self, fd: int, signals: Signals, say: Callable[[], None]) -> None:
-        """A terminal, and how it is said."""
+    def __init__(self, fd: int, signals: Signals, console: Console) -> None:
+        """A terminal, and who tells."""
         super().__init__(fd, signals)
-        self._say, self._said = say, False
+        self._console, self._said = console, False
 
     def wait(self) -> bytes:
         """Waits for keys, or for a signal."""
         keys = self.poll()
         if not (keys or self._said or self._signals.caught):
             self._said = True
-            self._say()
+            self._console.waits()
         return keys or super().wait()
+
+    def _suspend(self, number: int, frame: FrameType | None) -> None:
+        """Stops the process."""
+        self._console.close()
+        super()._suspend(number, frame)
+        self._console.reopen()
 
 
 class Console:
@@ -50,7 +58,7 @@ class Console:
         """The program's keyboard for one run."""
         try:
             if sys.stdin.isatty():
-                return Keys(sys.stdin.fileno(), signals, self.waits)
+                return Keys(sys.stdin.fileno(), signals, self)
             return Keyboard()
         except (OSError, ValueError):
             # Standard input is no file at all, or closed.
@@ -99,3 +107,6 @@ class Console:
 
     def close(self) -> None:
         """Leaves the terminal as it was."""
+
+    def reopen(self) -> None:
+        """Shows again what was shown."""

@@ -2,10 +2,15 @@
 
 from __future__ import annotations
 
+import signal
 import sys
+import termios
+from contextlib import suppress
+from types import FrameType
 
 from ...telling import plain
 from ..messages import Code, tell
+from ..terminal import die
 from .commands import Debugger
 from .console import Console
 from .motion import Wrong
@@ -21,6 +26,36 @@ STOPPED = "stopped by Ctrl-C"
 
 # Between words that can be completed.
 DELIMITERS = " \t[]=<>!+-"
+
+
+class Edited:
+    """While a line is edited: Ctrl-Z leaves the terminal as it was before, and when the process
+    goes on, the line stands there again. readline by itself does neither under Python."""
+
+    def __enter__(self) -> None:
+        """The terminal is still as it was."""
+        self._saved = termios.tcgetattr(0)
+        self._usual = signal.getsignal(signal.SIGTSTP)
+        if self._usual is signal.SIG_DFL:
+            signal.signal(signal.SIGTSTP, self._suspend)
+
+    def __exit__(self, *_: object) -> None:
+        """Leaves the signal as it was."""
+        if self._usual is signal.SIG_DFL:
+            signal.signal(signal.SIGTSTP, self._usual)
+
+    def _suspend(self, number: int, _frame: FrameType | None) -> None:
+        """Stops the process, until it is to go on."""
+        # A terminal whose window is closed needs nothing.
+        with suppress(termios.error, OSError):
+            edited = termios.tcgetattr(0)
+            termios.tcsetattr(0, termios.TCSANOW, self._saved)
+            die(number)
+            signal.signal(number, self._suspend)
+            termios.tcsetattr(0, termios.TCSANOW, edited)
+            begun = "" if readline is None else readline.get_line_buffer()
+            sys.stdout.write(PROMPT + begun)
+            sys.stdout.flush()
 
 
 class Lines:
@@ -43,7 +78,8 @@ class Lines:
         """The next line, or nothing at the end."""
         if self.on_terminal and sys.stdout.isatty():
             try:
-                return input(PROMPT)
+                with Edited():
+                    return input(PROMPT)
             except EOFError:
                 tell("\n")
                 return None

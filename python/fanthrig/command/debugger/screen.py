@@ -35,6 +35,8 @@ IN_A_ROW = 3
 # The seconds between two pictures of a program that runs.
 APART = 0.05
 
+RUNS = "the program runs: keys are the program's, Ctrl-C stops it"
+
 _ENTER, _ERASE = ("\n", "\r", curses.KEY_ENTER), ("\b", "\x7f", curses.KEY_BACKSPACE)
 
 
@@ -49,7 +51,7 @@ class ScreenConsole(Console):
     def show(self, sitting: Sitting, display: Display) -> None:
         """Draws the screen anew, now and then."""
         if time.monotonic() - self._drawn > APART:
-            self._screen.draw("the program runs: keys are the program's, Ctrl-C stops it")
+            self._screen.draw(RUNS)
             self._drawn = time.monotonic()
 
     def waits(self) -> None:
@@ -63,6 +65,11 @@ class ScreenConsole(Console):
         except curses.error:
             # A terminal whose window is closed needs nothing.
             pass
+
+    def reopen(self) -> None:
+        """Draws all of the screen anew."""
+        self._screen.clear()
+        self._screen.draw(RUNS)
 
 
 class Screen:
@@ -163,6 +170,10 @@ class Screen:
                 return
 
     # Drawing.
+
+    def clear(self) -> None:
+        """Has all of it drawn at the next time: others have written to the terminal."""
+        self._window.clear()
 
     def _fitted(self) -> tuple[int, int]:
         """Empties the window, and answers its size. That may have changed: the signal which tells
