@@ -238,11 +238,15 @@ class Randomly(unittest.TestCase):
 FIXED = (0x22F8, 0xBA68)
 
 
+# A loop that is not seen to be one before 2^33 steps are made.
+SLOW = ("ADD R0, R0, #1", "BRnp #-2", "ADD R1, R1, #1", "BRnzp #-4")
+
+
 class Late(unittest.TestCase):
     """A limit of time."""
 
     def test_out_of_time(self) -> None:
-        slow = object_file(0x3000, "ADD R0, R0, #1", "BRnp #-2", "ADD R1, R1, #1", "BRnzp #-4")
+        slow = object_file(0x3000, *SLOW)
         cases = [Case("a", b""), Case("b", b"")]
         begun = time.monotonic()
         result = Marking(cases, Options(steps=1 << 40, seconds=0.2)).mark_bytes("slow.obj", slow)
@@ -250,6 +254,21 @@ class Late(unittest.TestCase):
         self.assertEqual([part.verdict for part in result.results], ["out of time"] * 2)
         self.assertEqual(result.results[1].steps, 0)
         self.assertIn("the time of the candidate was over", result.results[0].ended)
+
+    def test_to_count_flags_takes_no_longer_than_the_run(self) -> None:
+        # The monitor goes on after an exception, and then there are so many steps that to count all
+        # that are flagged would take seconds.
+        slow = object_file(0x3000, "RTI", *SLOW)
+        returns = object_file(0x0200, "LD R6, #1", "RTI", 0x0203, 0x3001, 0x8002)
+        shared = [("vector.obj", object_file(0x0100, 0x0200)), ("returns.obj", returns)]
+        options = Options(steps=1 << 40, seconds=0.5, monitor=False)
+        made = Marking([Case("a", b"")], options, shared)
+        begun = time.process_time()
+        (result,) = made.mark_bytes("slow.obj", slow).results
+        self.assertLess(time.process_time() - begun, 1.8)
+        self.assertEqual(result.verdict, "out of time")
+        self.assertGreater(result.steps, 10_000_000)
+        self.assertEqual([str(flag) for flag in result.flags], ["privilege exception at x3000: RTI"])
 
 
 class Files(Folder):

@@ -10,11 +10,15 @@ program in Supervisor mode may alter the monitor. There the run is made once mor
 every exception and every such trap is counted. A trap is told by where it led, so that a service
 that the program itself has installed is one. By the second edition's rules no run is logged, and
 only what ended the run is told.
+
+To count takes some five times as long as the run. Of a candidate whose time was over it is given up
+after as much time again: the flags are then those of the first part of the run.
 """
 
 from __future__ import annotations
 
 import sys
+import time
 from array import array
 from collections import Counter
 from dataclasses import dataclass, replace
@@ -60,6 +64,20 @@ class Flag:
         return f"{self.flag} at x{self.pc:04X}: {self.line or 'not fetched'}{often}"
 
 
+@dataclass(frozen=True)
+class _Until:
+    """Stops what takes too long, at a time of the monotonic clock; so does another stopper."""
+
+    time: float
+    other: Stopper
+    name = "the time"
+
+    @property
+    def caught(self) -> int:
+        """Whether it is to stop."""
+        return self.other.caught or int(time.monotonic() >= self.time)
+
+
 def flags_of(
     options: Options, sitting: Sitting, ending: Ending, stopper: Stopper
 ) -> tuple[Flag, ...]:
@@ -67,6 +85,8 @@ def flags_of(
     flags: list[Flag] = []
     halts_at_each = options.monitor and not options.supervisor
     counted = not halts_at_each and options.edition == Edition.THIRD
+    if counted and options.seconds is not None and ending.kind is EndKind.INTERRUPTED:
+        stopper = _Until(time.monotonic() + options.seconds, stopper)
     if counted:
         flags = counted_flags(sitting.recording(), stopper)
     last = _last(ending, array("H", sitting.memory[:TRAPS]))
