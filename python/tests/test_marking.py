@@ -268,7 +268,7 @@ class Late(unittest.TestCase):
         self.assertLess(time.process_time() - begun, 1.8)
         self.assertEqual(result.verdict, "out of time")
         self.assertGreater(result.steps, 10_000_000)
-        self.assertEqual([str(flag) for flag in result.flags], ["privilege exception at x3000: RTI"])
+        self.assertEqual([*map(str, result.flags)], ["privilege exception at x3000: RTI"])
 
 
 class Files(Folder):
