@@ -594,6 +594,19 @@ class OnScreen(Folder):
             self.assertEqual(shown.attributes(), shown.before)
             self.assertNotIn(b"Traceback", shown.seen)
 
+    def test_the_end_of_memory(self) -> None:
+        with self.opened("debug", "--screen", self.file("until.obj", UNTIL_Q)) as shown:
+            self.until(shown, "(lc3)")
+            # The last page to which the keys turn, and the last word.
+            for address in ("xFFFD", "xFFFF"):
+                shown.press(f"words {address}\n".encode())
+                self.assertIn("last steps", self.until(shown, f"{address}  x0000"))
+            shown.press(b"set PC xFFFF\n")
+            self.until(shown, "=>  xFFFF  x0000")
+            shown.press(b"quit\n")
+            self.assertEqual(shown.process.wait(20), 0)
+            self.assertNotIn(b"Traceback", shown.seen)
+
     def test_ctrl_c_in_the_screen(self) -> None:
         with self.opened("debug", "--screen", self.file("counting.obj", COUNTING)) as shown:
             self.until(shown, "(lc3)")

@@ -75,13 +75,13 @@ class Looking:
         first = address_of(where, self.names.labels)
         count = count_of(number.strip(), 1) if number else 4 * IN_A_LINE
         self.words_at = first
-        return "\n".join(self.rows(first, min(count, MEMORY_WORDS - first)))
+        return "\n".join(self.rows(first, count))
 
     def rows(self, first: int, count: int, width: int = IN_A_LINE) -> list[str]:
-        """Words of memory in rows."""
-        told = []
-        for begun in range(first, first + count, width):
-            words = self.sitting.memory[begun : min(begun + width, first + count, MEMORY_WORDS)]
+        """Words of memory in rows, as many as there are."""
+        told, end = [], min(first + count, MEMORY_WORDS)
+        for begun in range(first, end, width):
+            words = self.sitting.memory[begun : min(begun + width, end)]
             numbers = " ".join(f"x{number:04X}" for number in words)
             text = "".join(chr(number) if 32 <= number < 127 else "." for number in words)
             told.append(f"x{begun:04X}  {numbers:<{6 * width - 1}}  {text}  {self.names.of(begun)}")
