@@ -58,7 +58,7 @@ LOADER = @[ -n "$(DESTDIR)" ] || /sbin/ldconfig 2>/dev/null || \
     echo "Run ldconfig as root, so that programs find $(SONAME)."
 
 .PHONY: run told demo test lib page page-test page-rate install uninstall dist release-test bench rate soak mutants
-.PHONY: format lint clean host host-c host-counts host-rust host-python
+.PHONY: format lint clean host host-c host-counts host-rust host-python host-python-first host-python-second
 
 run: told lib
 	@examples/run.sh
@@ -94,10 +94,10 @@ lint:
 	mypy
 	flake8 python docs examples tools page
 
-# The host tests, in four parts: `make -j2 host` runs two at a time. A part that calls make itself is not to ask for the
-# jobs of this one.
+# The host tests, in five parts: `make -j2 host` runs two at a time, the longest first. A part that calls make itself is
+# not to ask for the jobs of this one.
 APART = env -u MAKEFLAGS -u MFLAGS
-host: host-c host-counts host-rust host-python
+host: host-python host-c host-counts host-rust
 
 host-c: lib
 	host/c/run.sh
@@ -117,8 +117,10 @@ host-rust: lib
 	$(APART) RUSTDOCFLAGS="-D warnings" \
 	    cargo doc --workspace --quiet --no-deps --offline --manifest-path host/Cargo.toml --target-dir build/cargo
 
-host-python: lib page
-	$(APART) python3 -m unittest discover -s python/tests -t python
+host-python: host-python-first host-python-second
+
+host-python-first host-python-second: host-python-%: lib page
+	cd python && $(APART) python3 -m tests.half $*
 
 lib: build/libfanthrig.so
 
