@@ -1,4 +1,5 @@
-"""The pages for tutors and examiners: their commands write what the pages say."""
+"""The pages for tutors and examiners: their commands write what the pages say. And what Python says
+on the page for students, whose other answers ``test_command_debug`` compares."""
 
 from __future__ import annotations
 
@@ -37,18 +38,23 @@ class Pages(Folder):
                 written = done.stdout.decode()
                 self.assertEqual(written, expected if next_kind == "text" else "", text)
             elif kind == "python":
-                self.python(text)
+                self.python(text, self.folder)
 
-    def python(self, text: str) -> None:
-        """That a session is as the page has it."""
+    def python(self, text: str, folder: Path) -> None:
+        """That a session in a folder is as the page has it."""
         here = Path.cwd()
-        os.chdir(self.folder)
+        os.chdir(folder)
         try:
             test = doctest.DocTestParser().get_doctest(text, {}, "page", "page", 0)
-            runner = doctest.DocTestRunner(verbose=False)
-            self.assertEqual(runner.run(test).failed, 0)
+            done = doctest.DocTestRunner(verbose=False).run(test)
+            self.assertEqual((done.failed, done.attempted > 2), (0, True))
         finally:
             os.chdir(here)
+
+    def test_student(self) -> None:
+        text = (ROOT / "docs/STUDENT.md").read_text(encoding="utf-8")
+        (session,) = [text for kind, text in BLOCK.findall(text) if kind == "python"]
+        self.python(session, ROOT)
 
     def test_tutor(self) -> None:
         self.check("TUTOR.md")
