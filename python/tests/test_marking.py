@@ -227,6 +227,21 @@ class Randomly(unittest.TestCase):
         for seed in range(20):
             self.assertEqual(verdict(data, case, seed=seed), "right")
 
+    def test_what_supervisor_mode_reaches(self) -> None:
+        # R0 is x1000, R1 the first word after the monitor's, R2 one of the examiner's.
+        data = object_file(
+            0x3000, "LDI R0, #3", "LDI R1, #3", "LDI R2, #3", "TRAP x25", 0x1000, 0x02A5, 0x2000
+        )
+        zeros = Case("a", after=contents(R0=0, R1=0, R2=7))
+        file = ("answers.obj", object_file(0x2000, 7))
+        for monitor, steps in ((True, 1000), (False, 3)):
+            options = Options(steps=steps, supervisor=True, monitor=monitor, seed=3)
+            (result,) = Marking([zeros], options, [file]).mark_bytes("a.obj", data).results
+            self.assertEqual([wrong.place for wrong in result.mismatches], ["R0", "R1"])
+            # The words of the monitor are what they were: HALT halts.
+            self.assertEqual(result.ending, "halted" if monitor else "steps made")
+        self.assertEqual(verdict(data, Case("a", end="exception"), seed=3), "right")
+
     def test_the_contents_are_what_they_were_in_every_version(self) -> None:
         data = object_file(0x3000, "LDI R0, #1", "TRAP x25", 0x5000)
         result = one(data, Case("a", after=contents(R0=0, R1=0)), seed=41)

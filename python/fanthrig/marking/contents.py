@@ -9,8 +9,8 @@ from array import array
 from dataclasses import dataclass
 from typing import Any, Iterable, Iterator, Mapping, Sequence
 
-from ..constants import MEMORY_WORDS
-from ..places import USER_WORDS
+from ..constants import MEMORY_WORDS, USER_ORIGIN, VECTOR_WORDS
+from ..places import MONITOR, USER_WORDS, common
 from ..records import Record, as_word
 from ..recording import from_high_first
 from ..sitting import Sitting
@@ -18,6 +18,9 @@ from ..steps import DEVICES
 
 # The register of the user's stack: random contents leave it alone.
 STACK = 6
+
+# The words below User mode's; the vector words before them say where traps lead, and stay.
+SYSTEM_WORDS = range(VECTOR_WORDS, USER_ORIGIN)
 
 # The differences that are told of a case.
 MOST_TOLD = 20
@@ -130,18 +133,31 @@ def _value(place: str, value: Any) -> int:
     return as_word(value, place)
 
 
-def put_random(sitting: Sitting, seed: int, case: str) -> None:
-    """Fills the registers but R6, and the words of User mode that no file has, by random contents.
-    They follow from the seed and the name of the case alone, so that all candidates meet the
-    same: SHAKE-256 of both, the registers first, then the words from x3000 on."""
+def put_random(
+    sitting: Sitting, seed: int, case: str, supervisor: bool = False, monitor: bool = True
+) -> None:
+    """Fills the registers but R6, and the words of User mode that no file has, by random contents;
+    for a program in Supervisor mode also the words x0200 to x2FFF that neither a file nor the
+    ready-made ``monitor`` has. They follow from the seed and the name of the case alone, so that
+    all candidates meet the same: SHAKE-256 of both, the registers first, then the words from x3000
+    on, and then those from x0200 on."""
     source = hashlib.shake_256(f"{seed} {case}".encode("utf-8", "surrogatepass"))
-    drawn = from_high_first(source.digest(2 * (8 + len(USER_WORDS))))
+    ranges = (USER_WORDS, SYSTEM_WORDS) if supervisor else (USER_WORDS,)
+    drawn = from_high_first(source.digest(2 * (8 + sum(map(len, ranges)))))
     for register in set(range(8)) - {STACK}:
         sitting[f"R{register}"] = drawn[register]
-    words = drawn[8:]
-    for program in sitting.programs:
-        if program.origin in USER_WORDS:
-            first, end = program.addresses.start, program.addresses.stop
-            taken = slice(first - USER_WORDS.start, end - USER_WORDS.start)
-            words[taken] = array("H", sitting.memory[first:end])
-    sitting.memory[USER_WORDS.start : USER_WORDS.stop] = words
+    kept = [program.addresses for program in (*sitting.programs, *(MONITOR if monitor else ()))]
+    first = 8
+    for words in ranges:
+        _fill(sitting, words, drawn[first : first + len(words)], kept)
+        first += len(words)
+
+
+def _fill(sitting: Sitting, words: range, drawn: array[int], kept: Sequence[range]) -> None:
+    """Fills words by what was drawn for them, but for those that are kept."""
+    for others in kept:
+        both = common(words, others)
+        if both:
+            own = array("H", sitting.memory[both.start : both.stop])
+            drawn[both.start - words.start : both.stop - words.start] = own
+    sitting.memory[words.start : words.stop] = drawn

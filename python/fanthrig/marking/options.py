@@ -18,9 +18,9 @@ class Options:
 
     ``any_halt`` has a case passed however the machine was halted; ``follow_links`` has symbolic
     links followed. ``lenient`` are choices of ``fanthrig.marking.comparing`` for every case.
-    ``seed`` has all words of User mode and all registers that a case leaves open filled by random
-    contents, the same for every candidate. ``seconds`` is the time that a candidate has for all its
-    cases together.
+    ``seed`` has all words that the program reaches and all registers that a case leaves open filled
+    by random contents, the same for every candidate. ``seconds`` is the time that a candidate has
+    for all its cases together.
     """
 
     steps: int = 10_000_000

@@ -49,7 +49,7 @@ def set_up(options: Options, case: Case, sitting: Sitting) -> None:
     """Sets a machine up for a case: random contents, PC and link of a call, and what the case
     sets."""
     if options.seed is not None:
-        put_random(sitting, options.seed, case.name)
+        put_random(sitting, options.seed, case.name, options.supervisor, options.monitor)
     if case.call is not None:
         sitting["PC"], sitting[f"R{LINK}"] = case.call, _return_address(sitting)
         sitting.breakpoints.add(sitting[f"R{LINK}"])
