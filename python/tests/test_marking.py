@@ -9,7 +9,8 @@ import unittest
 from dataclasses import replace
 from typing import Any
 
-from fanthrig.marking import Case, Contents, FileError, Marking, Options, Result, cases_of, mark_all
+from fanthrig.marking import FORMS, Case, Contents, FileError, Found, Marking, Options, Result, Total
+from fanthrig.marking import cases_of, mark_all
 from fanthrig.marking.cases import ENDS
 
 from .command_support import ENDLESS, Folder, ran
@@ -402,6 +403,13 @@ class Files(Folder):
             self.assertEqual([result.candidate for result in results], names)
             self.assertEqual({result.verdict for result in results}, {"right"})
         self.assertEqual(marking.mark("no/such.obj").verdict, "refused")
+        total = Total(len(names))
+        for result in results:
+            total.add(result)
+        self.assertEqual((total.right, total.whole, total.duplicates), (3, True, [names]))
+        form = FORMS["csv"](marking.audit, marking.cases, [Found(name) for name in names])
+        rows = form.head() + form.result(results[0]) + form.end(total)
+        self.assertIn(f'"{names[0]}","a","right",1,1,', rows)
         with self.assertRaises(FileError):
             Marking.of(str(self.folder / "none"))
         with self.assertRaises(FileError):

@@ -451,8 +451,8 @@ def _add_comparison(to: argparse.ArgumentParser) -> None:
         "--seed",
         type=seed,
         metavar="N|random",
-        help="random contents of all words of User mode and all registers that a case leaves open, "
-        "the same for every candidate; the seed is told in the results",
+        help="random contents of all words that the program reaches and all registers that a case "
+        "leaves open, the same for every candidate; the seed is told in the results",
     )
     to.add_argument(
         "--seconds",

@@ -15,8 +15,9 @@ wrong contents; R0: expected x0005 (5), got x0000 (0)
 ``Marking.of`` takes cases and files by their names, ``mark`` a candidate's file, ``mark_all`` many
 of them by several processes; ``found_in`` lists the candidates of folders, and ``handed_in`` tells
 whose they are. ``feedback``, ``results_json`` and ``suite`` make text of a result for the student,
-for Gradescope and for whoever reads JUnit's XML; ``results_of`` reads results back. What is wrong
-with a file is a ``FileError``, in one line that names it.
+for Gradescope and for whoever reads JUnit's XML; ``results_of`` reads results back. ``Total`` has
+the sums of many results and the candidates of equal words, and ``FORMS`` are the forms in which the
+command writes all that. What is wrong with a file is a ``FileError``, in one line that names it.
 
 Of each part one module has the work, and says more: ``cases``, ``contents`` (registers and words),
 ``comparing``, ``options``, ``candidates`` and ``regular`` (files), ``platforms`` (Moodle, Canvas),
@@ -32,11 +33,13 @@ from .comparing import Difference
 from .contents import Contents, Mismatch
 from .feedback import FeedbackFolder, feedback
 from .flags import Flag
+from .forms import FORMS
 from .gradescope import results_json
 from .junit import suite
 from .marker import CaseResult, Marking, Result
 from .options import Options
 from .platforms import Student, handed_in, student_of
+from .report import Form, Total
 from .resume import results_of, still_holds
 from .workers import mark_all
 
@@ -46,15 +49,18 @@ __all__ = [
     "CaseResult",
     "Contents",
     "Difference",
+    "FORMS",
     "FeedbackFolder",
     "FileError",
     "Flag",
+    "Form",
     "Found",
     "Marking",
     "Mismatch",
     "Options",
     "Result",
     "Student",
+    "Total",
     "cases_of",
     "feedback",
     "found_in",

@@ -33,20 +33,21 @@ class Edited:
     goes on, the line stands there again. readline by itself does neither under Python."""
 
     def __enter__(self) -> None:
-        """The terminal is still as it was."""
-        self._saved = termios.tcgetattr(0)
-        self._usual = signal.getsignal(signal.SIGTSTP)
-        if self._usual is signal.SIG_DFL:
+        """The terminal is still as it was; one whose window is closed needs nothing."""
+        self._taken = False
+        with suppress(termios.error):
+            self._saved = termios.tcgetattr(0)
+            self._taken = signal.getsignal(signal.SIGTSTP) is signal.SIG_DFL
+        if self._taken:
             signal.signal(signal.SIGTSTP, self._suspend)
 
     def __exit__(self, *_: object) -> None:
         """Leaves the signal as it was."""
-        if self._usual is signal.SIG_DFL:
-            signal.signal(signal.SIGTSTP, self._usual)
+        if self._taken:
+            signal.signal(signal.SIGTSTP, signal.SIG_DFL)
 
     def _suspend(self, number: int, _frame: FrameType | None) -> None:
         """Stops the process, until it is to go on."""
-        # A terminal whose window is closed needs nothing.
         with suppress(termios.error, OSError):
             edited = termios.tcgetattr(0)
             termios.tcsetattr(0, termios.TCSANOW, self._saved)
