@@ -9,8 +9,8 @@ import unittest
 from dataclasses import replace
 from typing import Any
 
-from fanthrig.marking import FORMS, Case, Contents, FileError, Found, Marking, Options, Result, Total
-from fanthrig.marking import cases_of, mark_all
+from fanthrig.marking import FORMS, Case, Contents, FileError, Found, Marking, Options, Result
+from fanthrig.marking import Total, cases_of, mark_all
 from fanthrig.marking.cases import ENDS
 
 from .command_support import ENDLESS, Folder, ran
