@@ -2,3 +2,4 @@
 pub mod FormLaws
 pub mod WindowLaws
 pub mod Theorems
+pub mod TurnLaws
