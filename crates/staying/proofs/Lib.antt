@@ -1,0 +1,2 @@
+-- The laws of kept steps one after the other.
+pub mod StayLaws

@@ -1,0 +1,2 @@
+-- What kept steps that stay in their window promise.
+pub mod Staying
