@@ -1,0 +1,3 @@
+-- The laws of quiet steps outside the windows.
+pub mod StepLaws
+pub mod OutingLaws
