@@ -1,18 +1,22 @@
--- A run that stands on a way, but for what is below the stack, the display's count and the keyboard, follows it to its
--- end: it shows the same bytes, in as many steps at most.
+-- A run that stands on a way, but for what is below the stack, the display's count and the keyboard, follows it step by
+-- step: it shows the same bytes, in as many steps at most.
 use Prim.Native.Nat.{ℕ, zero, suc, _+_, _-_, _%_, _≤_, _<_}
 use native.Mathlib.Omega.{arith}
 use mathlib.Core.Path.{_≡_, refl, sym, ap, subst, _∙_}
 use mathlib.Core.Bool.{Bool, true, false, cond, _&&_, _||_, true≢false}
 use mathlib.Core.List.{List, [], _∷_, _++_, append-assoc}
-use borrow.Author.Tests.{leb-true, le-leb, ltb-true, lt-ltb, eqb-true, eq-eqb}
+use borrow.Author.Tests.{leb-true, le-leb, ltb-true, lt-ltb, eqb-true, eq-eqb, ne-eqb}
 use lib.Dec.{eqb, leb, ltb}
+use lib.IntN.{negsuc}
 use lib.ListN.{length, getD, length-append}
+use lib.Seq.{set-set}
 use Rattle.word.specs.Reading.{readOf}
+use Rattle.word.specs.declared.Instruction.the-variants.{Br}
 use Rattle.machine.specs.declared.Plan.{Plan}
 use Rattle.machine.specs.declared.Plan.the-variants.{Move, Put, Jump, Load, LoadBy, Store, StoreBy, Call, Illegal}
 use Rattle.machine.specs.declared.Plan.the-variants.{Return}
-use Rattle.machine.specs.Words.{next, plus, wrap, register, withRegister}
+use Rattle.machine.specs.Words.{next, plus, wrap, register, withRegister, andBits}
+use Rattle.machine.specs.Psr.{codesOf, isTaken}
 use Rattle.machine.specs.Devices.{DSR, DDR, MCR}
 use Rattle.machine.specs.Plan.{planOf}
 use Rattle.machine.proofs.Tests.{both-true}
@@ -26,11 +30,11 @@ use Rattle.monitor.proofs.Instructions.{performed}
 use Rattle.monitor.proofs.Instructions.{isPlain, mayPerform, Use, loadsSlot, storesSlot, movesStack, leavesStack}
 use Rattle.monitor.proofs.Instructions.{elsewhere, useOf, slotOf, deeper, used, keepsSix, mayUse}
 use Rattle.monitor.proofs.Instructions.{useAt}
-use Rattle.monitor.proofs.Instructions.{stepped, mayStep, PlanIs, plan-by-use, Kept, same, on-stack, by-plan, by-use}
-use Rattle.monitor.proofs.Entries.{within, Polls, waits, recoded}
+use Rattle.monitor.proofs.Instructions.{stepped, mayStep, PlanIs, plan-by-use, Kept, other, same, on-stack, by-plan}
+use Rattle.monitor.proofs.Instructions.{by-use, keeps-once}
+use Rattle.monitor.proofs.Entries.{within, Polls, recoded}
 use Rattle.monitor.proofs.Paths.{holds, calmPlan, calmUse, calm, Readable, Path, stays, knows, makes, jumps, fetches}
-use Rattle.monitor.proofs.Paths.{attends, joins, gets-word}
-use Rattle.interruptions.proofs.Leaving.{keeps}
+use Rattle.monitor.proofs.Paths.{attends, joins, keeps, gets-word}
 
 -- What may be another's: the words stored since, the bytes shown since, the display's count, and the keyboard.
 pub record Rest : Type 0 where
@@ -68,7 +72,7 @@ beside f mem out = record {
 }
 
 -- One step less on the display's count.
-abbrev less : Rest → Rest
+abbrev pub less : Rest → Rest
 less x = record { cells = x .cells; bytes = x .bytes; busy = x .busy - 1; read = x .read; status = x .status }
 
 -- Those bytes were shown before; the display has had time; and what the stack holds is the same, down to R6.
@@ -124,6 +128,8 @@ module _ {r : Start} {since bound : ℕ} (quiet : Quiet r since bound) (f : Fram
     rest : Rest
     like : Like f mem before w′ rest
     leads : Leads r since bound g (twin w x) 1 g (twin w′ rest)
+    keyboard : (rest .read ≡ x .read) × (rest .status ≡ x .status)
+    counts : x .busy ≡ w .busy → rest .busy ≡ w′ .busy
 
   like-less : (w : View) (x : Rest) → Like f mem before w x → (w′ : View) → w′ .bytes ≡ w .bytes
       → w′ .busy ≡ w .busy - 1
@@ -155,6 +161,8 @@ module _ {r : Start} {since bound : ℕ} (quiet : Quiet r since bound) (f : Fram
       like = like-less w x l w′ bytes busy cells depth;
       leads = subst (λ (y : View). Leads r since bound g v 1 g y) e
           (by-plan quiet g sound room (omega arith) v going (l .fine) plan (own-plan w x own ∙ is) allowed);
+      keyboard = (refl, refl);
+      counts = λ same. rw (busy, same);
     }
 
     -- A store by a pointer: to MCR, or to DDR.
@@ -197,6 +205,8 @@ module _ {r : Start} {since bound : ℕ} (quiet : Quiet r since bound) (f : Fram
           leads = subst (λ (z : View). Leads r since bound g v 1 g z) (rw e′)
               (by-plan quiet g sound room (omega arith) v going (l .fine) (StoreBy y a) (own-plan w x own ∙ is)
               (rw (plain, e′, d′, eq-eqb (x .busy) 0 none′, lt-ltb (length (x .bytes)) room free)));
+          keyboard = (refl, refl);
+          counts = λ same. refl;
         }
 
     by-this-plan : (room₀ : ℕ) → room₀ ≤ length (f .output) → (plan : Plan) → planAt f w ≡ plan
@@ -252,6 +262,8 @@ module _ {r : Start} {since bound : ℕ} (quiet : Quiet r since bound) (f : Fram
           leads = subst (λ (y : ℕ). Leads r since bound g v 1 g (valued v d y (next (w .pc)))) same
               (by-use quiet g sound room (omega arith) v going (l .fine) k′ (loadsSlot d n) (planned (loadsSlot d n) e)
               allowed);
+          keyboard = (refl, refl);
+          counts = λ same. rw same;
         }
     by-this-use room₀ has-room (storesSlot d n) e allowed calms =
         let i : ℕ = slotOf (w .depth) n in
@@ -273,6 +285,8 @@ module _ {r : Start} {since bound : ℕ} (quiet : Quiet r since bound) (f : Fram
           };
           leads = by-use quiet g sound room (omega arith) v going (l .fine) k′ (storesSlot d n)
               (planned (storesSlot d n) e) allowed;
+          keyboard = (refl, refl);
+          counts = λ same. rw same;
         }
       where
         either-slot : (j i y : ℕ) → (eqb j i || holds (w .cells) j) ≡ true → j ≤ w .depth
@@ -298,6 +312,8 @@ module _ {r : Start} {since bound : ℕ} (quiet : Quiet r since bound) (f : Fram
           };
           leads = by-use quiet g sound room (omega arith) v going (l .fine) k′ (movesStack n) (planned (movesStack n) e)
               allowed;
+          keyboard = (refl, refl);
+          counts = λ same. rw same;
         }
     by-this-use room₀ has-room (leavesStack n) e allowed calms =
         let a : ℕ = plus (next (w .pc)) n in
@@ -313,6 +329,8 @@ module _ {r : Start} {since bound : ℕ} (quiet : Quiet r since bound) (f : Fram
               (own-word w v a calms)
               (by-use quiet g sound room (omega arith) v going (l .fine) k′ (leavesStack n) (planned (leavesStack n) e)
               allowed);
+          keyboard = (refl, refl);
+          counts = λ same. rw same;
         }
     by-this-use room₀ has-room elsewhere e allowed calms =
         by-this-plan room₀ has-room (planAt f w) refl
@@ -320,44 +338,34 @@ module _ {r : Start} {since bound : ℕ} (quiet : Quiet r since bound) (f : Fram
 
   -- ---- the way
 
-  -- It has followed to w′, in n steps at most.
-  pub record Followed (w : View) (x : Rest) (n : ℕ) (w′ : View) : Type 0 where
-    pub steps : ℕ
-    pub fewer : steps ≤ n
-    pub rest : Rest
-    pub like : Like f mem before w′ rest
-    pub leads : Leads r since bound g (twin w x) steps g (twin w′ rest)
+  -- It stands at the end of a way of n steps; or it makes one step, and has fewer before it. Where the display's count
+  -- is the way's own, so are the steps.
+  pub data Next (w : View) (x : Rest) (n : ℕ) (w′ : View) : Type 0 where
+    arrived : (x′ : Rest) → Like f mem before w′ x′ → Leads r since bound g (twin w x) 0 g (twin w′ x′)
+        → (x′ .read ≡ x .read) × (x′ .status ≡ x .status)
+        → (x .busy ≡ w .busy → (x′ .busy ≡ w′ .busy) × (n ≡ 0)) → Next w x n w′
+    onward : (w₁ : View) (x₁ : Rest) (n₁ : ℕ) → Like f mem before w₁ x₁ → Kept f w₁
+        → Leads r since bound g (twin w x) 1 g (twin w₁ x₁) → (x₁ .read ≡ x .read) × (x₁ .status ≡ x .status)
+        → Path f may w₁ n₁ w′ → suc n₁ ≤ n → (x .busy ≡ w .busy → (x₁ .busy ≡ w₁ .busy) × (suc n₁ ≡ n))
+        → Next w x n w′
 
-  once : {w w₁ w′ : View} {n : ℕ} (x : Rest) → One w x w₁ → w₁ ≡ w′ → n ≡ 1 → Followed w x n w′
-  once {w} {w′ = w′} {n = n} x o e z = subst (λ (y : View). Followed w x n y) e (record {
-    steps = 1;
-    fewer = omega arith;
-    rest = o .rest;
-    like = o .like;
-    leads = o .leads;
-  })
+  once : {w w₁ w′ : View} {n : ℕ} (x : Rest) → One w x w₁ → Kept f w₁ → w₁ ≡ w′ → n ≡ 1 → Next w x n w′
+  once {w₁ = w₁} x o k e z =
+      onward w₁ (o .rest) 0 (o .like) k (o .leads) (o .keyboard) (stays e refl) (omega arith)
+      (λ same. (o .counts same, omega arith))
 
-  stayed : {w w′ : View} {n : ℕ} (x : Rest) → Like f mem before w x → w ≡ w′ → Followed w x n w′
-  stayed {w} {w′ = w′} {n = n} x l e = subst (λ (y : View). Followed w x n y) e (record {
-    steps = 0;
-    fewer = omega arith;
-    rest = x;
-    like = l;
-    leads = no-step g (twin w x);
-  })
+  stayed : {w w′ : View} {n : ℕ} (x : Rest) → Like f mem before w x → w ≡ w′ → n ≡ 0 → Next w x n w′
+  stayed {w} {n = n} x l e z = subst (λ (y : View). Next w x n y) e
+      (arrived x l (no-step g (twin w x)) (refl, refl) (λ same. (same, z)))
 
   knew : {w w′ : View} {n : ℕ} (x : Rest) → Like f mem before w x → (c : Known) → codesNumber (w .codes) ≡ codesNumber c
-      → within w (w .regs) (w .pc) c (w .busy) ≡ w′ → Followed w x n w′
-  knew {w} {n = n} x l c codes e = subst (λ (y : View). Followed w x n y) e (record {
-    steps = 0;
-    fewer = omega arith;
-    rest = x;
-    like = record { fine = l .fine; bytes = l .bytes; busy = l .busy; slots = l .slots };
-    leads = recoded g (twin w x) (w .codes) c codes;
-  })
+      → within w (w .regs) (w .pc) c (w .busy) ≡ w′ → n ≡ 0 → Next w x n w′
+  knew {w} {n = n} x l c codes e z = subst (λ (y : View). Next w x n y) e
+      (arrived x (record { fine = l .fine; bytes = l .bytes; busy = l .busy; slots = l .slots })
+      (recoded g (twin w x) (w .codes) c codes) (refl, refl) (λ same. (same, z)))
 
   made : {w w′ : View} {n : ℕ} (x : Rest) → Like f mem before w x → Kept f w → (room : ℕ) → room ≤ length (f .output)
-      → mayStep f room w ≡ true → calm f w ≡ true → stepped f w ≡ w′ → n ≡ 1 → Followed w x n w′
+      → mayStep f room w ≡ true → calm f w ≡ true → stepped f w ≡ w′ → n ≡ 1 → Next w x n w′
   unfolding stepped mayStep calm planAt
   made {w} x l k room has-room steps calms e z =
       let outer = both-true (eqb (w .mcr) 0x8000) (cellsFine (f .words) (w .cells) && mayUse f w room (useAt f w)) steps
@@ -366,96 +374,164 @@ module _ {r : Start} {since bound : ℕ} (quiet : Quiet r since bound) (f : Fram
       let calmed = both-true (usable f (w .pc)) (calmUse f w (useAt f w)) calms in
       once x
       (by-this-use w x l k (eqb-true (w .mcr) 0x8000 (outer .0)) (calmed .0) room has-room (useAt f w) refl (inner .1)
-      (calmed .1)) e z
+      (calmed .1)) (keeps-once f room w k steps) e z
 
   fetched : {w w′ : View} {n : ℕ} (x : Rest) → Like f mem before w x → Kept f w → w .mcr ≡ 0x8000
       → usable f (w .pc) ≡ true → (a y : ℕ) → may a ≡ true → Readable (f .words) (f .sp) a
       → planAt f w ≡ Load 1 (wrap (a + 0)) → getD (f .memory) a 0 ≡ y → valued w 1 y (next (w .pc)) ≡ w′ → n ≡ 1
-      → Followed w x n w′
+      → Next w x n w′
   fetched {w} x l k going own a y ok readable plan is e z =
       once x (record {
         rest = less x;
         like = like-less w x l (valued w 1 y (next (w .pc))) refl refl refl refl;
         leads = gets-word quiet g sound (twin w x) going (l .fine) a y readable (own-plan w x own ∙ plan)
             (same-word a ok ∙ is);
+        keyboard = (refl, refl);
+        counts = λ same. rw same;
       })
-      e z
+      (other f w k 1 y refl (valued w 1 y (next (w .pc))) refl refl) e z
 
-  -- A display that has had time is waited for no longer.
-  no-longer : (b c : ℕ) → b ≤ c → waitSteps b ≤ waitSteps c
+  -- ---- the wait for the display
+
+  two-at-least : (busy : ℕ) → 2 ≤ waitSteps busy
   unfolding waitSteps
-  no-longer zero zero h = omega arith
-  no-longer zero (suc zero) h = omega arith
-  no-longer zero (suc (suc c)) h = omega (arith, no-longer zero c (omega arith))
-  no-longer (suc zero) zero h = absurd (omega arith)
-  no-longer (suc zero) (suc zero) h = omega arith
-  no-longer (suc zero) (suc (suc c)) h = omega (arith, no-longer zero c (omega arith))
-  no-longer (suc (suc b)) zero h = absurd (omega arith)
-  no-longer (suc (suc b)) (suc zero) h = absurd (omega arith)
-  no-longer (suc (suc b)) (suc (suc c)) h = omega (arith, no-longer b c (omega arith))
+  two-at-least zero = omega arith
+  two-at-least (suc zero) = omega arith
+  two-at-least (suc (suc busy)) = omega arith
 
-  module _ (u : View) (x : Rest) (d pc : ℕ) (p : Polls f u d pc) where
+  one-turn : (busy : ℕ) → waitSteps (suc busy) ≡ 2 + waitSteps (busy - 1)
+  unfolding waitSteps
+  one-turn zero = refl
+  one-turn (suc busy) = let z : suc busy - 1 ≡ busy = omega arith in rw z
+
+  module _ (u : View) (going : u .mcr ≡ 0x8000) (fine : cellsFine (f .words) (u .cells) ≡ true) (d pc : ℕ)
+      (p : Polls f u d pc) (x : Rest) where
     abbrev at-count : ℕ → Rest
     at-count b = record { cells = x .cells; bytes = x .bytes; busy = b; read = x .read; status = x .status }
 
-    polls-too : Polls g (twin u x) d pc
-    polls-too =
+    own : (usable f pc ≡ true) × (usable f (next pc) ≡ true) × (usable f (p .pointer) ≡ true)
+    own =
         let outer = both-true (usable f pc) (usable f (next pc) && usable f (p .pointer)) (p .own) in
         let inner = both-true (usable f (next pc)) (usable f (p .pointer)) (outer .1) in
+        (outer .0, inner .0, inner .1)
+
+    abbrev ready : List ℕ → View
+    ready regs = within u (withRegister regs d 0x8000) (next (next pc)) (from 0x8000) 0
+
+    -- LDI, one step, finds this.
+    polled : (regs : List ℕ) (c : Known) (y : ℕ) → cond (eqb (x .busy) 0) 0x8000 0 ≡ y
+        → cellsFine (f .words) (x .cells) ≡ true
+        → Leads r since bound g (within (twin u x) regs pc c (x .busy)) 1 g
+        (within (twin u x) (withRegister regs d y) (next pc) (from y) (x .busy - 1))
+    polled regs c y finds all-fine =
         let parts = both-true (isPlain (p .pointer)) (eqb (wordAt f u (p .pointer)) DSR) (p .display) in
-        record {
-          pointer = p .pointer;
-          loads = λ regs c b. own-plan (within u regs pc c b) (at-count b) (outer .0) ∙ p .loads regs c b;
-          display = rw (parts .0, own-word u (twin u x) (p .pointer) (inner .1), parts .1);
-          branches = λ regs c b. own-plan (within u regs (next pc) c b) (at-count b) (inner .0) ∙ p .branches regs c b;
-          own = p .own;
-          other = p .other;
-        }
+        rw finds at (by-plan quiet g sound 0 (omega arith) (within (twin u x) regs pc c (x .busy)) going all-fine
+        (LoadBy d (p .pointer))
+        (own-plan (within u regs pc c (x .busy)) x (own .0) ∙ p .loads regs c (x .busy))
+        (rw (parts .0, own-word u (twin u x) (p .pointer) (own .2), parts .1)))
 
-    attended : u .mcr ≡ 0x8000 → (busy : ℕ) (regs : List ℕ) (c : Known)
+    -- BRzp, after LDI found this.
+    branch : (regs : List ℕ) (busy y to : ℕ)
+        → cond (isTaken 3 (codesFor (from y) (Br 3 (negsuc 1)))) pc (next (next pc)) ≡ to
+        → Path f may (within u regs (next pc) (from y) busy) 1 (within u regs to (from y) (busy - 1))
+    branch regs busy y to goes =
+        jumps {v = within u regs (next pc) (from y) busy} going fine (own .1) to
+        (p .branches regs (from y) busy ∙ ap (λ (a : ℕ). Jump a) goes) refl refl
+
+    polled-kept : (regs : List ℕ) (c : Known) (busy y to busy′ : ℕ) → Kept f (within u regs pc c busy)
+        → Kept f (within u (withRegister regs d y) to (from y) busy′)
+    polled-kept regs c busy y to busy′ k =
+        other f (within u regs pc c busy) k d y (p .other) (within u (withRegister regs d y) to (from y) busy′) refl
+        refl
+
+    -- The display is ready, whatever the way's count is.
+    finds-ready : (regs : List ℕ) (c : Known) (busy : ℕ) → x .busy ≡ 0
+        → Like f mem before (within u regs pc c busy) x → Kept f (within u regs pc c busy)
+        → Next (within u regs pc c busy) x (waitSteps busy) (ready regs)
+    unfolding isTaken codesOf andBits
+    finds-ready regs c busy none l k =
+        onward (within u (withRegister regs d 0x8000) (next pc) (from 0x8000) 0) (less x) 1
+        (record { fine = l .fine; bytes = l .bytes; busy = omega arith; slots = l .slots })
+        (polled-kept regs c busy 0x8000 (next pc) 0 k)
+        (polled regs c 0x8000 (ap (λ (b : Bool). cond {A = ℕ} b 0x8000 0) (eq-eqb (x .busy) 0 none)) (l .fine))
+        (refl, refl) (branch (withRegister regs d 0x8000) 0 0x8000 (next (next pc)) refl)
+        (omega (arith, two-at-least busy)) (λ same. (omega arith, exact (sym same ∙ none)))
+      where
+        exact : busy ≡ 0 → 2 ≡ waitSteps busy
+        exact e = unfold waitSteps in rw e
+
+    -- It is busy.
+    finds-busy : (regs : List ℕ) (c : Known) (b busy : ℕ) → x .busy ≡ suc b
+        → Like f mem before (within u regs pc c (suc busy)) x → Kept f (within u regs pc c (suc busy))
+        → Next (within u regs pc c (suc busy)) x (waitSteps (suc busy)) (ready regs)
+    unfolding isTaken codesOf andBits
+    finds-busy regs c b busy some l k =
+        let regs′ : List ℕ = withRegister regs d 0 in
+        let found : cond {A = ℕ} (eqb (x .busy) 0) 0x8000 0 ≡ 0 =
+        ap (λ (t : Bool). cond {A = ℕ} t 0x8000 0) (ne-eqb (x .busy) 0 (λ q. absurd (omega arith))) in
+        let same : withRegister regs′ d 0x8000 ≡ withRegister regs d 0x8000 = set-set regs (d % 8) 0 0x8000 in
+        let turn = one-turn busy in
+        onward (within u regs′ (next pc) (from 0) busy) (less x) (1 + waitSteps (busy - 1))
+        (record { fine = l .fine; bytes = l .bytes; busy = omega (arith, l .busy); slots = l .slots })
+        (polled-kept regs c (suc busy) 0 (next pc) busy k) (polled regs c 0 found (l .fine)) (refl, refl)
+        (joins (within u regs′ pc (from 0) (busy - 1)) 1 (waitSteps (busy - 1)) (branch regs′ busy 0 pc refl)
+        (subst (λ (rs : List ℕ). Path f may (within u regs′ pc (from 0) (busy - 1)) (waitSteps (busy - 1))
+        (within u rs (next (next pc)) (from 0x8000) 0)) same
+        (attends u going fine d pc p (busy - 1) regs′ (from 0) refl refl refl)) refl)
+        (omega arith) (λ e. (omega arith, omega arith))
+
+    polls-once : (regs : List ℕ) (c : Known) (busy b : ℕ) → x .busy ≡ b
         → Like f mem before (within u regs pc c busy) x
-        → Followed (within u regs pc c busy) x (waitSteps busy)
-        (within u (withRegister regs d 0x8000) (next (next pc)) (from 0x8000) 0)
-    attended going busy regs c l = record {
-      steps = waitSteps (x .busy);
-      fewer = no-longer (x .busy) busy (l .busy);
-      rest = at-count 0;
-      like = record { fine = l .fine; bytes = l .bytes; busy = omega arith; slots = l .slots };
-      leads = waits quiet g sound (twin u x) going (l .fine) d pc polls-too (x .busy) regs c;
-    }
+        → Kept f (within u regs pc c busy) → Next (within u regs pc c busy) x (waitSteps busy) (ready regs)
+    polls-once regs c busy zero e l k = finds-ready regs c busy e l k
+    polls-once regs c zero (suc b) e l k = absurd (omega (arith, l .busy))
+    polls-once regs c (suc busy) (suc b) e l k = finds-busy regs c b busy e l k
 
-  waited : {w w′ : View} {n : ℕ} (x : Rest) → Like f mem before w x → (u : View) → u .mcr ≡ 0x8000 → (d pc : ℕ)
+  waited : {w w′ : View} {n : ℕ} (x : Rest) → Like f mem before w x → Kept f w → (u : View) → u .mcr ≡ 0x8000
+      → cellsFine (f .words) (u .cells) ≡ true → (d pc : ℕ)
       → Polls f u d pc → (busy : ℕ) (regs : List ℕ) (c : Known) → within u regs pc c busy ≡ w
       → within u (withRegister regs d 0x8000) (next (next pc)) (from 0x8000) 0 ≡ w′ → n ≡ waitSteps busy
-      → Followed w x n w′
-  waited {w} {w′} {n} x l u going d pc p busy regs c first last z =
-      subst (λ (m : ℕ). Followed w x m w′) (sym z)
-      (subst (λ (y : View). Followed w x (waitSteps busy) y) last
-      (subst (λ (y : View). Followed y x (waitSteps busy)
+      → Next w x n w′
+  waited {w} {w′} {n} x l k u going fine d pc p busy regs c first last z =
+      subst (λ (m : ℕ). Next w x m w′) (sym z)
+      (subst (λ (y : View). Next w x (waitSteps busy) y) last
+      (subst (λ (y : View). Next y x (waitSteps busy)
       (within u (withRegister regs d 0x8000) (next (next pc)) (from 0x8000) 0)) first
-      (attended u x d pc p going busy regs c (subst (λ (y : View). Like f mem before y x) (sym first) l))))
+      (polls-once u going fine d pc p x regs c busy (x .busy) refl
+      (subst (λ (y : View). Like f mem before y x) (sym first) l) (subst (λ (y : View). Kept f y) (sym first) k))))
 
-  both : {w w₁ w′ : View} {i j n : ℕ} (x : Rest) → (a : Followed w x i w₁) → Followed w₁ (a .rest) j w′ → i + j ≡ n
-      → Followed w x n w′
-  both x a b z = record {
-    steps = a .steps + b .steps;
-    fewer = omega (arith, a .fewer, b .fewer);
-    rest = b .rest;
-    like = b .like;
-    leads = then (a .leads) (b .leads);
-  }
+  -- ---- one way after the other
 
-  pub follows : {w w′ : View} {n : ℕ} → Path f may w n w′ → Kept f w → (x : Rest) → Like f mem before w x
-      → Followed w x n w′
-  follows (stays e z) k x l = stayed x l e
-  follows (knows c codes e z) k x l = knew x l c codes e
-  follows (makes room has-room k₀ steps calms e z) k x l = made x l k room has-room steps calms e z
-  follows {w} (jumps going fine own pc plan e z) k x l =
-      once x (by-this-plan w x l k going own 0 (omega arith) (Jump pc) plan refl refl) e z
-  follows (fetches going fine own a y ok readable plan is e z) k x l =
+  second-too : {w w₁ w′ : View} {i j n : ℕ} {x x₁ : Rest} → Leads r since bound g (twin w x) 0 g (twin w₁ x₁)
+      → (x₁ .read ≡ x .read) × (x₁ .status ≡ x .status)
+      → (x .busy ≡ w .busy → (x₁ .busy ≡ w₁ .busy) × (i ≡ 0)) → i + j ≡ n → Next w₁ x₁ j w′ → Next w x n w′
+  second-too first keys counts z (arrived x′ l leads keys′ counts′) =
+      arrived x′ l (then first leads) (keys′ .0 ∙ keys .0, keys′ .1 ∙ keys .1)
+      (λ same. let a = counts same in let b = counts′ (a .0) in
+      (b .0, (let p = a .1 in let q = b .1 in omega (arith, p, q))))
+  second-too first keys counts z (onward w₂ x₂ n₂ l k leads keys′ path fewer counts′) =
+      onward w₂ x₂ n₂ l k (then first leads) (keys′ .0 ∙ keys .0, keys′ .1 ∙ keys .1) path (omega arith)
+      (λ same. let a = counts same in let b = counts′ (a .0) in
+      (b .0, (let p = a .1 in let q = b .1 in omega (arith, p, q))))
+
+  both : {w w₁ w′ : View} {i j n : ℕ} {x : Rest} → Next w x i w₁ → Path f may w₁ j w′ → i + j ≡ n
+      → ((x₁ : Rest) → Like f mem before w₁ x₁ → Next w₁ x₁ j w′) → Next w x n w′
+  both (arrived x′ l leads keys counts) second z rest = second-too leads keys counts z (rest x′ l)
+  both {w₁ = w₁} {j = j} (onward w₂ x₂ n₂ l k leads keys path fewer counts) second z rest =
+      onward w₂ x₂ (n₂ + j) l k leads keys (joins w₁ n₂ j path second refl) (omega arith)
+      (λ same. let a = counts same in (a .0, (let p = a .1 in omega (arith, p))))
+
+  pub goes : {w w′ : View} {n : ℕ} → Path f may w n w′ → Kept f w → (x : Rest) → Like f mem before w x
+      → Next w x n w′
+  goes (stays e z) k x l = stayed x l e z
+  goes (knows c codes e z) k x l = knew x l c codes e z
+  goes (makes room has-room k₀ steps calms e z) k x l = made x l k room has-room steps calms e z
+  goes {w} (jumps going fine own pc plan e z) k x l =
+      once x (by-this-plan w x l k going own 0 (omega arith) (Jump pc) plan refl refl)
+      (same f w k (changed w (w .regs) pc (w .codes) (w .cells)) refl refl) e z
+  goes (fetches going fine own a y ok readable plan is e z) k x l =
       fetched x l k going own a y ok readable plan is e z
-  follows (attends u going fine d pc p busy regs c first last z) k x l =
-      waited x l u going d pc p busy regs c first last z
-  follows (joins w i j first second z) k x l =
-      let a = follows first k x l in
-      both x a (follows second (keeps first k) (a .rest) (a .like)) z
+  goes (attends u going fine d pc p busy regs c first last z) k x l =
+      waited x l k u going fine d pc p busy regs c first last z
+  goes (joins w i j first second z) k x l =
+      both (goes first k x l) second z (λ x₁ l₁. goes second (keeps first k) x₁ l₁)

@@ -133,7 +133,7 @@ module _ (user : Bool) (s : Start) (n t : ℕ) (c : Calls 0x20 getcCode 2 user s
 
 -- ---- which key
 
-pub still-ready : (keys : List ℕ) (kbsr : ℕ) → 0x8000 ≤ kbsr → 0x8000 ≤ readyAfter keys kbsr
+still-ready : (keys : List ℕ) (kbsr : ℕ) → 0x8000 ≤ kbsr → 0x8000 ≤ readyAfter keys kbsr
 unfolding readyAfter
 still-ready [] kbsr h = h
 still-ready (b ∷ keys) kbsr h = still-ready keys (kbsr % 0x8000 + 0x8000) (omega arith)
@@ -149,18 +149,32 @@ some-arrived [] n kbsr l m = absurd (omega arith)
 some-arrived (b ∷ keys) zero kbsr l m = absurd (omega arith)
 some-arrived (b ∷ keys) (suc n) kbsr l m = still-ready (take n keys) (kbsr % 0x8000 + 0x8000) (omega arith)
 
+-- Polls from step i on find the first key to arrive.
+pub arrives-at : (s : Start) (i w : ℕ) (times : List ℕ) → s .machine .devices .kbsr < 0x8000 → 0 < length (s .bytes)
+    → s .times ≡ (s .machine .clock + w) ∷ times → KeyComes s i ((w - i + 1) / 2)
+unfolding keysBefore
+arrives-at s i w times idle some first = record {
+  none = λ j h.
+      let e : arrivedBy s (suc (i + 2 * j)) ≡ 0 =
+      rw first (rw (le-ltb (s .machine .clock + w) (s .machine .clock + suc (i + 2 * j)) (omega arith))) in
+      rw (none-yet s (suc (i + 2 * j)) e) idle;
+  comes =
+      some-arrived (s .bytes) (arrivedBy s (suc (i + 2 * ((w - i + 1) / 2)))) (s .machine .devices .kbsr)
+      (rw first
+      (rw (lt-ltb (s .machine .clock + w) (s .machine .clock + suc (i + 2 * ((w - i + 1) / 2))) (omega arith))
+      (omega arith))) some;
+}
+
 arrives : (s : Start) (w : ℕ) (times : List ℕ) → s .machine .devices .kbsr < 0x8000 → 0 < length (s .bytes)
     → s .times ≡ (s .machine .clock + w) ∷ times → KeyComes s 1 (w / 2)
-unfolding keysBefore
-arrives s w times idle some first = record {
-  none = λ j h.
-      let e : arrivedBy s (suc (1 + 2 * j)) ≡ 0 =
-      rw first (rw (le-ltb (s .machine .clock + w) (s .machine .clock + suc (1 + 2 * j)) (omega arith))) in
-      rw (none-yet s (suc (1 + 2 * j)) e) idle;
-  comes =
-      some-arrived (s .bytes) (arrivedBy s (suc (1 + 2 * (w / 2)))) (s .machine .devices .kbsr)
-      (rw first (rw (lt-ltb (s .machine .clock + w) (s .machine .clock + suc (1 + 2 * (w / 2))) (omega arith))
-      (omega arith))) some;
+arrives s w times idle some first =
+    let z : (w - 1 + 1) / 2 ≡ w / 2 = omega arith in
+    rw z at (arrives-at s 1 w times idle some first)
+
+pub ready-at : (s : Start) (i : ℕ) → 0x8000 ≤ s .machine .devices .kbsr → KeyComes s i 0
+ready-at s i h = record {
+  none = λ j l. absurd (omega arith);
+  comes = still-ready (take (arrivedBy s (suc (i + 2 * 0))) (s .bytes)) (s .machine .devices .kbsr) h;
 }
 
 arrived-key : (s : Start) (j b : ℕ) (bytes : List ℕ) → s .bytes ≡ b ∷ bytes → arrivedBy s (suc j) ≡ 1 → keyAt s j ≡ b
@@ -191,10 +205,7 @@ getc-reads = record {
       let x = eight (s .machine .regs) (c .begins .registers) in
       rw (all-steps user s n t c key le none x, z) at (getc-resumes user s n t c key le none x);
   is-byte = is-byte;
-  ready = λ s h. record {
-    none = λ j l. absurd (omega arith);
-    comes = still-ready (take (arrivedBy s (suc (1 + 2 * 0))) (s .bytes)) (s .machine .devices .kbsr) h;
-  };
+  ready = λ s h. ready-at s 1 h;
   ready-key = ready-key;
   arrives = arrives;
   arrived-key = arrived-key;

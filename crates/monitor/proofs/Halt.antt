@@ -1,5 +1,5 @@
 -- HALT: seven steps after the trap, at which the display is ready whatever its count was; a byte and the wait for the
--- next, seven times; and the way to STOP.
+-- next, six times; the last byte; and the way to STOP.
 use Prim.Native.Nat.{ℕ, _+_, _-_, _*_, _/_, _%_, _≤_, _<_}
 use native.Mathlib.Omega.{arith}
 use mathlib.Core.Path.{_≡_, refl, subst}
@@ -19,7 +19,7 @@ use Rattle.monitor.proofs.Intact.{cellsFine}
 use Rattle.monitor.proofs.Instructions.{kept, steppedBy, computing}
 use Rattle.monitor.proofs.Entries.{calledFrame, Polls}
 use Rattle.monitor.proofs.Calls.{begins-sound, quiet-steps, Eight, eight, begun, routine-begins, halts}
-use Rattle.monitor.proofs.Paths.{calm, calmly, Path, attends, then, treads, walks}
+use Rattle.monitor.proofs.Paths.{calm, calmly, Path, attends, then, treads, turnedBy, mayTurns, turns, walks}
 
 -- The display is ready after eight steps.
 pub eight-later : (busy : ℕ) → busy ≤ 8 → busy - 1 - 1 - 1 - 1 - 1 - 1 - 1 - 1 ≡ 0
@@ -62,9 +62,9 @@ module _ (user : Bool) (s : Start) (x : Eight (s .machine .regs)) (few : s .mach
   abbrev left : ℕ
   left = s .machine .devices .busy - 1 - 1 - 1 - 1 - 1 - 1 - 1 - 1
 
-  polls : (a r₁ r₂ : ℕ) (c : Known) (bytes : List ℕ) (busy : ℕ) → Polls f (W a r₁ r₂ 0x0274 c bytes busy) 2 0x0274
+  polls : (u : View) → Polls f u 2 0x0274
   unfolding computing
-  polls a r₁ r₂ c bytes busy = record {
+  polls u = record {
     pointer = 0x0282;
     loads = λ r c b. refl;
     display = refl;
@@ -73,81 +73,30 @@ module _ (user : Bool) (s : Start) (x : Eight (s .machine .regs)) (few : s .mach
     other = refl;
   }
 
-  waits : (a r₁ r₂ : ℕ) (c : Known) (bytes : List ℕ) (busy : ℕ)
-      → Path f may (W a r₁ r₂ 0x0274 c bytes busy) (waitSteps busy) (W a r₁ 0x8000 0x0276 (from 0x8000) bytes 0)
-  waits a r₁ r₂ c bytes busy =
-      attends (W a r₁ r₂ 0x0274 c bytes busy) refl refl 2 0x0274 (polls a r₁ r₂ c bytes busy) busy
-      (W a r₁ r₂ 0x0274 c bytes busy .regs) c refl refl refl
-
   to-poll : Path f may (begun s x 0x026D (next (s .machine .pc))) 7 (W 0x029D 0x48 (x .r₂) 0x0274 (from 0x48) [] left)
   unfolding computing calm calmly
   to-poll =
       treads f may 0 (omega arith) 7 (begun s x 0x026D (next (s .machine .pc))) (kept refl refl refl) refl refl
 
-  to-first : Path f may (begun s x 0x026D (next (s .machine .pc))) 9
-      (W 0x029D 0x48 0x8000 0x0276 (from 0x8000) [] 0)
+  abbrev ready : View
+  ready = W 0x029D 0x48 0x8000 0x0276 (from 0x8000) [] 0
+
+  to-first : Path f may (begun s x 0x026D (next (s .machine .pc))) 9 ready
   unfolding waitSteps
   to-first =
+      let front : View = W 0x029D 0x48 (x .r₂) 0x0274 (from 0x48) [] 0 in
       then
       (subst (λ (busy : ℕ). Path f may (begun s x 0x026D (next (s .machine .pc))) 7
       (W 0x029D 0x48 (x .r₂) 0x0274 (from 0x48) [] busy)) (eight-later (s .machine .devices .busy) few) to-poll)
-      (waits 0x029D 0x48 (x .r₂) (from 0x48) [] 0)
+      (attends front refl refl 2 0x0274 (polls front) 0 (front .regs) (from 0x48) refl refl refl)
 
-  -- STI, ADD, BRnzp, LDR, BRz, and the wait: a character is shown, and the next stands in R1.
-  abbrev Shows : ℕ → ℕ → List ℕ → ℕ → List ℕ → Type 0
-  Shows a r₁ bytes r₁′ bytes′ =
-      Path f may (W a r₁ 0x8000 0x0276 (from 0x8000) bytes 0) 11
-      (W (1 + a) r₁′ 0x8000 0x0276 (from 0x8000) bytes′ 0)
-
-  first : Shows 0x029D 0x48 [] 0x61 (0x48 ∷ [])
-  unfolding computing calm calmly waitSteps
-  first =
-      then
-      (treads f may 7 room 5 (W 0x029D 0x48 0x8000 0x0276 (from 0x8000) [] 0) (kept refl refl refl) refl refl)
-      (waits 0x029E 0x61 0x8000 (from 0x61) (0x48 ∷ []) 4)
-
-  second : Shows 0x029E 0x61 (0x48 ∷ []) 0x6C (0x48 ∷ 0x61 ∷ [])
-  unfolding computing calm calmly waitSteps
-  second =
-      then
-      (treads f may 7 room 5 (W 0x029E 0x61 0x8000 0x0276 (from 0x8000) (0x48 ∷ []) 0) (kept refl refl refl) refl refl)
-      (waits 0x029F 0x6C 0x8000 (from 0x6C) (0x48 ∷ 0x61 ∷ []) 4)
-
-  third : Shows 0x029F 0x6C (0x48 ∷ 0x61 ∷ []) 0x74 (0x48 ∷ 0x61 ∷ 0x6C ∷ [])
-  unfolding computing calm calmly waitSteps
-  third =
-      then
-      (treads f may 7 room 5 (W 0x029F 0x6C 0x8000 0x0276 (from 0x8000) (0x48 ∷ 0x61 ∷ []) 0) (kept refl refl refl) refl
-      refl)
-      (waits 0x02A0 0x74 0x8000 (from 0x74) (0x48 ∷ 0x61 ∷ 0x6C ∷ []) 4)
-
-  fourth : Shows 0x02A0 0x74 (0x48 ∷ 0x61 ∷ 0x6C ∷ []) 0x65 (0x48 ∷ 0x61 ∷ 0x6C ∷ 0x74 ∷ [])
-  unfolding computing calm calmly waitSteps
-  fourth =
-      then
-      (treads f may 7 room 5 (W 0x02A0 0x74 0x8000 0x0276 (from 0x8000) (0x48 ∷ 0x61 ∷ 0x6C ∷ []) 0)
-      (kept refl refl refl) refl refl)
-      (waits 0x02A1 0x65 0x8000 (from 0x65) (0x48 ∷ 0x61 ∷ 0x6C ∷ 0x74 ∷ []) 4)
-
-  fifth : Shows 0x02A1 0x65 (0x48 ∷ 0x61 ∷ 0x6C ∷ 0x74 ∷ []) 0x64 (0x48 ∷ 0x61 ∷ 0x6C ∷ 0x74 ∷ 0x65 ∷ [])
-  unfolding computing calm calmly waitSteps
-  fifth =
-      then
-      (treads f may 7 room 5 (W 0x02A1 0x65 0x8000 0x0276 (from 0x8000) (0x48 ∷ 0x61 ∷ 0x6C ∷ 0x74 ∷ []) 0)
-      (kept refl refl refl) refl refl)
-      (waits 0x02A2 0x64 0x8000 (from 0x64) (0x48 ∷ 0x61 ∷ 0x6C ∷ 0x74 ∷ 0x65 ∷ []) 4)
-
-  sixth : Shows 0x02A2 0x64 (0x48 ∷ 0x61 ∷ 0x6C ∷ 0x74 ∷ 0x65 ∷ []) 0x0A
-      (0x48 ∷ 0x61 ∷ 0x6C ∷ 0x74 ∷ 0x65 ∷ 0x64 ∷ [])
-  unfolding computing calm calmly waitSteps
-  sixth =
-      then
-      (treads f may 7 room 5 (W 0x02A2 0x64 0x8000 0x0276 (from 0x8000) (0x48 ∷ 0x61 ∷ 0x6C ∷ 0x74 ∷ 0x65 ∷ []) 0)
-      (kept refl refl refl) refl refl)
-      (waits 0x02A3 0x0A 0x8000 (from 0x0A) (0x48 ∷ 0x61 ∷ 0x6C ∷ 0x74 ∷ 0x65 ∷ 0x64 ∷ []) 4)
-
+  -- Six characters are shown, each by STI, ADD, BRnzp, LDR and BRz, with the wait for the next; the last stands in R1.
   abbrev last : View
   last = W 0x02A3 0x0A 0x8000 0x0276 (from 0x8000) (0x48 ∷ 0x61 ∷ 0x6C ∷ 0x74 ∷ 0x65 ∷ 0x64 ∷ []) 0
+
+  to-last : Path f may ready 66 last
+  unfolding computing calm calmly turnedBy mayTurns
+  to-last = turns f may 7 room 2 0x0274 polls 6 ready (kept refl refl refl) refl
 
   -- In front of STOP, with the registers restored; and halted.
   pub restored : View
@@ -159,20 +108,15 @@ module _ (user : Bool) (s : Start) (x : Eight (s .machine .regs)) (few : s .mach
   pub way : Path f may (begun s x 0x026D (next (s .machine .pc))) 83 restored
   unfolding restored computing calm calmly
   way =
-      then to-first
-      (then first
-      (then second
-      (then third
-      (then fourth
-      (then fifth (then sixth (treads f may 7 room 8 last (kept refl refl refl) refl refl)))))))
+      then to-first (then to-last (treads f may 7 room 8 last (kept refl refl refl) refl refl))
 
   pub to-stop : Path f may restored 2 stopped
   unfolding stopped restored computing calm calmly
   to-stop = treads f may 0 (omega arith) 2 restored (kept refl refl refl) refl refl
 
-  pub in-front : (cellsFine 5 (restored .cells) ≡ true) × (restored .depth ≡ 5)
+  pub in-front : (cellsFine 5 (restored .cells) ≡ true) × (restored .depth ≡ 5) × (restored .pc ≡ 0x027C)
   unfolding restored computing
-  in-front = (refl, refl)
+  in-front = (refl, refl, refl)
 
   pub registers-then : stopped .regs ≡ set (s .machine .regs) 6 0x2FFE
   unfolding stopped restored computing

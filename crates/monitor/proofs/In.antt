@@ -32,7 +32,7 @@ module _ (user : Bool) (s : Start) (x : Eight (s .machine .regs)) where
   f = calledFrame uses 4 user s
 
   -- R0, R1, R2, PC, codes, bytes, busy count and what is known of the keyboard are all that changes.
-  abbrev W : ℕ → ℕ → ℕ → ℕ → Known → List ℕ → ℕ → ℕ → ℕ → View
+  abbrev pub W : ℕ → ℕ → ℕ → ℕ → Known → List ℕ → ℕ → ℕ → ℕ → View
   W r₀ r₁ r₂ pc c bytes busy read status = record {
     regs = r₀ ∷ r₁ ∷ r₂ ∷ x .r₃ ∷ x .r₄ ∷ x .r₅ ∷ (stackOf (s .machine) - 4) ∷ x .r₇ ∷ [];
     pc = pc;
@@ -54,13 +54,13 @@ module _ (user : Bool) (s : Start) (x : Eight (s .machine .regs)) where
   kbsr = s .machine .devices .kbsr
 
   -- the first poll of DSR, and the first of KBSR
-  abbrev polling : ℕ → View
+  abbrev pub polling : ℕ → View
   polling busy = W 0x0289 0x0049 (x .r₂) 0x022E (from 0x0049) [] busy 0 kbsr
 
-  abbrev waiting : View
+  abbrev pub waiting : View
   waiting = W 0x029C 0 0x8000 0x0233 (from 0) prompt 4 0 kbsr
 
-  abbrev left : ℕ
+  abbrev pub left : ℕ
   left = s .machine .devices .busy - 1 - 1 - 1 - 1 - 1 - 1 - 1
 
   polls : Polls f (polling left) 2 0x022E
@@ -129,7 +129,7 @@ module _ (user : Bool) (s : Start) (x : Eight (s .machine .regs)) where
           runs quiet f sound 20 room 4 (W key 0x8000 0x8000 0x0238 (from 0x8000) prompt 0 read status)
           (kept refl refl refl) refl
 
-seven-less : (b : ℕ) → b - 1 - 1 - 1 - 1 - 1 - 1 - 1 ≡ b - 7
+pub seven-less : (b : ℕ) → b - 1 - 1 - 1 - 1 - 1 - 1 - 1 ≡ b - 7
 seven-less b = ap (λ (n : ℕ). n - 1 - 1 - 1 - 1) (three b) ∙ four b
   where
     three : (b : ℕ) → b - 1 - 1 - 1 ≡ b - 3

@@ -75,9 +75,10 @@ module _ (user : Bool) (s : Start) (x : Eight (s .machine .regs)) where
         returning
     routine = then to-poll (then to-ready to-return)
 
-  pub ends : Ends uses 3 user s returning
+  pub ends : Ends uses 3 user s 0x020B returning
   unfolding returning ready polling computing
   ends = record {
+    there = refl;
     returns = record { plan = refl; six = refl; pc = refl; psr = refl; fine = refl; going = refl };
     own = refl;
     pc-stored = refl;

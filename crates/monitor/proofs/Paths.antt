@@ -1,11 +1,11 @@
 -- The way through a routine, apart from any run: its steps one after the other, with what each of them rests on. A run
 -- that stands where the way begins, and takes no interrupt, comes to where it ends; and the way can be left anywhere.
-use Prim.Native.Nat.{ℕ, zero, suc, _+_, _-_, _≤_, _<_}
+use Prim.Native.Nat.{ℕ, zero, suc, _+_, _-_, _*_, _≤_, _<_}
 use native.Mathlib.Omega.{arith}
 use mathlib.Core.Path.{_≡_, refl, sym, subst, _∙_}
 use mathlib.Core.Bool.{Bool, true, false, _&&_, _||_}
 use mathlib.Core.List.{List, [], _∷_}
-use borrow.Author.Tests.{lt-ltb}
+use borrow.Author.Tests.{lt-ltb, eqb-true}
 use lib.Dec.{eqb, leb, ltb}
 use lib.ListN.{length, getD}
 use lib.Seq.{getD-set-other}
@@ -23,7 +23,7 @@ use Rattle.monitor.proofs.Execution.{then as thenLeads}
 use Rattle.monitor.proofs.Intact.{cellsFine, cells-fine, usable, wordAt}
 use Rattle.monitor.proofs.Instructions.{Sound, planAt, changed, valued, Use, loadsSlot, storesSlot, movesStack}
 use Rattle.monitor.proofs.Instructions.{leavesStack, elsewhere, slotOf, useAt, stepped, mayStep, Kept, word-is}
-use Rattle.monitor.proofs.Instructions.{by-plan, keeps-once, steps-once, steppedBy, maySteps}
+use Rattle.monitor.proofs.Instructions.{other, same, by-plan, keeps-once, steps-once, steppedBy, maySteps}
 use Rattle.monitor.proofs.Entries.{calledFrame, within, Polls, waits, recoded}
 use Rattle.monitor.proofs.Calls.{AtReturn}
 
@@ -68,8 +68,9 @@ pub record Readable (words sp a : ℕ) : Type 0 where
   pub plain : a < 0xFE00
   pub outside : sp - words ≤ a → sp ≤ a
 
--- The end of a way: RTI, with what the entry pushed on top of the stack.
-pub record Ends (uses : ℕ → Bool) (words : ℕ) (user : Bool) (s : Start) (end : View) : Type 0 where
+-- The end of a way: RTI, at this address, with what the entry pushed on top of the stack.
+pub record Ends (uses : ℕ → Bool) (words : ℕ) (user : Bool) (s : Start) (last : ℕ) (end : View) : Type 0 where
+  pub there : end .pc ≡ last
   pub returns : AtReturn uses words user s end
   pub own : usable (calledFrame uses words user s) (end .pc) ≡ true
   pub pc-stored : holds (end .cells) 2 ≡ true
@@ -110,6 +111,23 @@ pub knowing : {f : Frame} {may : ℕ → Bool} (v : View) (c c′ : Known) → c
     → Path f may (within v (v .regs) (v .pc) c (v .busy)) 0 (within v (v .regs) (v .pc) c′ (v .busy))
 knowing v c c′ e = knows c′ e refl refl
 
+-- R6 stays where the view says, all along a way.
+pub keeps : {f : Frame} {may : ℕ → Bool} {v v′ : View} {n : ℕ} → Path f may v n v′ → Kept f v → Kept f v′
+keeps {f} {v = v} (stays e z) k = subst (λ (x : View). Kept f x) e k
+keeps {f} {v = v} (knows c codes e z) k =
+    subst (λ (x : View). Kept f x) e (same f v k (within v (v .regs) (v .pc) c (v .busy)) refl refl)
+keeps {f} {v = v} (makes room has-room k₀ may calms e z) k =
+    subst (λ (x : View). Kept f x) e (keeps-once f room v k may)
+keeps {f} {v = v} (jumps going fine own pc plan e z) k =
+    subst (λ (x : View). Kept f x) e (same f v k (changed v (v .regs) pc (v .codes) (v .cells)) refl refl)
+keeps {f} {v = v} (fetches going fine own a w ok r plan is e z) k =
+    subst (λ (x : View). Kept f x) e (other f v k 1 w refl (valued v 1 w (next (v .pc))) refl refl)
+keeps {f} {v = v} (attends u going fine r pc p busy regs c first last z) k =
+    subst (λ (x : View). Kept f x) last
+    (other f (within u regs pc c busy) (subst (λ (x : View). Kept f x) (sym first) k) r 0x8000 (p .other)
+    (within u (withRegister regs r 0x8000) (next (next pc)) (from 0x8000) 0) refl refl)
+keeps (joins w i j first second z) k = keeps second (keeps first k)
+
 -- Steps that can be computed.
 module _ (f : Frame) (may : ℕ → Bool) (room : ℕ) (has-room : room ≤ length (f .output)) where
   abbrev Treads : ℕ → Type 0
@@ -132,6 +150,67 @@ module _ (f : Frame) (may : ℕ → Bool) (room : ℕ) (has-room : room ≤ leng
   pub treads : (n : ℕ) → Treads n
   treads zero = none
   treads (suc n) = one-more n (treads n)
+
+-- A loop that shows a text: in each turn five steps that can be computed, to the poll of DSR at pc, at which the count is
+-- four; and the wait.
+module _ (f : Frame) (may : ℕ → Bool) (room : ℕ) (has-room : room ≤ length (f .output)) (r pc : ℕ)
+    (polls : (u : View) → Polls f u r pc) where
+  abbrev turned : View → View
+  turned v = within v (withRegister (v .regs) r 0x8000) (next (next pc)) (from 0x8000) 0
+
+  unfoldable pub turnedBy : ℕ → View → View
+  turnedBy zero v = v
+  turnedBy (suc n) v = turnedBy n (turned (steppedBy 5 f v))
+
+  abbrev mayTurn : View → Bool
+  mayTurn v =
+      let w = steppedBy 5 f v in
+      (maySteps 5 f room v && calmly 5 f v)
+      && ((eqb (w .pc) pc && eqb (w .busy) 4) && (eqb (w .mcr) 0x8000 && cellsFine (f .words) (w .cells)))
+
+  unfoldable pub mayTurns : ℕ → View → Bool
+  mayTurns zero v = true
+  mayTurns (suc n) v = mayTurn v && mayTurns n (turned (steppedBy 5 f v))
+
+  abbrev Turns : ℕ → Type 0
+  Turns n = (v : View) → Kept f v → mayTurns n v ≡ true → Path f may v (n * 11) (turnedBy n v)
+
+  one-turn : (v : View) → Kept f v → mayTurn v ≡ true → Path f may v 11 (turned (steppedBy 5 f v))
+  unfolding waitSteps
+  one-turn v k h =
+      let w : View = steppedBy 5 f v in
+      let outer = both-true (maySteps 5 f room v && calmly 5 f v)
+      ((eqb (w .pc) pc && eqb (w .busy) 4) && (eqb (w .mcr) 0x8000 && cellsFine (f .words) (w .cells))) h in
+      let steps = both-true (maySteps 5 f room v) (calmly 5 f v) (outer .0) in
+      let inner = both-true (eqb (w .pc) pc && eqb (w .busy) 4)
+      (eqb (w .mcr) 0x8000 && cellsFine (f .words) (w .cells)) (outer .1) in
+      let place = both-true (eqb (w .pc) pc) (eqb (w .busy) 4) (inner .0) in
+      let rest = both-true (eqb (w .mcr) 0x8000) (cellsFine (f .words) (w .cells)) (inner .1) in
+      let at : pc ≡ w .pc = sym (eqb-true (w .pc) pc (place .0)) in
+      let count : 4 ≡ w .busy = sym (eqb-true (w .busy) 4 (place .1)) in
+      joins w 5 6 (treads f may room has-room 5 v k (steps .0) (steps .1))
+      (attends w (eqb-true (w .mcr) 0x8000 (rest .0)) (rest .1) r pc (polls w) 4 (w .regs) (w .codes)
+      (λ i. within w (w .regs) (at i) (w .codes) (count i)) refl refl)
+      refl
+
+  turn-keeps : (v : View) → Kept f v → mayTurn v ≡ true → Kept f (turned (steppedBy 5 f v))
+  turn-keeps v k h = keeps (one-turn v k h) k
+
+  no-turn : Turns zero
+  unfolding turnedBy
+  no-turn v k h = no-step-more v
+
+  one-more-turn : (n : ℕ) → Turns n → Turns (suc n)
+  unfolding turnedBy mayTurns
+  one-more-turn n rest v k h =
+      let both = both-true (mayTurn v) (mayTurns n (turned (steppedBy 5 f v))) h in
+      let z : 11 + n * 11 ≡ suc n * 11 = omega arith in
+      joins (turned (steppedBy 5 f v)) 11 (n * 11) (one-turn v k (both .0))
+      (rest (turned (steppedBy 5 f v)) (turn-keeps v k (both .0)) (both .1)) z
+
+  pub turns : (n : ℕ) → Turns n
+  turns zero = no-turn
+  turns (suc n) = one-more-turn n (turns n)
 
 -- ---- a run on its way
 

@@ -308,9 +308,10 @@ module _ (user : Bool) (s : Start) (x : Eight (s .machine .regs)) (mode : inUser
         steppedBy 5 (f user s x)
         (W user s x b 0 (seen .r₂) 0x0219 (from 0) (lowBytes words) (all .busy - lookSteps user b - 1))
 
-    pub ends-there : Ends uses 5 user s returning
+    pub ends-there : Ends uses 5 user s 0x0223 returning
     unfolding returning computing
     ends-there = record {
+      there = refl;
       returns = record { plan = refl; six = refl; pc = refl; psr = refl; fine = refl; going = refl };
       own = refl;
       pc-stored = refl;
@@ -390,8 +391,9 @@ module _ (s : Start) (x : Eight (s .machine .regs)) (mode : inUserMode (s .machi
   to-stop = treads (f true s x) may 0 (omega arith) 2 refused-there (kept refl refl refl) refl refl
 
   pub in-front : (cellsFine 5 (refused-there .cells) ≡ true) × (refused-there .depth ≡ 5)
+      × (refused-there .pc ≡ 0x027C)
   unfolding refused-there computing
-  in-front = (refl, refl)
+  in-front = (refl, refl, refl)
 
   pub halts-then : (stopped .mcr ≡ 0) × (stopped .pc ≡ 0x027E)
       × (psrAt (f true s x) stopped ≡ s .machine .psr / 8 % 4096 * 8 + 1)

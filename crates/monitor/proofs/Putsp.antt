@@ -621,9 +621,10 @@ module _ (user : Bool) (s : Start) (x : Eight (s .machine .regs)) (mode : inUser
     returning =
         steppedBy 6 (f user s x) (W user s x (all .r₃) b 0 (seen .r₂) 0x024B (from 0) (pairBytes words) (spent - 1))
 
-    pub ends-there : Ends uses 6 user s returning
+    pub ends-there : Ends uses 6 user s 0x0267 returning
     unfolding returning computing
     ends-there = record {
+      there = refl;
       returns = record { plan = refl; six = refl; pc = refl; psr = refl; fine = refl; going = refl };
       own = refl;
       pc-stored = refl;
@@ -707,8 +708,9 @@ module _ (s : Start) (x : Eight (s .machine .regs)) (mode : inUserMode (s .machi
   to-stop = treads (f true s x) may 0 (omega arith) 2 refused-there (kept refl refl refl) refl refl
 
   pub in-front : (cellsFine 6 (refused-there .cells) ≡ true) × (refused-there .depth ≡ 6)
+      × (refused-there .pc ≡ 0x027C)
   unfolding refused-there computing
-  in-front = (refl, refl)
+  in-front = (refl, refl, refl)
 
   pub halts-then : (stopped .mcr ≡ 0) × (stopped .pc ≡ 0x027E)
       × (psrAt (f true s x) stopped ≡ s .machine .psr / 8 % 4096 * 8 + 1)
