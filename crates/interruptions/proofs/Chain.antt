@@ -16,7 +16,7 @@ use Rattle.monitor.proofs.Execution.{Frame, View, Quiet}
 use Rattle.monitor.proofs.Intact.{cellsFine}
 use Rattle.monitor.proofs.Calls.{quiet-steps, call-stands}
 use Rattle.interruptions.specs.GoesOn.{Returned, Interrupts, shownIn, NotYet, Within, by-steps, by-place}
-use Rattle.interruptions.specs.GoesOn.{Interrupted, once, again, ShowsOnly, ShownBefore}
+use Rattle.interruptions.specs.GoesOn.{AfterInterrupts, once, again, ShowsOnly, ShownBefore}
 use Rattle.interruptions.proofs.Following.{Rest, twin}
 use Rattle.interruptions.proofs.Standing.{Standing, fresh, goes-on-as}
 
@@ -101,7 +101,7 @@ module _ (f : Frame) (below : ℕ) (s : Start) (total last : ℕ) (On : Start �
         })
 
     -- Where it stands after all of them, and what was shown before.
-    pub record Chained {r : Start} {made : ℕ} {shown : List ℕ} (i : Interrupted total last below s r made shown) :
+    pub record Chained {r : Start} {made : ℕ} {shown : List ℕ} (i : AfterInterrupts total last below s r made shown) :
         Type 0 where
       pub stood : Stood r 0 shown made
       pub before : ShownBefore i
@@ -113,7 +113,8 @@ module _ (f : Frame) (below : ℕ) (s : Start) (total last : ℕ) (On : Start �
         let quiet = quiet-steps s (i .steps) k 0 (i .accepted) (i .fits) (takes-none (i .quiet)) in
         let z : 1 + (k - 1) ≡ k = omega arith in
         subst (λ (j : ℕ). Stood s j [] j) z
-        (walks-on quiet (i .steps) (i .accepted) (i .fits) not-yet 1 1 (course .begins k some quiet) (k - 1) (omega arith))
+        (walks-on quiet (i .steps) (i .accepted) (i .fits) not-yet 1 1 (course .begins k some quiet) (k - 1)
+        (omega arith))
 
     next-part : {q : Start} {made k : ℕ} {shown : List ℕ} {r : Start} → Stood q 0 shown made → NotYet last q k
         → Interrupts below q k r → Stood q k shown (made + k)
@@ -122,8 +123,8 @@ module _ (f : Frame) (below : ℕ) (s : Start) (total last : ℕ) (On : Start �
         (walks-on (quiet-steps q (i .steps) k 0 (i .accepted) (i .fits) (takes-none (i .quiet))) (i .steps)
         (i .accepted) (i .fits) not-yet 0 made t k (omega (arith, zero-add k)))
 
-    pub chained : {r : Start} {made : ℕ} {shown : List ℕ} → (i : Interrupted total last below s r made shown) → (m : ℕ)
-        → admissionOf r m ≡ Accepted → Chained i
+    pub chained : {r : Start} {made : ℕ} {shown : List ℕ} → (i : AfterInterrupts total last below s r made shown)
+        → (m : ℕ) → admissionOf r m ≡ Accepted → Chained i
     chained (once some within i) m accepted =
         let t = first-part some within i in
         record {

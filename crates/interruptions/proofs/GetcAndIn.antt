@@ -24,7 +24,8 @@ use Rattle.monitor.proofs.Calls.{Eight, eight, begun}
 use Rattle.monitor.proofs.Getc.{ready-at, arrives-at}
 use Rattle.monitor.proofs.In.{W, polling, waiting, left, seven-less}
 use Rattle.monitor.proofs.Keyboard.{Keys}
-use Rattle.monitor.proofs.Paths.{calm, calmly, Ends, Path, attends, no-step-more, then, treads, turnedBy, mayTurns, turns}
+use Rattle.monitor.proofs.Paths.{calm, calmly, Ends, Path, attends, no-step-more, then, treads, turnedBy, mayTurns}
+use Rattle.monitor.proofs.Paths.{turns}
 use Rattle.interruptions.specs.GoesOn.{OnTheWay}
 use Rattle.interruptions.specs.Reads.{getcPoll, getcLast, inPoll, inLast, Reads, echoed, InterruptedReads}
 use Rattle.interruptions.proofs.Following.{Rest, twin, beside}

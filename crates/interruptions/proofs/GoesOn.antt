@@ -46,7 +46,7 @@ use Rattle.interruptions.specs.GoesOn.{outLast, putsLast, putspLast, sto
 use Rattle.interruptions.proofs.Leaving.{before}
 use Rattle.interruptions.proofs.Following.{Rest}
 use Rattle.interruptions.proofs.Standing.{Standing}
-use Rattle.interruptions.proofs.Chain.{Chained, chained}
+use Rattle.interruptions.proofs.Chain.{Course, Chained, chained}
 use Rattle.interruptions.proofs.Ways.{ownRest, OnWay, course, Reached, reaches}
 use Rattle.interruptions.proofs.Resuming.{resumed, halted}
 
@@ -83,8 +83,8 @@ module _ (vector : ℕ) (code : ℕ → Bool) (words : ℕ) (user : Bool) (s : S
   module _ (may : ℕ → Bool) (below : ℕ)
       (away : (a : ℕ) → may a ≡ true → Readable (words + below) (stackOf (s .machine)) a) (mid : View) (len : ℕ)
       (way : Path f may begin len mid) (fine : cellsFine words (mid .cells) ≡ true) (deep : 0 < mid .depth)
-      (room : length (mid .bytes) ≤ length (s .output)) (last : ℕ) (at-last : mid .pc ≡ last) (total : ℕ) (z : total ≡ 2 + len)
-      (r : Start) (m : ℕ) (o : OnTheWay s total last words below r m) where
+      (room : length (mid .bytes) ≤ length (s .output)) (last : ℕ) (at-last : mid .pc ≡ last) (total : ℕ)
+      (z : total ≡ 2 + len) (r : Start) (m : ℕ) (o : OnTheWay s total last words below r m) where
     abbrev On : Start → ℕ → ℕ → View → Rest → Type 0
     On = OnWay f below may away mid (1 + len)
 
@@ -92,12 +92,14 @@ module _ (vector : ℕ) (code : ℕ → Bool) (words : ℕ) (user : Bool) (s : S
     quiet = quiet-steps r m m 0 (o .accepted) (omega arith) (o .no-other)
 
     -- where r begins
-    chain : Chained f below s total last On (with-vector-below vector code (omega arith) low) (o .apart)
-        (course f below may away s begin mid len total last z way fine deep room at-last (starts below)) (o .interrupted)
+    abbrev the-course : Course f below s total last On
+    the-course = course f below may away s begin mid len total last z way fine deep room at-last (starts below)
+
+    chain : Chained f below s total last On (with-vector-below vector code (omega arith) low) (o .apart) the-course
+        (o .interrupted)
     chain =
-        chained f below s total last On (with-vector-below vector code (omega arith) low) (o .apart)
-        (course f below may away s begin mid len total last z way fine deep room at-last (starts below)) (o .interrupted) m
-        (o .accepted)
+        chained f below s total last On (with-vector-below vector code (omega arith) low) (o .apart) the-course
+        (o .interrupted) m (o .accepted)
 
     -- where it comes to, some steps behind mid
     ended : (more : ℕ) (end : View) → Path f may mid more end → 1 + len + more ≤ o .made + m

@@ -26,9 +26,9 @@ use Rattle.interruptions.proofs.Chain.{Stood, Chained, chained}
 use Rattle.interruptions.proofs.Ways.{ownRest, same-pc, moved, reaches}
 use Rattle.interruptions.proofs.Narrowing.{relying, relied, narrowed, inside}
 use Rattle.interruptions.proofs.Resuming.{resumed}
-use Rattle.interruptions.proofs.KeyWait.{Unread, keyed, Reader, Same, polling, branching, loading, OnWait, to-wait}
+use Rattle.interruptions.proofs.KeyWait.{Unread, keyed, Reader, Same, polling, branching, loading, OnWait}
 use Rattle.interruptions.proofs.KeyWait.{polls, found-none, found-one, loads, with-key, branched, key-loaded}
-use Rattle.interruptions.proofs.KeyWait.{leadsTo, waiting}
+use Rattle.interruptions.proofs.KeyWait.{leadsTo, to-wait, waiting}
 
 -- The display's count at the key, from what is left of it after the polls that find none.
 three-less : (left busy most t : ℕ) → left ≡ busy - 2 * t → busy ≤ most → left - 1 - 1 - 1 ≤ most - 1 - 1 - 1
@@ -159,7 +159,8 @@ module _ (uses : ℕ → Bool) (words : ℕ) (user : Bool) (s : Start) (n : ℕ)
   place : {w : View} {x : Rest} → Standing f below r 0 (o .shown) w x → w .pc ≡ r .machine .pc
   place st = same-pc (st .at) (at-start uses words 0 r m (o .accepted) 0)
 
-  codes-there : {w : View} {x : Rest} → Standing f below r 0 (o .shown) w x → codesNumber (w .codes) ≡ r .machine .psr % 8
+  codes-there : {w : View} {x : Rest} → Standing f below r 0 (o .shown) w x
+      → codesNumber (w .codes) ≡ r .machine .psr % 8
   codes-there {w} st =
       let a = at-start uses words 0 r m (o .accepted) 0 in
       let e = ap (λ (z : End). z .machine .psr) (sym (st .at .stands) ∙ a .stands) in

@@ -110,8 +110,8 @@ module _ (f : Frame) (below : ℕ) (may : ℕ → Bool)
   pub data OnWait (q : Start) (j made : ℕ) (w : View) (x : Rest) : Type 0 where
     to-wait : (n : ℕ) → n ≤ len → Path (relying f (reader .earlier)) may w n wait → Unread q x → OnWait q j made w x
     polls : (regs : List ℕ) (c : Known) → Same wait regs → polling wait regs c ≡ w → Unread q x → OnWait q j made w x
-    found-none : (regs : List ℕ) (y : ℕ) → Same wait regs → codesOf y < 4 → leadsTo wait y ≡ poll → branching wait regs y ≡ w
-        → Unread q x → OnWait q j made w x
+    found-none : (regs : List ℕ) (y : ℕ) → Same wait regs → codesOf y < 4 → leadsTo wait y ≡ poll
+        → branching wait regs y ≡ w → Unread q x → OnWait q j made w x
     found-one : (regs : List ℕ) → Same wait regs → branching wait regs 0x8000 ≡ w → Unread q x → OnWait q j made w x
     loads : (regs : List ℕ) (c : Known) → Same wait regs → loading wait regs c ≡ w → Unread q x → OnWait q j made w x
     with-key : (y n : ℕ) → KeyOf poll below q j y → n ≤ rest → Path (relying f (reader .later)) may w n (end y)
@@ -129,7 +129,8 @@ module _ (f : Frame) (below : ℕ) (may : ℕ → Bool)
       status = statusIn q j (twin (polling wait regs c) x)
 
       -- The codes are those of this value.
-      polled : (y : ℕ) → codesOf status ≡ codesOf y → ThereUnread f below q (suc j) shown (branching wait (withRegister regs 0 status) y)
+      polled : (y : ℕ) → codesOf status ≡ codesOf y
+          → ThereUnread f below q (suc j) shown (branching wait (withRegister regs 0 status) y)
       polled y e =
           let k = reader .keys (q .memory) (q .output) x in
           let v : View = within (twin wait x) regs poll c (x .busy) in
@@ -141,9 +142,14 @@ module _ (f : Frame) (below : ℕ) (may : ℕ → Bool)
           record {
             rest = less x;
             standing = moved f below may away st
-                (record { fine = st .like .fine; bytes = st .like .bytes; busy = omega (arith, st .like .busy);
-                  slots = st .like .slots })
-                (other f (polling wait regs c) (st .kept) 0 status refl (branching wait (withRegister regs 0 status) y) refl refl)
+                (record {
+                  fine = st .like .fine;
+                  bytes = st .like .bytes;
+                  busy = omega (arith, st .like .busy);
+                  slots = st .like .slots;
+                })
+                (other f (polling wait regs c) (st .kept) 0 status refl
+                (branching wait (withRegister regs 0 status) y) refl refl)
                 (subst (λ (i : ℕ). At q 0 i g (twin (branching wait (withRegister regs 0 status) y) (less x)))
                 (add-zero (suc j)) b);
             unread = record { none = u .none; status = u .status };
@@ -161,8 +167,12 @@ module _ (f : Frame) (below : ℕ) (may : ℕ → Bool)
         record {
           rest = less x;
           standing = moved f below may away st
-              (record { fine = st .like .fine; bytes = st .like .bytes; busy = omega (arith, st .like .busy);
-                slots = st .like .slots })
+              (record {
+                fine = st .like .fine;
+                bytes = st .like .bytes;
+                busy = omega (arith, st .like .busy);
+                slots = st .like .slots;
+              })
               (same f (branching wait regs y) (st .kept) (within wait regs to (from y) busy) refl refl)
               (subst (λ (i : ℕ). At q 0 i g (twin (within wait regs to (from y) busy) (less x))) (add-one j)
               (rw goes at (l .on (omega arith) (st .at))));
@@ -189,10 +199,14 @@ module _ (f : Frame) (below : ℕ) (may : ℕ → Bool)
         record {
           rest = x′;
           standing = moved f below may away st
-              (record { fine = st .like .fine; bytes = st .like .bytes; busy = omega (arith, st .like .busy);
-                slots = st .like .slots })
-              (other f (loading wait regs c) (st .kept) 0 (keyAt q j) refl (keyed wait (keyAt q j)) (sym (same-regs (keyAt q j)))
-              refl)
+              (record {
+                fine = st .like .fine;
+                bytes = st .like .bytes;
+                busy = omega (arith, st .like .busy);
+                slots = st .like .slots;
+              })
+              (other f (loading wait regs c) (st .kept) 0 (keyAt q j) refl (keyed wait (keyAt q j))
+              (sym (same-regs (keyAt q j))) refl)
               (subst (λ (rs : List ℕ). At q 0 (suc j) g
               (twin (within wait rs (next (next (next poll))) (from (keyAt q j)) (wait .busy - 1 - 1 - 1)) x′))
               (same-regs (keyAt q j)) a);

@@ -88,7 +88,8 @@ module _ (f : Frame) (below : ℕ) (may : ℕ → Bool)
     }
 
     farther : {j n : ℕ} {end : View} {x x₁ : Rest} (n₁ : ℕ) → suc n₁ ≤ n
-        → (x₁ .read ≡ x .read) × (x₁ .status ≡ x .status) → Reached q (j + 1) shown x₁ n₁ end → Reached q j shown x n end
+        → (x₁ .read ≡ x .read) × (x₁ .status ≡ x .status) → Reached q (j + 1) shown x₁ n₁ end
+        → Reached q j shown x n end
     farther {j} {end = end} n₁ fewer keys r = record {
       steps = suc (r .steps);
       fewer = omega (arith, r .fewer);

@@ -69,19 +69,19 @@ pub data Within (total last : ℕ) (s : Start) (k : ℕ) : Type 0 where
 
 -- The call s is interrupted on the way through the routine, once or more, and goes on as r: so many steps were made,
 -- and these bytes shown, outside of the interrupts.
-pub data Interrupted (total last below : ℕ) (s : Start) : Start → ℕ → List ℕ → Type 0 where
+pub data AfterInterrupts (total last below : ℕ) (s : Start) : Start → ℕ → List ℕ → Type 0 where
   once : {k : ℕ} {r : Start} → 0 < k → Within total last s k → Interrupts below s k r
-      → Interrupted total last below s r k (shownIn s k)
-  again : {q : Start} {made : ℕ} {shown : List ℕ} {k : ℕ} {r : Start} → Interrupted total last below s q made shown
+      → AfterInterrupts total last below s r k (shownIn s k)
+  again : {q : Start} {made : ℕ} {shown : List ℕ} {k : ℕ} {r : Start} → AfterInterrupts total last below s q made shown
       → NotYet last q k → Interrupts below q k r
-      → Interrupted total last below s r (made + k) (shown ++ shownIn q k)
+      → AfterInterrupts total last below s r (made + k) (shown ++ shownIn q k)
 
 -- The last of them: r has m steps, and takes no other interrupt in them. The stack has room for an interrupt's words
 -- below the routine's.
 pub record OnTheWay (s : Start) (total last words below : ℕ) (r : Start) (m : ℕ) : Type 0 where
   pub made : ℕ
   pub shown : List ℕ
-  pub interrupted : Interrupted total last below s r made shown
+  pub interrupted : AfterInterrupts total last below s r made shown
   pub apart : StackApart (words + below) (stackOf (s .machine))
   pub accepted : admissionOf r m ≡ Accepted
   pub no-other : NoInterrupt r m
@@ -92,7 +92,7 @@ pub record ShowsOnly (q : Start) (k : ℕ) : Type 0 where
   pub output : callOf q k .output ≡ writtenOver (shownIn q k) (q .output)
 
 abbrev pub ShownBefore : {total last below made : ℕ} {s r : Start} {shown : List ℕ}
-    → Interrupted total last below s r made shown → Type 0
+    → AfterInterrupts total last below s r made shown → Type 0
 ShownBefore {s = s} (once {k = k} some within i) = ShowsOnly s k
 ShownBefore (again {q = q} {k = k} earlier not-yet i) = ShownBefore earlier × ShowsOnly q k
 

@@ -151,7 +151,7 @@ module _ (f : Frame) (may : ℕ → Bool) (room : ℕ) (has-room : room ≤ leng
   treads zero = none
   treads (suc n) = one-more n (treads n)
 
--- A loop that shows a text: in each turn five steps that can be computed, to the poll of DSR at pc, at which the count is
+-- A loop that shows a text: in each turn five steps that can be computed, to the poll of DSR at pc, where the count is
 -- four; and the wait.
 module _ (f : Frame) (may : ℕ → Bool) (room : ℕ) (has-room : room ≤ length (f .output)) (r pc : ℕ)
     (polls : (u : View) → Polls f u r pc) where

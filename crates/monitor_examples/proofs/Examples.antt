@@ -1,9 +1,9 @@
 -- The premises can be met, by computing.
 use native.Mathlib.Omega.{arith}
-use Prim.Native.Nat.{ℕ, zero, suc, _<_}
+use Prim.Native.Nat.{ℕ, zero, suc, _+_, _%_, _<_}
 use mathlib.Core.Path.{_≡_, refl, sym, _∙_}
 use mathlib.Core.Bool.{Bool, true, false, cond}
-use mathlib.Core.List.{[], _∷_}
+use mathlib.Core.List.{List, [], _∷_, _++_}
 use lib.ListN.{length, getD, set, take}
 use lib.Seq.{getD-set-other}
 use Rattle.word.specs.Reading.{readOf}
@@ -16,14 +16,16 @@ use Rattle.machine.specs.Interrupts.{pendingInterrupt}
 use Rattle.machine.specs.Entry.{pushed, entry, afterEntry, raised, interrupted, stackPointerOnEntry, userStackOnEntry}
 use Rattle.machine.specs.Outcome.{privilege, illegal, access, vectorOf, withReads, afterInstruction}
 use Rattle.machine.specs.Causes.{takesInterrupt}
-use Rattle.machine.specs.Access.{loadToBy}
+use Rattle.machine.specs.Devices.{isDeviceBy, deviceValue, loadedValueBy, kbsrAfterLoad, timerStatusAfterLoad}
+use Rattle.machine.specs.Devices.{afterLoad, storedBy}
+use Rattle.machine.specs.Access.{loadToBy, storeAtBy, byPointerBy}
 use Rattle.machine.specs.Return.{return, popped, afterReturn}
 use Rattle.machine.specs.Plan.{planBy}
 use Rattle.machine.specs.Step.{performBy, obeyedBy, interruptedOrObeyedBy, busyAfter, afterTick, ended, stepBy}
 use Rattle.run.specs.Refusals.{wrongSize, undefinedTimer, undefinedDevices, undefinedRecord, tooManySteps}
 use Rattle.run.specs.Refusals.{unequalLists, firstRefusal, entryAdmission, timesAdmission, admissionOf}
-use Rattle.run.specs.Run.{begin, arriving, nextStepBy, withShown, stepMadeBy, isHalted, showsByte, isFullBy, oneMoreBy}
-use Rattle.run.specs.Run.{runBy, endedBy}
+use Rattle.run.specs.Run.{Start, begin, arriving, nextStepBy, withShown, stepMadeBy, isHalted, showsByte, isFullBy}
+use Rattle.run.specs.Run.{oneMoreBy, runBy, endedBy}
 use Rattle.run.specs.declared.Admission.the-variants.{Accepted}
 use Rattle.run.specs.Call.{admittedBy, callBy, callOf}
 use Rattle.run.specs.Noninterference.{causeAt}
@@ -32,19 +34,23 @@ use Rattle.monitor.specs.Routines.{routineWords, monitorWords}
 use Rattle.monitor.specs.Install.{installOf}
 use Rattle.monitor.specs.Uses.{HasWords, withVector, getcCode, outCode, putsCode, inCode, putspCode}
 use Rattle.monitor.specs.Uses.{haltCode, stopCode, backUses}
-use Rattle.monitor.specs.Calls.{stackOf, StackApart, Begins, Calls, Raises, none-enabled}
+use Rattle.monitor.specs.Calls.{stackOf, StackApart, Begins, Calls, Raises, NoInterrupt, none-enabled}
+use Rattle.monitor.specs.Keys.{keysBefore, keyAt}
 use Rattle.monitor.specs.Getc.{KeyComes}
 use Rattle.monitor.specs.In.{firstPoll}
 use Rattle.monitor.specs.Puts.{mayRead, StringFrom}
 use Rattle.monitor.specs.Out.{waitSteps, outStepsOf}
 use Rattle.monitor.specs.Back.{Interrupted}
-use Rattle.interruptions.specs.GoesOn.{OnTheWay}
-use Rattle.monitor_examples.specs.Examples.{exampleMemory, exampleWith, example, keyOnTheWay, pastTheInterrupt}
+use Rattle.interruptions.specs.GoesOn.{Returned, Interrupts, shownIn, by-steps, by-place, once, again, OnTheWay}
+use Rattle.interruptions.specs.GoesOn.{outLast}
+use Rattle.interruptions.specs.Reads.{getcPoll, getcLast}
+use Rattle.interruptions.proofs.GetcAndIn.{interrupted-reads}
+use Rattle.monitor_examples.specs.Examples.{exampleMemory, exampleWith, example, keyOnTheWay, pastInterrupt}
+use Rattle.monitor_examples.specs.Examples.{pastTheInterrupt, anotherOnTheWay, pastBoth, keyInGetc, pastInGetc}
 use Rattle.monitor_examples.specs.Examples.{ExamplesHold}
 use Rattle.monitor.proofs.Intact.{monitor-word}
 use Rattle.monitor.proofs.UseLaws.{getc-below, out-below, stop-below, puts-below, putsp-below, in-below}
 use Rattle.monitor.proofs.UseLaws.{halt-below, back-below, with-vector-below}
-use Rattle.monitor.proofs.Getc.{still-ready}
 
 -- To unfold this is to compute what a call is handed.
 unfoldable handed : Unit {0}
@@ -163,6 +169,12 @@ unfolding handed codesOf recoded keysDue readyAfter lastKey afterKeys ticked aft
     nextStepBy withShown stepMadeBy isHalted showsByte isFullBy oneMoreBy runBy endedBy admittedBy callBy causeAt
 stepping = tt
 
+-- With a load of KBSR, and a store.
+unfoldable reading : Unit {0}
+unfolding stepping byPointerBy isDeviceBy deviceValue loadedValueBy kbsrAfterLoad timerStatusAfterLoad afterLoad
+    storeAtBy storedBy
+reading = tt
+
 at-x3000 : StackApart 2 0x3000
 at-x3000 = record { above-monitor = omega arith; below-devices = omega arith }
 
@@ -280,55 +292,175 @@ two-quiet zero l = refl
 two-quiet (suc zero) l = refl
 two-quiet (suc (suc j)) l = absurd (omega arith)
 
-stack-first : stackOf (keyOnTheWay .machine) ≡ 0x3000
-unfolding handed keyOnTheWay
-stack-first = refl
+at-own-stack : StackApart 6 0x3000
+at-own-stack = record { above-monitor = omega arith; below-devices = omega arith }
+
+off : (q : Start) → q .machine .devices .kbsr ≡ 0 → q .machine .devices .«timer_status» ≡ 0 → NoInterrupt q 100
+off q p t = none-enabled (record {
+  keyboard = rw p;
+  keyboard-word = omega (arith, p);
+  timer = rw t;
+  timer-word = omega (arith, t);
+})
+
+-- What goes on after an interrupt is what stood there before it.
+back : (q : Start) (k kbsr clock : ℕ) (times bytes : List ℕ) → callOf q k .machine .devices .mcr ≡ 0x8000
+    → Returned q k 3 (pastInterrupt q k kbsr clock times bytes)
+back q k kbsr clock times bytes mcr = record {
+  registers = refl;
+  pc = refl;
+  psr = refl;
+  saved-ssp = refl;
+  saved-usp = refl;
+  mcr = sym mcr;
+  display = omega arith;
+  output = refl;
+  words-below = refl;
+  words-above = refl;
+}
 
 mcr-now : callOf keyOnTheWay 2 .machine .devices .mcr ≡ 0x8000
 unfolding stepping keyOnTheWay
 mcr-now = refl
 
+first-interrupt : (kbsr : ℕ) (times bytes : List ℕ)
+    → Interrupts 3 keyOnTheWay 2 (pastInterrupt keyOnTheWay 2 kbsr 9 times bytes)
+first-interrupt kbsr times bytes = record {
+  steps = 1000;
+  accepted = own-out .begins .accepted;
+  fits = omega arith;
+  quiet = record { none = two-quiet };
+  returned = back keyOnTheWay 2 kbsr 9 times bytes mcr-now;
+}
+
 own-accepted : admissionOf pastTheInterrupt 100 ≡ Accepted
 unfolding stepping keyOnTheWay
 own-accepted = refl
 
-own-returned : OnTheWay keyOnTheWay 1000 2 (outStepsOf keyOnTheWay) 3 3 pastTheInterrupt 100
-unfolding keyOnTheWay waitSteps
+own-returned : OnTheWay keyOnTheWay (outStepsOf keyOnTheWay) outLast 3 3 pastTheInterrupt 100
+unfolding keyOnTheWay waitSteps inUserMode
 own-returned = record {
-  begun = omega arith;
-  not-ended = omega arith;
-  fits = omega arith;
-  quiet = record { none = two-quiet };
-  apart = record { above-monitor = omega (arith, stack-first); below-devices = omega (arith, stack-first) };
-  returned = record {
-    registers = refl;
-    pc = refl;
-    psr = refl;
-    saved-ssp = refl;
-    saved-usp = refl;
-    mcr = sym mcr-now;
-    display = omega arith;
-    output = refl;
-    words-below = refl;
-    words-above = refl;
-  };
+  made = 2;
+  shown = shownIn keyOnTheWay 2;
+  interrupted = once {k = 2} (omega arith) (by-steps (omega arith)) (first-interrupt 0 [] []);
+  apart = at-own-stack;
   accepted = own-accepted;
-  enough = omega arith;
-  no-other = none-enabled (record {
-    keyboard = refl;
-    keyboard-word = omega arith;
-    timer = refl;
-    timer-word = omega arith;
-  });
+  no-other = off pastTheInterrupt refl refl;
 }
+
+-- ---- another one
+
+another-accepted : admissionOf anotherOnTheWay 100 ≡ Accepted
+unfolding reading keyOnTheWay
+another-accepted = refl
+
+another-place : callOf anotherOnTheWay 0 .machine .pc ≡ 0x0205
+unfolding reading keyOnTheWay
+another-place = refl
+
+another-quiet : takesInterrupt (causeAt anotherOnTheWay 0) ≡ false
+unfolding reading keyOnTheWay
+another-quiet = refl
+
+another-mcr : callOf anotherOnTheWay 1 .machine .devices .mcr ≡ 0x8000
+unfolding reading keyOnTheWay
+another-mcr = refl
+
+both-accepted : admissionOf pastBoth 100 ≡ Accepted
+unfolding reading keyOnTheWay
+both-accepted = refl
+
+own-returned-twice : OnTheWay keyOnTheWay (outStepsOf keyOnTheWay) outLast 3 3 pastBoth 100
+unfolding keyOnTheWay waitSteps inUserMode
+own-returned-twice = record {
+  made = 3;
+  shown = shownIn keyOnTheWay 2 ++ shownIn anotherOnTheWay 1;
+  interrupted = again {k = 1}
+      (once {k = 2} (omega arith) (by-steps (omega arith)) (first-interrupt 0x4000 (10 ∷ []) (0x62 ∷ [])))
+      (record {
+        none = λ j l e.
+            let z : j ≡ 0 = omega arith in
+            let p : callOf anotherOnTheWay 0 .machine .pc ≡ 0x020B = rw z at e in
+            omega (arith, p, another-place);
+      })
+      (record {
+        steps = 100;
+        accepted = another-accepted;
+        fits = omega arith;
+        quiet = record { none = λ j l. let z : j ≡ 0 = omega arith in rw z another-quiet };
+        returned = back anotherOnTheWay 1 0 17 [] [] another-mcr;
+      });
+  apart = at-own-stack;
+  accepted = both-accepted;
+  no-other = off pastBoth refl refl;
+}
+
+-- ---- GETC
+
+own-getc : Calls 0x20 getcCode 2 true keyInGetc 1000
+unfolding handed keyInGetc
+own-getc = record {
+  begins = record {
+    accepted = refl;
+    registers = refl;
+    mode = refl;
+    intact = has-words 0xF020 (withVector 0x20 getcCode) (with-vector-below 0x20 getcCode (omega arith) getc-below);
+    stack = record { above-monitor = omega arith; below-devices = omega arith };
+    mcr = refl;
+  };
+  may-fetch = refl;
+  trap = refl;
+}
+
+getc-quiet : (j : ℕ) → j < 2 → takesInterrupt (causeAt keyInGetc j) ≡ false
+unfolding reading keyInGetc
+getc-quiet zero l = refl
+getc-quiet (suc zero) l = refl
+getc-quiet (suc (suc j)) l = absurd (omega arith)
+
+getc-there : (callOf keyInGetc 0 .machine .pc ≡ 0x3000) × (callOf keyInGetc 1 .machine .pc ≡ 0x0200)
+    × (callOf keyInGetc 2 .machine .devices .mcr ≡ 0x8000)
+unfolding reading keyInGetc
+getc-there = (refl, refl, refl)
+
+getc-accepted : admissionOf pastInGetc 100 ≡ Accepted
+unfolding reading keyInGetc
+getc-accepted = refl
+
+getc-place : (pastInGetc .machine .pc ≡ getcPoll + 1) × (pastInGetc .machine .psr % 8 ≡ 1)
+unfolding reading keyInGetc
+getc-place = (refl, refl)
+
+not-at-rti : (j : ℕ) → j < 2 → callOf keyInGetc j .machine .pc ≡ getcLast → ⊥
+not-at-rti zero l e = omega (arith, e, getc-there .0)
+not-at-rti (suc zero) l e = omega (arith, e, getc-there .1)
+not-at-rti (suc (suc j)) l e = absurd (omega arith)
+
+own-getc-returned : OnTheWay keyInGetc 0 getcLast 2 3 pastInGetc 100
+unfolding keyInGetc inUserMode
+own-getc-returned = record {
+  made = 2;
+  shown = shownIn keyInGetc 2;
+  interrupted = once {k = 2} (omega arith) (by-place (record { none = not-at-rti })) (record {
+    steps = 1000;
+    accepted = own-getc .begins .accepted;
+    fits = omega arith;
+    quiet = record { none = getc-quiet };
+    returned = back keyInGetc 2 0 9 (12 ∷ []) (0x62 ∷ []) (getc-there .2);
+  });
+  apart = record { above-monitor = omega arith; below-devices = omega arith };
+  accepted = getc-accepted;
+  no-other = off pastInGetc refl refl;
+}
+
+getc-reads-key : keyAt pastInGetc 5 ≡ 0x62
+unfolding keysBefore lastKey
+getc-reads-key = refl
 
 -- A key that is ready at the call.
 key-ready : (sp : ℕ) (user : Bool) (word first : ℕ) → KeyComes (exampleWith sp user word 0x8000) first 0
 unfolding exampleWith
-key-ready sp user word first = record {
-  none = λ j l. absurd (omega arith);
-  comes = still-ready _ 0x8000 (omega arith);
-}
+key-ready sp user word first = interrupted-reads .ready (exampleWith sp user word 0x8000) first (omega arith)
 
 -- The string stands at addresses that may be read.
 string : (may : ℕ → Bool) (word : ℕ) → may 0x3002 ≡ true → may 0x3003 ≡ true
@@ -396,4 +528,10 @@ examples-hold = record {
   on-the-way = on-the-way;
   own-out = own-out;
   own-returned = own-returned;
+  own-returned-twice = own-returned-twice;
+  own-getc = own-getc;
+  own-getc-returned = own-getc-returned;
+  own-getc-place = (let p = getc-place .1 in (getc-place .0, omega (arith, p)));
+  own-getc-key = interrupted-reads .arrives pastInGetc 1 3 [] (omega arith) (omega arith) refl;
+  own-getc-reads = getc-reads-key;
 }

@@ -1,5 +1,5 @@
 -- The premises of the theorems can be met: for each, a fresh machine at x3000 with the monitor in memory.
-use Prim.Native.Nat.{ℕ}
+use Prim.Native.Nat.{ℕ, _+_, _%_, _<_}
 use mathlib.Core.Path.{_≡_}
 use mathlib.Core.Bool.{Bool, true, false, cond}
 use mathlib.Core.List.{List, [], _∷_}
@@ -15,11 +15,13 @@ use Rattle.monitor.specs.Install.{installOf}
 use Rattle.monitor.specs.Uses.{withVector, getcCode, outCode, putsCode, inCode, putspCode, haltCode, stopCode}
 use Rattle.monitor.specs.Calls.{StackApart, Begins, Calls, Raises, NoInterrupt}
 use Rattle.monitor.specs.Puts.{mayRead, StringFrom}
+use Rattle.monitor.specs.Keys.{keyAt}
 use Rattle.monitor.specs.Getc.{KeyComes}
 use Rattle.monitor.specs.In.{firstPoll}
 use Rattle.monitor.specs.Out.{outStepsOf}
 use Rattle.monitor.specs.Back.{Interrupted}
-use Rattle.interruptions.specs.GoesOn.{OnTheWay}
+use Rattle.interruptions.specs.GoesOn.{OnTheWay, outLast}
+use Rattle.interruptions.specs.Reads.{getcPoll, getcLast}
 
 -- In User mode or in Supervisor mode, with the supervisor stack at sp. R0 is x3002; this KBSR, and the key x61 in KBDR.
 abbrev pub programAt3000 : Bool → ℕ → ℕ → Machine
@@ -49,23 +51,42 @@ unfoldable pub keyOnTheWay : Start
 keyOnTheWay =
     startOf (programAt3000 true 0x3000 0x4000) (exampleMemory 0xF021) (2 ∷ []) (0x61 ∷ []) (replicate 32 0)
 
--- There a class's own routine takes the key, which clears ready, and returns: seven steps have passed, and the keyboard
--- may no longer interrupt.
-abbrev pub afterOwnRoutine : Machine → Machine
-afterOwnRoutine m = record {
+-- There a class's own routine takes the key, which clears ready, and returns: some steps have passed, and KBSR is this.
+abbrev pub afterOwnRoutine : ℕ → ℕ → Machine → Machine
+afterOwnRoutine kbsr clock m = record {
   regs = m .regs;
   pc = m .pc;
   psr = m .psr;
   «saved_ssp» = m .«saved_ssp»;
   «saved_usp» = m .«saved_usp»;
-  devices = devicesOf 0 0x61 0x8000 0 zeroTimer;
-  clock = 9;
+  devices = devicesOf kbsr 0x61 0x8000 0 zeroTimer;
+  clock = clock;
 }
 
+-- The call goes on after k steps and the interrupt, with these keys to come.
+abbrev pub pastInterrupt : Start → ℕ → ℕ → ℕ → List ℕ → List ℕ → Start
+pastInterrupt q k kbsr clock times bytes =
+    startOf (afterOwnRoutine kbsr clock (callOf q k .machine)) (callOf q k .memory) times bytes
+    (drop (callOf q k .shown) (callOf q k .output))
+
+-- Seven steps later, and the keyboard may no longer interrupt.
 abbrev pub pastTheInterrupt : Start
-pastTheInterrupt =
-    startOf (afterOwnRoutine (callOf keyOnTheWay 2 .machine)) (callOf keyOnTheWay 2 .memory) [] []
-    (drop (callOf keyOnTheWay 2 .shown) (callOf keyOnTheWay 2 .output))
+pastTheInterrupt = pastInterrupt keyOnTheWay 2 0 9 [] []
+
+-- Or it still may, and another key comes in the second step; and that interrupt too is past.
+abbrev pub anotherOnTheWay : Start
+anotherOnTheWay = pastInterrupt keyOnTheWay 2 0x4000 9 (10 ∷ []) (0x62 ∷ [])
+
+abbrev pub pastBoth : Start
+pastBoth = pastInterrupt anotherOnTheWay 1 0 17 [] []
+
+-- GETC is called so. Its poll has found no key when one comes, and the own routine takes it; three steps after the
+-- return another comes, which may not interrupt.
+unfoldable pub keyInGetc : Start
+keyInGetc = startOf (programAt3000 true 0x3000 0x4000) (exampleMemory 0xF020) (2 ∷ []) (0x61 ∷ []) (replicate 32 0)
+
+abbrev pub pastInGetc : Start
+pastInGetc = pastInterrupt keyInGetc 2 0 9 (12 ∷ []) (0x62 ∷ [])
 
 pub record ExamplesHold : Type 0 where
   -- a stack at x3000, as a start makes it; elsewhere; and at both ends of where it may be
@@ -114,6 +135,13 @@ pub record ExamplesHold : Type 0 where
   -- a key that is ready and may interrupt, and one that comes on the way through a routine
   pub interrupted : Interrupted (example true 0x1020 0xC000) 1000 0 (callOf (example true 0x1020 0xC000) 0)
   pub on-the-way : Interrupted keyOnTheWay 1000 2 (callOf keyOnTheWay 2)
-  -- OUT is interrupted after two steps, and a class's own routine returns
+  -- OUT is interrupted after two steps, and a class's own routine returns; and once more, a step later
   pub own-out : Calls 0x21 outCode 3 true keyOnTheWay 1000
-  pub own-returned : OnTheWay keyOnTheWay 1000 2 (outStepsOf keyOnTheWay) 3 3 pastTheInterrupt 100
+  pub own-returned : OnTheWay keyOnTheWay (outStepsOf keyOnTheWay) outLast 3 3 pastTheInterrupt 100
+  pub own-returned-twice : OnTheWay keyOnTheWay (outStepsOf keyOnTheWay) outLast 3 3 pastBoth 100
+  -- GETC is interrupted behind a poll that found no key: it stands at BRzp, and reads the key that comes
+  pub own-getc : Calls 0x20 getcCode 2 true keyInGetc 1000
+  pub own-getc-returned : OnTheWay keyInGetc 0 getcLast 2 3 pastInGetc 100
+  pub own-getc-place : (pastInGetc .machine .pc ≡ getcPoll + 1) × (pastInGetc .machine .psr % 8 < 4)
+  pub own-getc-key : KeyComes pastInGetc 1 1
+  pub own-getc-reads : keyAt pastInGetc 5 ≡ 0x62
