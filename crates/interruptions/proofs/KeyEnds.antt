@@ -2,12 +2,14 @@
 use Prim.Native.Nat.{ℕ, suc, _+_, _-_, _*_, _/_, _%_, _≤_, _<_}
 use native.Mathlib.Omega.{arith}
 use mathlib.Core.Path.{_≡_, refl, sym, ap, subst, _∙_}
-use mathlib.Core.Bool.{Bool, true}
+use mathlib.Core.Bool.{Bool, true, false, cond}
 use mathlib.Core.List.{List, []}
+use borrow.Author.Tests.{lt-ltb, le-ltb}
+use lib.Dec.{eqb}
 use lib.ListN.{getD, set}
 use lib.Seq.{set-set}
-use Rattle.machine.specs.Words.{next, withRegister, andBits}
-use Rattle.machine.specs.Psr.{codesOf, isTaken}
+use Rattle.machine.specs.Words.{next, withRegister}
+use Rattle.machine.specs.Psr.{codesOf}
 use Rattle.run.specs.Run.{Start, End}
 use Rattle.monitor.specs.Calls.{stackOf, Begins}
 use Rattle.monitor.specs.Keys.{arrivedBy, statusAt, keyAt}
@@ -17,6 +19,7 @@ use Rattle.monitor.proofs.Instructions.{codes-below, other}
 use Rattle.monitor.proofs.Entries.{at-start, psr-parts, calledFrame, within}
 use Rattle.monitor.proofs.Calls.{quiet-steps, call-stands}
 use Rattle.monitor.proofs.Keyboard.{keyRead, Turned, turns, takes-key}
+use Rattle.monitor.proofs.Strings.{negative}
 use Rattle.monitor.proofs.Paths.{Readable, Ends, Path}
 use Rattle.interruptions.specs.GoesOn.{OnTheWay}
 use Rattle.interruptions.specs.Reads.{ResumesWith, TakesKey, TakesKeyLater, HasKey, Reads}
@@ -28,7 +31,7 @@ use Rattle.interruptions.proofs.Narrowing.{relying, relied, narrowed, i
 use Rattle.interruptions.proofs.Resuming.{resumed}
 use Rattle.interruptions.proofs.KeyWait.{Unread, keyed, Reader, Same, polling, branching, loading, OnWait}
 use Rattle.interruptions.proofs.KeyWait.{polls, found-none, found-one, loads, with-key, branched, key-loaded}
-use Rattle.interruptions.proofs.KeyWait.{leadsTo, to-wait, waiting}
+use Rattle.interruptions.proofs.KeyWait.{to-wait, waiting}
 
 -- The display's count at the key, from what is left of it after the polls that find none.
 three-less : (left busy most t : ℕ) → left ≡ busy - 2 * t → busy ≤ most → left - 1 - 1 - 1 ≤ most - 1 - 1 - 1
@@ -36,6 +39,14 @@ three-less left busy most t e le = at-once left most (omega arith)
   where
     at-once : (left most : ℕ) → left ≤ most → left - 1 - 1 - 1 ≤ most - 1 - 1 - 1
     at-once left most le = omega arith
+
+n-is-clear : (x : ℕ) → x < 0x8000 → codesOf x < 4
+unfolding codesOf
+n-is-clear x h = rw (lt-ltb x 0x8000 h) (go (eqb x 0))
+  where
+    go : (z : Bool) → cond {A = ℕ} z 2 1 < 4
+    go true = omega arith
+    go false = omega arith
 
 module _ (uses : ℕ → Bool) (words : ℕ) (user : Bool) (s : Start) (n : ℕ) (b : Begins uses words user s n)
     (two : 2 ≤ words) (low : (a : ℕ) → uses a ≡ true → a < 0x02A5) (may : ℕ → Bool) (below : ℕ)
@@ -113,7 +124,7 @@ module _ (uses : ℕ → Bool) (words : ℕ) (user : Bool) (s : Start) (n : ℕ)
     -- the view at the load of KBDR
     abbrev found : View
     found = within (twin wait x) (withRegister (waited .regs-now) 0 (statusAt r (first + 2 * t))) (next (next poll))
-        (from 0x8000) (waited .busy-now - 1 - 1)
+        (from (statusAt r (first + 2 * t))) (waited .busy-now - 1 - 1)
 
     abbrev byte : ℕ
     byte = keyAt r (first + 2 * t + 2)
@@ -203,9 +214,9 @@ module _ (uses : ℕ → Bool) (words : ℕ) (user : Bool) (s : Start) (n : ℕ)
     to-poll : On r 0 (o .made) w x → r .machine .pc ≤ poll → suc len ≤ m → Later
     to-poll (to-wait i few path u) h enough = from-way i few path u enough
     to-poll (polls regs c same-regs e u) h enough = from-poll 0 (omega arith) (omega arith) regs c same-regs e st u
-    to-poll (found-none regs y same-regs clear goes e u) h enough =
+    to-poll (found-none regs y same-regs small e u) h enough =
         let p = ap (λ (v : View). v .pc) e ∙ place st in absurd (omega (arith, p, reader .one))
-    to-poll (found-one regs same-regs e u) h enough =
+    to-poll (found-one regs y same-regs big e u) h enough =
         let p = ap (λ (v : View). v .pc) e ∙ place st in absurd (omega (arith, p, reader .one))
     to-poll (loads regs c same-regs e u) h enough =
         let p = ap (λ (v : View). v .pc) e ∙ place st in absurd (omega (arith, p, reader .two))
@@ -213,15 +224,14 @@ module _ (uses : ℕ → Bool) (words : ℕ) (user : Bool) (s : Start) (n : ℕ)
 
     -- At the branch the way to the wait and the way back are not.
     at-branch : {A : Type 0} → r .machine .pc ≡ poll + 1 → On r 0 (o .made) w x
-        → ((regs : List ℕ) (y : ℕ) → Same wait regs → codesOf y < 4 → leadsTo wait y ≡ poll → branching wait regs y ≡ w
-        → Unread r x → A)
-        → ((regs : List ℕ) → Same wait regs → branching wait regs 0x8000 ≡ w → Unread r x → A) → A
+        → ((regs : List ℕ) (y : ℕ) → Same wait regs → y < 0x8000 → branching wait regs y ≡ w → Unread r x → A)
+        → ((regs : List ℕ) (y : ℕ) → Same wait regs → 0x8000 ≤ y → branching wait regs y ≡ w → Unread r x → A) → A
     at-branch h (to-wait i few path u) none one =
         absurd (not-behind path (omega (arith, place st)) (omega (arith, place st, reader .before-last)))
     at-branch h (polls regs c same-regs e u) none one =
         let p = ap (λ (v : View). v .pc) e ∙ place st in absurd (omega (arith, p))
-    at-branch h (found-none regs y same-regs clear goes e u) none one = none regs y same-regs clear goes e u
-    at-branch h (found-one regs same-regs e u) none one = one regs same-regs e u
+    at-branch h (found-none regs y same-regs small e u) none one = none regs y same-regs small e u
+    at-branch h (found-one regs y same-regs big e u) none one = one regs y same-regs big e u
     at-branch h (loads regs c same-regs e u) none one =
         let p = ap (λ (v : View). v .pc) e ∙ place st in absurd (omega (arith, p, reader .two))
     at-branch h (with-key y i key few path) none one = absurd (omega (arith, behind {y = y} path, place st))
@@ -232,36 +242,34 @@ module _ (uses : ℕ → Bool) (words : ℕ) (user : Bool) (s : Start) (n : ℕ)
 
     none-found : On r 0 (o .made) w x → r .machine .pc ≡ poll + 1 → r .machine .psr % 8 < 4
         → TakesKey s (o .shown) r m (words + below) text (suc rest) 1
-    unfolding codesOf
     none-found on h clear t key fits =
         at-branch h on
-        (λ regs y same-regs small goes e u.
+        (λ regs y same-regs small e u.
         let p = branched f below may away last len rest begin wait end reader quiet 0 (o .shown) (omega arith) regs y
-        poll (wait .busy) (omega arith) goes x (subst (λ (v : View). Standing f below r 0 (o .shown) v x) (sym e) st) u
-        in
+        (wait .busy) true (omega arith) (lt-ltb y 0x8000 small) x
+        (subst (λ (v : View). Standing f below r 0 (o .shown) v x) (sym e) st) u in
         takes 1 regs (from y) same-regs (p .rest) (p .standing) (p .unread) t key fits)
-        (λ regs same-regs e u. absurd (omega (arith, codes-at regs 0x8000 e)))
+        (λ regs y same-regs big e u. absurd (omega (arith, negative y big, codes-at regs y e)))
 
     found-then : On r 0 (o .made) w x → r .machine .pc ≡ poll + 1 → 4 ≤ r .machine .psr % 8 → 2 + suc rest ≤ m
         → With (2 + suc rest) (keyAt r 1)
-    unfolding isTaken codesOf andBits
     found-then on h set-n enough =
         at-branch h on
-        (λ regs y same-regs small goes e u. absurd (omega (arith, codes-at regs y e)))
-        (λ regs same-regs e u.
-        let p = branched f below may away last len rest begin wait end reader quiet 0 (o .shown) (omega arith) regs
-        0x8000 (next (next poll)) (wait .busy - 1 - 1) (omega arith) refl x
+        (λ regs y same-regs small e u. absurd (omega (arith, n-is-clear y small, codes-at regs y e)))
+        (λ regs y same-regs big e u.
+        let p = branched f below may away last len rest begin wait end reader quiet 0 (o .shown) (omega arith) regs y
+        (wait .busy - 1 - 1) false (omega arith) (le-ltb y 0x8000 big) x
         (subst (λ (v : View). Standing f below r 0 (o .shown) v x) (sym e) st) u in
-        loads-now 1 regs (from 0x8000) same-regs (p .rest) (p .standing) (2 + suc rest) (omega arith) enough)
+        loads-now 1 regs (from y) same-regs (p .rest) (p .standing) (2 + suc rest) (omega arith) enough)
 
     to-load : On r 0 (o .made) w x → r .machine .pc ≡ poll + 2 → 1 + suc rest ≤ m → With (1 + suc rest) (keyAt r 0)
     to-load (to-wait i few path u) h enough =
         absurd (not-behind path (omega (arith, place st)) (omega (arith, place st, reader .before-last)))
     to-load (polls regs c same-regs e u) h enough =
         let p = ap (λ (v : View). v .pc) e ∙ place st in absurd (omega (arith, p))
-    to-load (found-none regs y same-regs clear goes e u) h enough =
+    to-load (found-none regs y same-regs small e u) h enough =
         let p = ap (λ (v : View). v .pc) e ∙ place st in absurd (omega (arith, p, reader .one))
-    to-load (found-one regs same-regs e u) h enough =
+    to-load (found-one regs y same-regs big e u) h enough =
         let p = ap (λ (v : View). v .pc) e ∙ place st in absurd (omega (arith, p, reader .one))
     to-load (loads regs c same-regs e u) h enough =
         loads-now 0 regs c same-regs x (subst (λ (v : View). Standing f below r 0 (o .shown) v x) (sym e) st)
@@ -273,9 +281,9 @@ module _ (uses : ℕ → Bool) (words : ℕ) (user : Bool) (s : Start) (n : ℕ)
         absurd (not-behind path (omega (arith, place st)) (omega (arith, place st)))
     has (polls regs c same-regs e u) h l enough =
         let p = ap (λ (v : View). v .pc) e ∙ place st in absurd (omega (arith, p))
-    has (found-none regs y same-regs clear goes e u) h l enough =
+    has (found-none regs y same-regs small e u) h l enough =
         let p = ap (λ (v : View). v .pc) e ∙ place st in absurd (omega (arith, p, reader .one))
-    has (found-one regs same-regs e u) h l enough =
+    has (found-one regs y same-regs big e u) h l enough =
         let p = ap (λ (v : View). v .pc) e ∙ place st in absurd (omega (arith, p, reader .one))
     has (loads regs c same-regs e u) h l enough =
         let p = ap (λ (v : View). v .pc) e ∙ place st in absurd (omega (arith, p, reader .two))

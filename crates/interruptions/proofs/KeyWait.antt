@@ -5,26 +5,27 @@ use native.Mathlib.Numerals.{add-one}
 use native.Mathlib.Omega.{arith}
 use native.Mathlib.Decide.{decLe}
 use mathlib.Core.Path.{_≡_, refl, sym, ap, subst, _∙_}
-use mathlib.Core.Bool.{Bool, true, cond}
+use mathlib.Core.Bool.{Bool, true, false, cond}
 use mathlib.Core.List.{List, []}
+use borrow.Author.Tests.{lt-ltb, le-ltb}
+use lib.Dec.{ltb}
 use lib.IntN.{negsuc}
 use lib.ListN.{length}
 use lib.Seq.{set-set}
 use Rattle.word.specs.declared.Instruction.the-variants.{Br}
 use Rattle.machine.specs.declared.Plan.the-variants.{Jump}
-use Rattle.machine.specs.Words.{next, withRegister, andBits}
-use Rattle.machine.specs.Psr.{codesOf, isTaken}
+use Rattle.machine.specs.Words.{next, withRegister}
+use Rattle.machine.specs.Psr.{isTaken}
 use Rattle.run.specs.declared.Admission.the-variants.{Accepted}
 use Rattle.run.specs.Run.{Start, End}
 use Rattle.run.specs.Refusals.{admissionOf}
 use Rattle.monitor.specs.Keys.{arrivedBy, keyAt}
 use Rattle.monitor.proofs.Execution.{Frame, Known, from, View, At, Quiet, statusIn}
 use Rattle.monitor.proofs.Intact.{cellsFine, usable}
-use Rattle.monitor.proofs.Instructions.{codesFor, valued, other, same, by-plan}
-use Rattle.monitor.proofs.Entries.{within, recoded}
+use Rattle.monitor.proofs.Instructions.{codesFor, other, same, by-plan}
+use Rattle.monitor.proofs.Entries.{within}
 use Rattle.monitor.proofs.Calls.{call-stands}
-use Rattle.monitor.proofs.Keyboard.{keyRead, loads-status, loads-key, Keys}
-use Rattle.monitor.proofs.Strings.{negative, positive}
+use Rattle.monitor.proofs.Keyboard.{keyRead, loads-status, loads-key, taken-after, Keys}
 use Rattle.monitor.proofs.Paths.{Readable, Path, keeps}
 use Rattle.interruptions.specs.GoesOn.{Returned}
 use Rattle.interruptions.specs.Reads.{KeyOf, loaded, before}
@@ -69,10 +70,6 @@ branching wait regs y = within wait regs (next (wait .pc)) (from y) (wait .busy 
 abbrev pub loading : View → List ℕ → Known → View
 loading wait regs c = within wait regs (next (next (wait .pc))) c (wait .busy - 1 - 1)
 
--- Where BRzp leads to, after this value.
-abbrev pub leadsTo : View → ℕ → ℕ
-leadsTo wait y = cond (isTaken 3 (codesFor (from y) (Br 3 (negsuc 1)))) (wait .pc) (next (next (wait .pc)))
-
 -- A routine that reads a key: a way to the first poll of KBSR, in words up to it; and a way from the key to RTI, in
 -- words behind the load of KBDR.
 pub record Reader (f : Frame) (may : ℕ → Bool) (last len rest : ℕ) (begin wait : View) (end : ℕ → View) : Type 0 where
@@ -110,9 +107,10 @@ module _ (f : Frame) (below : ℕ) (may : ℕ → Bool)
   pub data OnWait (q : Start) (j made : ℕ) (w : View) (x : Rest) : Type 0 where
     to-wait : (n : ℕ) → n ≤ len → Path (relying f (reader .earlier)) may w n wait → Unread q x → OnWait q j made w x
     polls : (regs : List ℕ) (c : Known) → Same wait regs → polling wait regs c ≡ w → Unread q x → OnWait q j made w x
-    found-none : (regs : List ℕ) (y : ℕ) → Same wait regs → codesOf y < 4 → leadsTo wait y ≡ poll
-        → branching wait regs y ≡ w → Unread q x → OnWait q j made w x
-    found-one : (regs : List ℕ) → Same wait regs → branching wait regs 0x8000 ≡ w → Unread q x → OnWait q j made w x
+    found-none : (regs : List ℕ) (y : ℕ) → Same wait regs → y < 0x8000 → branching wait regs y ≡ w → Unread q x
+        → OnWait q j made w x
+    found-one : (regs : List ℕ) (y : ℕ) → Same wait regs → 0x8000 ≤ y → branching wait regs y ≡ w → Unread q x
+        → OnWait q j made w x
     loads : (regs : List ℕ) (c : Known) → Same wait regs → loading wait regs c ≡ w → Unread q x → OnWait q j made w x
     with-key : (y n : ℕ) → KeyOf poll below q j y → n ≤ rest → Path (relying f (reader .later)) may w n (end y)
         → OnWait q j made w x
@@ -128,17 +126,12 @@ module _ (f : Frame) (below : ℕ) (may : ℕ → Bool)
       abbrev status : ℕ
       status = statusIn q j (twin (polling wait regs c) x)
 
-      -- The codes are those of this value.
-      polled : (y : ℕ) → codesOf status ≡ codesOf y
-          → ThereUnread f below q (suc j) shown (branching wait (withRegister regs 0 status) y)
-      polled y e =
+      abbrev polled-view : View
+      polled-view = branching wait (withRegister regs 0 status) status
+
+      polled : ThereUnread f below q (suc j) shown polled-view
+      polled =
           let k = reader .keys (q .memory) (q .output) x in
-          let v : View = within (twin wait x) regs poll c (x .busy) in
-          let a : At q 0 (suc j) g (valued v 0 status (next poll)) =
-          loads-status g (st .sound) v (reader .going) (st .like .fine) 0 (k .pointer) (k .loads regs c (x .busy))
-          (k .pointer-plain) (st .at) (quiet .at (st .at) le) (k .keyboard) in
-          let b = recoded {bound = suc j} g (valued v 0 status (next poll)) (from status) (from y) e .on (omega arith) a
-          in
           record {
             rest = less x;
             standing = moved f below may away st
@@ -148,22 +141,26 @@ module _ (f : Frame) (below : ℕ) (may : ℕ → Bool)
                   busy = omega (arith, st .like .busy);
                   slots = st .like .slots;
                 })
-                (other f (polling wait regs c) (st .kept) 0 status refl
-                (branching wait (withRegister regs 0 status) y) refl refl)
-                (subst (λ (i : ℕ). At q 0 i g (twin (branching wait (withRegister regs 0 status) y) (less x)))
-                (add-zero (suc j)) b);
+                (other f (polling wait regs c) (st .kept) 0 status refl polled-view refl refl)
+                (loads-status g (st .sound) (within (twin wait x) regs poll c (x .busy)) (reader .going)
+                (st .like .fine) 0 (k .pointer) (k .loads regs c (x .busy)) (k .pointer-plain) (st .at) (quiet .at (st .at) le)
+                (k .keyboard));
             unread = record { none = u .none; status = u .status };
           }
 
     -- ---- BRzp
 
-    pub branched : (regs : List ℕ) (y to busy : ℕ) → wait .busy - 1 - 1 ≤ busy → leadsTo wait y ≡ to → (x : Rest)
-        → Standing f below q j shown (branching wait regs y) x → Unread q x
-        → ThereUnread f below q (suc j) shown (within wait regs to (from y) busy)
-    branched regs y to busy enough goes x st u =
+    pub branched : (regs : List ℕ) (y busy : ℕ) (back : Bool) → wait .busy - 1 - 1 ≤ busy → ltb y 0x8000 ≡ back
+        → (x : Rest) → Standing f below q j shown (branching wait regs y) x → Unread q x
+        → ThereUnread f below q (suc j) shown (within wait regs (cond back poll (next (next poll))) (from y) busy)
+    branched regs y busy back enough is x st u =
         let k = reader .keys (q .memory) (q .output) x in
+        let to : ℕ = cond back poll (next (next poll)) in
+        let goes : isTaken 3 (codesFor (from y) (Br 3 (negsuc 1))) ≡ back = taken-after y ∙ is in
         let l = by-plan quiet g (st .sound) 0 (omega arith) (within (twin wait x) regs (next poll) (from y) (x .busy))
-        (reader .going) (st .like .fine) (Jump (leadsTo wait y)) (k .branches regs (from y) (x .busy)) refl in
+        (reader .going) (st .like .fine)
+        (Jump (cond (isTaken 3 (codesFor (from y) (Br 3 (negsuc 1)))) poll (next (next poll))))
+        (k .branches regs (from y) (x .busy)) refl in
         record {
           rest = less x;
           standing = moved f below may away st
@@ -233,36 +230,18 @@ module _ (f : Frame) (below : ℕ) (may : ℕ → Bool)
           again : Same wait (withRegister regs 0 found)
           again y = set-set regs 0 found y ∙ same-regs y
 
-          poll-none : (y : ℕ) → codesOf found ≡ codesOf y → codesOf y < 4 → leadsTo wait y ≡ poll
-              → Here q (suc j) shown (suc made)
-          poll-none y e clear goes =
-              let p = polled quiet j shown le regs c x st u y e in
-              record {
-                view = branching wait (withRegister regs 0 found) y;
-                rest = p .rest;
-                standing = p .standing;
-                on = found-none (withRegister regs 0 found) y again clear goes refl (p .unread);
-              }
-
-          poll-one : codesOf found ≡ codesOf 0x8000 → Here q (suc j) shown (suc made)
-          poll-one e =
-              let p = polled quiet j shown le regs c x st u 0x8000 e in
-              record {
-                view = branching wait (withRegister regs 0 found) 0x8000;
-                rest = p .rest;
-                standing = p .standing;
-                on = found-one (withRegister regs 0 found) again refl (p .unread);
-              }
-
           poll-next : Here q (suc j) shown (suc made)
-          unfolding isTaken codesOf andBits
-          poll-next = elim (decLe 0x8000 found) [
-            | yes h ↦ poll-one (negative found h)
-            | no h ↦ elim (decLe 1 found) [
-              | yes l ↦ poll-none 1 (positive found l (omega arith)) (omega arith) refl
-              | no l ↦ poll-none 0 (ap codesOf (let z : found ≡ 0 = omega arith in z)) (omega arith) refl
-            ]
-          ]
+          poll-next =
+              let p = polled quiet j shown le regs c x st u in
+              record {
+                view = branching wait (withRegister regs 0 found) found;
+                rest = p .rest;
+                standing = p .standing;
+                on = elim (decLe 0x8000 found) [
+                  | yes h ↦ found-one (withRegister regs 0 found) found again h refl (p .unread)
+                  | no h ↦ found-none (withRegister regs 0 found) found again (omega arith) refl (p .unread)
+                ];
+              }
 
         -- On the way to the wait.
         abbrev f₁ : Frame
@@ -324,12 +303,11 @@ module _ (f : Frame) (below : ℕ) (may : ℕ → Bool)
         by-place : (n : ℕ) → admissionOf q n ≡ Accepted → j ≤ n → {w : View} {x : Rest}
             → Standing f below q j shown w x
             → OnWait q j made w x → (w .pc ≡ last → ⊥) → Here q (suc j) shown (suc made)
-        unfolding isTaken codesOf andBits
         by-place n accepted fits st (to-wait i few path u) not-last = on-way i few path st u
         by-place n accepted fits {x = x} st (polls regs c same-regs e u) not-last =
             poll-next regs c same-regs x (subst (λ (y : View). Standing f below q j shown y x) (sym e) st) u
-        by-place n accepted fits {x = x} st (found-none regs y same-regs clear goes e u) not-last =
-            let p = branched quiet j shown le regs y poll (wait .busy) (omega arith) goes x
+        by-place n accepted fits {x = x} st (found-none regs y same-regs small e u) not-last =
+            let p = branched quiet j shown le regs y (wait .busy) true (omega arith) (lt-ltb y 0x8000 small) x
             (subst (λ (v : View). Standing f below q j shown v x) (sym e) st) u in
             record {
               view = polling wait regs (from y);
@@ -337,14 +315,14 @@ module _ (f : Frame) (below : ℕ) (may : ℕ → Bool)
               standing = p .standing;
               on = polls regs (from y) same-regs refl (p .unread);
             }
-        by-place n accepted fits {x = x} st (found-one regs same-regs e u) not-last =
-            let p = branched quiet j shown le regs 0x8000 (next (next poll)) (wait .busy - 1 - 1) (omega arith) refl x
+        by-place n accepted fits {x = x} st (found-one regs y same-regs big e u) not-last =
+            let p = branched quiet j shown le regs y (wait .busy - 1 - 1) false (omega arith) (le-ltb y 0x8000 big) x
             (subst (λ (v : View). Standing f below q j shown v x) (sym e) st) u in
             record {
-              view = loading wait regs (from 0x8000);
+              view = loading wait regs (from y);
               rest = p .rest;
               standing = p .standing;
-              on = loads regs (from 0x8000) same-regs refl (p .unread);
+              on = loads regs (from y) same-regs refl (p .unread);
             }
         by-place n accepted fits {x = x} st (loads regs c same-regs e u) not-last =
             let here = subst (λ (v : View). Standing f below q j shown v x) (sym e) st in
@@ -365,8 +343,8 @@ module _ (f : Frame) (below : ℕ) (may : ℕ → Bool)
     deep-there : {q : Start} {j made : ℕ} {w : View} {x : Rest} → OnWait q j made w x → 0 < w .depth
     deep-there (to-wait n few path u) = beforeWay path .known (reader .deep)
     deep-there (polls regs c same-regs e u) = subst (λ (v : View). 0 < v .depth) e (reader .deep)
-    deep-there (found-none regs y same-regs clear goes e u) = subst (λ (v : View). 0 < v .depth) e (reader .deep)
-    deep-there (found-one regs same-regs e u) = subst (λ (v : View). 0 < v .depth) e (reader .deep)
+    deep-there (found-none regs y same-regs small e u) = subst (λ (v : View). 0 < v .depth) e (reader .deep)
+    deep-there (found-one regs y same-regs big e u) = subst (λ (v : View). 0 < v .depth) e (reader .deep)
     deep-there (loads regs c same-regs e u) = subst (λ (v : View). 0 < v .depth) e (reader .deep)
     deep-there (with-key y n key few path) = beforeWay path .known (reader .end-deep y)
 
@@ -376,8 +354,8 @@ module _ (f : Frame) (below : ℕ) (may : ℕ → Bool)
     fine-there : {q : Start} {j made : ℕ} {w : View} {x : Rest} → OnWait q j made w x → Fine w
     fine-there (to-wait n few path u) = beforeWay path .fine (reader .fine)
     fine-there (polls regs c same-regs e u) = subst Fine e (reader .fine)
-    fine-there (found-none regs y same-regs clear goes e u) = subst Fine e (reader .fine)
-    fine-there (found-one regs same-regs e u) = subst Fine e (reader .fine)
+    fine-there (found-none regs y same-regs small e u) = subst Fine e (reader .fine)
+    fine-there (found-one regs y same-regs big e u) = subst Fine e (reader .fine)
     fine-there (loads regs c same-regs e u) = subst Fine e (reader .fine)
     fine-there (with-key y n key few path) = beforeWay path .fine (reader .end-fine y)
 
@@ -387,8 +365,8 @@ module _ (f : Frame) (below : ℕ) (may : ℕ → Bool)
     room-there : {q : Start} {j made : ℕ} {w : View} {x : Rest} → OnWait q j made w x → Fits w
     room-there (to-wait n few path u) = omega (arith, beforeWay path .fewer, reader .room)
     room-there (polls regs c same-regs e u) = subst Fits e (reader .room)
-    room-there (found-none regs y same-regs clear goes e u) = subst Fits e (reader .room)
-    room-there (found-one regs same-regs e u) = subst Fits e (reader .room)
+    room-there (found-none regs y same-regs small e u) = subst Fits e (reader .room)
+    room-there (found-one regs y same-regs big e u) = subst Fits e (reader .room)
     room-there (loads regs c same-regs e u) = subst Fits e (reader .room)
     room-there (with-key y n key few path) = omega (arith, beforeWay path .fewer, reader .end-room y)
 
@@ -399,9 +377,10 @@ module _ (f : Frame) (below : ℕ) (may : ℕ → Bool)
         → Returned q j below r → OnWait r 0 made w (fresh r)
     goes-on-there {r = r} (to-wait n few path u) back = to-wait n few path (unread-again r)
     goes-on-there {r = r} (polls regs c same-regs e u) back = polls regs c same-regs e (unread-again r)
-    goes-on-there {r = r} (found-none regs y same-regs clear goes e u) back =
-        found-none regs y same-regs clear goes e (unread-again r)
-    goes-on-there {r = r} (found-one regs same-regs e u) back = found-one regs same-regs e (unread-again r)
+    goes-on-there {r = r} (found-none regs y same-regs small e u) back =
+        found-none regs y same-regs small e (unread-again r)
+    goes-on-there {r = r} (found-one regs y same-regs big e u) back =
+        found-one regs y same-regs big e (unread-again r)
     goes-on-there {r = r} (loads regs c same-regs e u) back = loads regs c same-regs e (unread-again r)
     goes-on-there (with-key y n key few path) back = with-key y n (before key back) few path
 

@@ -86,8 +86,8 @@ module _ (user : Bool) (s : Start) (n t : ℕ) (c : Calls 0x20 getcCode 2 user s
       (key .none)
 
   abbrev polled : View
-  polled = within view (withRegister (waited .regs-now) 0 (statusAt s (1 + 2 * t))) 0x0202 (from 0x8000)
-      (waited .busy-now - 1 - 1)
+  polled = within view (withRegister (waited .regs-now) 0 (statusAt s (1 + 2 * t))) 0x0202
+      (from (statusAt s (1 + 2 * t))) (waited .busy-now - 1 - 1)
 
   abbrev returning : View
   returning = keyRead s (1 + 2 * t + 2) polled 0

@@ -167,7 +167,7 @@ module _ (user : Bool) (s : Start) (n t : ℕ) (c : Calls 0x23 inCode 4 user s n
 
   abbrev polled : View
   polled = within (waiting user s x) (withRegister (waited .regs-now) 0 (statusAt s (firstPoll s + 2 * t))) 0x0235
-      (from 0x8000) (waited .busy-now - 1 - 1)
+      (from (statusAt s (firstPoll s + 2 * t))) (waited .busy-now - 1 - 1)
 
   abbrev read : ℕ
   read = arrivedBy s (suc (keyStep s t))

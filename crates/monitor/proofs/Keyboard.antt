@@ -1,10 +1,11 @@
 -- The loads of KBSR and KBDR, whose values come from the keys that have arrived.
 use Prim.Native.Nat.{ℕ, zero, suc, _+_, _-_, _*_, _%_, _≤_, _<_}
 use native.Mathlib.Omega.{arith}
-use mathlib.Core.Path.{_≡_, refl, ap, subst, _∙_}
-use mathlib.Core.Bool.{true, cond}
+use mathlib.Core.Path.{_≡_, refl, subst, _∙_}
+use mathlib.Core.Bool.{Bool, true, false, cond}
+use borrow.Author.Tests.{lt-ltb, le-ltb}
+use lib.Dec.{ltb}
 use mathlib.Core.List.{List, []}
-use native.Mathlib.Decide.{decLe}
 use lib.IntN.{negsuc}
 use lib.ListN.{take, drop}
 use lib.Seq.{set-set}
@@ -12,7 +13,7 @@ use Rattle.machine.specs.declared.Devices.{Devices}
 use Rattle.word.specs.declared.Instruction.the-variants.{Br}
 use Rattle.machine.specs.declared.Plan.the-variants.{LoadBy, Jump}
 use Rattle.machine.specs.Record.{setKeyboard}
-use Rattle.machine.specs.Words.{next, withRegister, andBits}
+use Rattle.machine.specs.Words.{next, withRegister}
 use Rattle.machine.specs.Psr.{codesOf, isTaken}
 use Rattle.machine.specs.Psr.{recoded as recodedPsr}
 use Rattle.machine.specs.Keys.{readyAfter}
@@ -21,16 +22,17 @@ use Rattle.machine.specs.Devices.{KBSR, KBDR, isDeviceBy, deviceValue, loadedVa
 use Rattle.machine.specs.Devices.{timerStatusAfterLoad, afterLoad}
 use Rattle.machine.specs.Access.{loadToBy, loadTo}
 use Rattle.machine.specs.Step.{performBy, perform}
+use Rattle.machine.proofs.StepLaws.{codesOf-below}
 use Rattle.run.specs.Run.{Start}
 use Rattle.monitor.specs.Keys.{arrivedBy, statusAt}
 use Rattle.monitor.proofs.KeyLaws.{ready-leaves-rest}
+use Rattle.monitor.proofs.Modes.{taken-by-sign}
 use Rattle.monitor.proofs.Execution.{Frame, Known, from, View, memoryAt, machineAt, At, QuietStep, statusIn}
-use Rattle.monitor.proofs.Execution.{keyIn, Gives, Keyboard, advance-by, same-keyboard, Quiet, Leads, then}
+use Rattle.monitor.proofs.Execution.{keyIn, Gives, Keyboard, advance-by, same-keyboard, Quiet}
 use Rattle.monitor.proofs.Intact.{cellsFine, wordAt}
 use Rattle.monitor.proofs.Instructions.{Sound, codesFor, planAt, by-plan, valued, silent, all-allowed}
 use Rattle.monitor.proofs.Instructions.{pointed, recoded-is, obeys-plan-at}
-use Rattle.monitor.proofs.Entries.{within, recoded}
-use Rattle.monitor.proofs.Strings.{negative, positive}
+use Rattle.monitor.proofs.Entries.{within}
 
 -- After a load of KBDR in step number k.
 abbrev pub keyRead : Start → ℕ → View → ℕ → View
@@ -123,6 +125,10 @@ status-is s k v p q = go (v .read) (v .status) p q
 
 -- ---- the wait for a key
 
+-- BRzp after this value.
+pub taken-after : (x : ℕ) → isTaken 3 (codesFor (from x) (Br 3 (negsuc 1))) ≡ ltb x 0x8000
+taken-after x = taken-by-sign x (codesOf x) (omega (arith, codesOf-below x)) .1
+
 -- LDI of KBSR to register r at p, BRzp back to it, and LDI of KBDR to r: the plans there, whatever registers, codes and
 -- busy count are.
 pub record Keys (f : Frame) (v : View) (r p : ℕ) : Type 0 where
@@ -160,17 +166,15 @@ module _ {s : Start} {bound : ℕ} (quiet : Quiet s 0 bound) (f : Frame) (sound 
       (q .loads regs c busy) (q .pointer-plain) a (quiet .at a le) (q .keyboard))
 
   -- BRzp goes there.
-  branches : (k : ℕ) → suc k ≤ bound → (regs : List ℕ) (x y to busy : ℕ) → codesOf x ≡ codesOf y
-      → cond (isTaken 3 (codesFor (from y) (Br 3 (negsuc 1)))) p (next (next p)) ≡ to
-      → At s 0 k f (within v regs (next p) (from x) busy) → At s 0 (suc k) f (within v regs to (from y) (busy - 1))
-  branches k le regs x y to busy e goes a =
+  branches : (k : ℕ) → suc k ≤ bound → (regs : List ℕ) (x busy : ℕ) (back : Bool) → ltb x 0x8000 ≡ back
+      → At s 0 k f (within v regs (next p) (from x) busy)
+      → At s 0 (suc k) f (within v regs (cond back p (next (next p))) (from x) (busy - 1))
+  branches k le regs x busy back is a =
       let z : k + 1 ≡ suc k = omega arith in
-      let l : Leads s 0 bound f (within v regs (next p) (from x) busy) 1 f
-      (within v regs (cond (isTaken 3 (codesFor (from y) (Br 3 (negsuc 1)))) p (next (next p))) (from y) (busy - 1)) =
-      then (recoded f (within v regs (next p) (from x) busy) (from x) (from y) e)
-      (by-plan quiet f sound 0 (omega arith) (within v regs (next p) (from y) busy) going fine
-      (Jump (cond (isTaken 3 (codesFor (from y) (Br 3 (negsuc 1)))) p (next (next p)))) (q .branches regs (from y) busy)
-      refl) in
+      let goes : isTaken 3 (codesFor (from x) (Br 3 (negsuc 1))) ≡ back = taken-after x ∙ is in
+      let l = by-plan quiet f sound 0 (omega arith) (within v regs (next p) (from x) busy) going fine
+      (Jump (cond (isTaken 3 (codesFor (from x) (Br 3 (negsuc 1)))) p (next (next p)))) (q .branches regs (from x) busy)
+      refl in
       rw (z, goes) at (l .on (omega arith) a)
 
   -- A turn that finds no key.
@@ -178,27 +182,17 @@ module _ {s : Start} {bound : ℕ} (quiet : Quiet s 0 bound) (f : Frame) (sound 
       → statusAt s k < 0x8000 → (m turns : ℕ) → m ≡ k + 2 → (regs₀ : List ℕ)
       → ((z : ℕ) → withRegister regs r z ≡ withRegister regs₀ r z) → (busy₀ : ℕ) → busy ≡ busy₀ - 2 * turns
       → Turned s m f v regs₀ r p (suc turns) busy₀
-  unfolding isTaken codesOf andBits
-  turn k le regs c busy a none m turns e regs₀ same busy₀ count = elim (decLe 1 (statusAt s k)) [
-    | yes h ↦ go 1 (positive (statusAt s k) h none) refl
-    | no h ↦ go 0 (ap codesOf (let z : statusAt s k ≡ 0 = omega arith in z)) refl
-  ]
-    where
-      go : (y : ℕ) → codesOf (statusAt s k) ≡ codesOf y
-          → cond (isTaken 3 (codesFor (from y) (Br 3 (negsuc 1)))) p (next (next p)) ≡ p
-          → Turned s m f v regs₀ r p (suc turns) busy₀
-      go y known goes =
-          let z : suc (suc k) ≡ m = omega arith in
-          record {
-            regs-now = withRegister regs r (statusAt s k);
-            same = λ w. set-set regs (r % 8) (statusAt s k) w ∙ same w;
-            codes = from y;
-            busy-now = busy - 1 - 1;
-            count = omega arith;
-            at = rw z at (branches (suc k) (omega arith) (withRegister regs r (statusAt s k)) (statusAt s k) y p
-                (busy - 1) known goes
-                (polls k (omega arith) regs c busy a));
-          }
+  turn k le regs c busy a none m turns e regs₀ same busy₀ count =
+      let z : suc (suc k) ≡ m = omega arith in
+      record {
+        regs-now = withRegister regs r (statusAt s k);
+        same = λ w. set-set regs (r % 8) (statusAt s k) w ∙ same w;
+        codes = from (statusAt s k);
+        busy-now = busy - 1 - 1;
+        count = omega arith;
+        at = rw z at (branches (suc k) (omega arith) (withRegister regs r (statusAt s k)) (statusAt s k) (busy - 1) true
+            (lt-ltb (statusAt s k) 0x8000 none) (polls k (omega arith) regs c busy a));
+      }
 
   -- As many turns as find no key.
   pub turns : (k : ℕ) (regs : List ℕ) (c : Known) (busy : ℕ) → At s 0 k f (within v regs p c busy) → (t : ℕ)
@@ -226,17 +220,17 @@ module _ {s : Start} {bound : ℕ} (quiet : Quiet s 0 bound) (f : Frame) (sound 
       → 0x8000 ≤ statusAt s k
       → At s 0 (k + 3) f
       (keyRead s (k + 2)
-      (within v (withRegister regs r (statusAt s k)) (next (next p)) (from 0x8000) (busy - 1 - 1)) r)
-  unfolding isTaken codesOf andBits
+      (within v (withRegister regs r (statusAt s k)) (next (next p)) (from (statusAt s k)) (busy - 1 - 1)) r)
   takes-key k le regs c busy a ready =
       let z : k + 2 ≡ suc (suc k) = omega arith in
       let w : k + 3 ≡ suc (k + 2) = omega arith in
-      let there : View = within v (withRegister regs r (statusAt s k)) (next (next p)) (from 0x8000) (busy - 1 - 1) in
+      let there : View =
+      within v (withRegister regs r (statusAt s k)) (next (next p)) (from (statusAt s k)) (busy - 1 - 1) in
       let b : At s 0 (k + 2) f there =
       rw z
-      (branches (suc k) (omega arith) (withRegister regs r (statusAt s k)) (statusAt s k) 0x8000 (next (next p))
-      (busy - 1) (negative (statusAt s k) ready) refl (polls k (omega arith) regs c busy a)) in
+      (branches (suc k) (omega arith) (withRegister regs r (statusAt s k)) (statusAt s k) (busy - 1) false
+      (le-ltb (statusAt s k) 0x8000 ready) (polls k (omega arith) regs c busy a)) in
       rw w
       (loads-key f sound there going fine r (q .data-pointer)
-      (q .reads (withRegister regs r (statusAt s k)) (from 0x8000) (busy - 1 - 1)) (q .data-plain) b
+      (q .reads (withRegister regs r (statusAt s k)) (from (statusAt s k)) (busy - 1 - 1)) (q .data-plain) b
       (quiet .at b (omega arith)) (q .data-register))

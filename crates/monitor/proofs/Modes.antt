@@ -7,8 +7,8 @@ use native.Mathlib.Decide.{decLe}
 use mathlib.Core.Path.{_≡_, refl, sym, subst}
 use mathlib.Core.Bool.{Bool, true, false, cond, not}
 use mathlib.Core.List.{List, [], _∷_}
-use borrow.Author.Tests.{lt-leb, ne-eqb}
-use lib.Dec.{ltb, eqb}
+use borrow.Author.Tests.{lt-leb, le-leb, ltb-true, ltb-false, eqb-true, ne-eqb}
+use lib.Dec.{leb, ltb, eqb}
 use lib.ListN.{length, getD, set, length-set, List·getD-eq-default}
 use Rattle.word.specs.Reading.{opcode, forms, readOf}
 use Rattle.word.specs.Range.{InRange}
@@ -56,6 +56,19 @@ always-taken x psr e = rw e (go (eqb x 0) (ltb x 0x8000))
     go true p = refl
     go false true = refl
     go false false = refl
+
+-- BRn is taken exactly where that value is x8000 or more, and BRzp where it is less.
+pub taken-by-sign : (x psr : ℕ) → psr % 8 ≡ codesOf x
+    → (isTaken 4 psr ≡ leb 0x8000 x) × (isTaken 3 psr ≡ ltb x 0x8000)
+unfolding isTaken codesOf andBits
+taken-by-sign x psr e = rw e (go (eqb x 0) refl (ltb x 0x8000) refl)
+  where
+    go : (z : Bool) → eqb x 0 ≡ z → (p : Bool) → ltb x 0x8000 ≡ p
+        → (not (eqb (wordAnd 4 (cond z 2 (cond p 1 4))) 0) ≡ leb 0x8000 x)
+        × (not (eqb (wordAnd 3 (cond z 2 (cond p 1 4))) 0) ≡ p)
+    go true e p f = let z : x ≡ 0 = eqb-true x 0 e in (rw z, rw z at f)
+    go false e true f = (sym (lt-leb 0x8000 x (ltb-true x 0x8000 f)), refl)
+    go false e false f = (sym (le-leb 0x8000 x (ltb-false x 0x8000 f)), refl)
 
 -- ---- in Supervisor mode
 

@@ -7,7 +7,7 @@ use mathlib.Core.Bool.{Bool, true, false, cond, _&&_, _||_, not, true≢false, f
 use mathlib.Core.Logic.{inl, inr}
 use mathlib.Core.List.{List, [], _∷_}
 use lib.IntN.{ℤ}
-use borrow.Author.Tests.{leb-true, ltb-true, ltb-false, eqb-true, eqb-false, le-leb}
+use borrow.Author.Tests.{leb-true, leb-false, ltb-true, ltb-false, eqb-true, eqb-false, le-leb}
 use lib.Dec.{leb, ltb, eqb}
 use lib.ListN.{getD, set, length-set}
 use lib.Seq.{getD-set-other}
@@ -35,8 +35,8 @@ use Rattle.machine.proofs.MemoryParts.{UserAddress}
 use Rattle.machine.proofs.StepLaws.{codesOf-below}
 use Rattle.machine.proofs.Tests.{both-true}
 use Rattle.touched.specs.Altered.{NoneAltered}
-use Rattle.monitor.proofs.Modes.{plain-word, always-taken, supervisor-mode, allowed-in-supervisor-mode}
-use Rattle.monitor.proofs.Modes.{by-plain-pointer}
+use Rattle.monitor.proofs.Modes.{plain-word, always-taken, taken-by-sign, supervisor-mode}
+use Rattle.monitor.proofs.Modes.{allowed-in-supervisor-mode, by-plain-pointer}
 use Rattle.sitting.specs.Values.{Value, unset, any, is, high, low, sum, allowed, sumWith, sumOf, andWith, andOf}
 use Rattle.sitting.specs.Values.{same, notOf, besides, allBesides}
 use Rattle.sitting.specs.Test.{Cell, fixed, own, hidden, State, Claim, cellAt, isHidden, isOwn, accepts, isStack}
@@ -577,27 +577,15 @@ module _ (g : Setting) (σ : State) (m : Machine) (mem : List ℕ) (q : Disabled
   -- BRn is taken exactly where the value is x8000 or more, and BRzp where it is less.
   taken-if-negative : (x : ℕ) → m .psr % 8 ≡ codesOf x → (isTaken 4 (m .psr) ≡ true → 0x8000 ≤ x)
       × (isTaken 4 (m .psr) ≡ false → x < 0x8000)
-  unfolding isTaken codesOf andBits
-  taken-if-negative x e = rw e (go (eqb x 0) refl (ltb x 0x8000) refl)
-    where
-      go : (z : Bool) → eqb x 0 ≡ z → (p : Bool) → ltb x 0x8000 ≡ p
-          → (not (eqb (wordAnd 4 (cond z 2 (cond p 1 4))) 0) ≡ true → 0x8000 ≤ x)
-          × (not (eqb (wordAnd 4 (cond z 2 (cond p 1 4))) 0) ≡ false → x < 0x8000)
-      go true e p f = (λ h. absurd (false≢true h), λ h. omega (arith, eqb-true x 0 e))
-      go false e true f = (λ h. absurd (false≢true h), λ h. ltb-true x 0x8000 f)
-      go false e false f = (λ h. ltb-false x 0x8000 f, λ h. absurd (true≢false h))
+  taken-if-negative x e =
+      let t = taken-by-sign x (m .psr) e .0 in
+      (λ h. leb-true 0x8000 x (sym t ∙ h), λ h. leb-false 0x8000 x (sym t ∙ h))
 
   taken-if-not-negative : (x : ℕ) → m .psr % 8 ≡ codesOf x → (isTaken 3 (m .psr) ≡ true → x < 0x8000)
       × (isTaken 3 (m .psr) ≡ false → 0x8000 ≤ x)
-  unfolding isTaken codesOf andBits
-  taken-if-not-negative x e = rw e (go (eqb x 0) refl (ltb x 0x8000) refl)
-    where
-      go : (z : Bool) → eqb x 0 ≡ z → (p : Bool) → ltb x 0x8000 ≡ p
-          → (not (eqb (wordAnd 3 (cond z 2 (cond p 1 4))) 0) ≡ true → x < 0x8000)
-          × (not (eqb (wordAnd 3 (cond z 2 (cond p 1 4))) 0) ≡ false → 0x8000 ≤ x)
-      go true e p f = (λ h. omega (arith, eqb-true x 0 e), λ h. absurd (true≢false h))
-      go false e true f = (λ h. ltb-true x 0x8000 f, λ h. absurd (true≢false h))
-      go false e false f = (λ h. absurd (false≢true h), λ h. ltb-false x 0x8000 f)
+  taken-if-not-negative x e =
+      let t = taken-by-sign x (m .psr) e .1 in
+      (λ h. ltb-true x 0x8000 (sym t ∙ h), λ h. ltb-false x 0x8000 (sym t ∙ h))
 
   -- The address plus c is x8000 or more; or is less.
   in-user-space-above : (x d : ℕ) → isAbove d ≡ true → 0x8000 ≤ wrap (x + d) → UserAddress (wrap x)
