@@ -2,22 +2,21 @@
 use Prim.Native.Nat.{ℕ, zero, suc, _+_, _-_, _≤_, _<_}
 use native.Mathlib.Nat.{zero-add}
 use native.Mathlib.Omega.{arith}
-use mathlib.Core.Path.{_≡_, refl, sym, ap, subst, _∙_}
-use mathlib.Core.Bool.{Bool, true}
+use mathlib.Core.Path.{_≡_, sym, ap, subst, _∙_}
+use mathlib.Core.Bool.{true}
 use mathlib.Core.List.{List, [], _++_}
 use lib.ListN.{length, drop}
 use lib.Seq.{take-append-seam}
 use Rattle.run.specs.declared.Admission.the-variants.{Accepted}
 use Rattle.run.specs.Run.{Start, End}
 use Rattle.run.specs.Refusals.{admissionOf}
-use Rattle.run.specs.Call.{callOf}
 use Rattle.monitor.specs.Calls.{StackApart, takes-none}
 use Rattle.monitor.proofs.Execution.{Frame, View, Quiet}
 use Rattle.monitor.proofs.Intact.{cellsFine}
 use Rattle.monitor.proofs.Calls.{quiet-steps, call-stands}
 use Rattle.interruptions.specs.GoesOn.{Returned, Interrupts, shownIn, NotYet, Within, by-steps, by-place}
 use Rattle.interruptions.specs.GoesOn.{AfterInterrupts, once, again, ShowsOnly, ShownBefore}
-use Rattle.interruptions.proofs.Following.{Rest, twin}
+use Rattle.interruptions.proofs.Following.{Rest}
 use Rattle.interruptions.proofs.Standing.{Standing, fresh, goes-on-as}
 
 -- What the run q has shown.

@@ -1,9 +1,9 @@
 -- GETC and IN go on after any number of interrupts: the ways of each are its own, and the rest is the same for both.
-use Prim.Native.Nat.{ℕ, suc, _+_, _-_, _*_, _%_, _≤_, _<_}
+use Prim.Native.Nat.{ℕ, suc, _+_, _-_, _≤_}
 use native.Mathlib.Omega.{arith}
 use mathlib.Core.Path.{_≡_, refl, sym, ap, subst, _∙_}
 use mathlib.Core.Bool.{Bool, true, false, _&&_, _||_, true≢false}
-use mathlib.Core.List.{List, [], _∷_, _++_}
+use mathlib.Core.List.{List, []}
 use borrow.Author.Tests.{leb-true, le-leb, eqb-true}
 use lib.Dec.{eqb, leb, ltb}
 use lib.ListN.{length, getD, set}
@@ -16,8 +16,8 @@ use Rattle.monitor.specs.Out.{waitSteps}
 use Rattle.monitor.specs.Calls.{Calls}
 use Rattle.monitor.specs.In.{prompt, firstPoll}
 use Rattle.monitor.proofs.UseLaws.{either, with-vector-below, getc-below, in-below}
-use Rattle.monitor.proofs.Execution.{Frame, Known, View, from}
-use Rattle.monitor.proofs.Intact.{cellsFine, usable}
+use Rattle.monitor.proofs.Execution.{Frame, View, from}
+use Rattle.monitor.proofs.Intact.{usable}
 use Rattle.monitor.proofs.Instructions.{kept, steppedBy, computing}
 use Rattle.monitor.proofs.Entries.{calledFrame, Polls}
 use Rattle.monitor.proofs.Calls.{Eight, eight, begun}

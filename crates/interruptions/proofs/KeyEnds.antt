@@ -1,5 +1,5 @@
 -- From where a routine that reads a key goes on, to its end: by its PC it has its key, has found one, or polls for one.
-use Prim.Native.Nat.{ℕ, suc, _+_, _-_, _*_, _/_, _%_, _≤_, _<_}
+use Prim.Native.Nat.{ℕ, suc, _+_, _-_, _*_, _%_, _≤_, _<_}
 use native.Mathlib.Omega.{arith}
 use mathlib.Core.Path.{_≡_, refl, sym, ap, subst, _∙_}
 use mathlib.Core.Bool.{Bool, true, false, cond}
@@ -25,7 +25,7 @@ use Rattle.interruptions.specs.GoesOn.{OnTheWay}
 use Rattle.interruptions.specs.Reads.{ResumesWith, TakesKey, TakesKeyLater, HasKey, Reads}
 use Rattle.interruptions.proofs.Following.{Rest, twin, beside}
 use Rattle.interruptions.proofs.Standing.{Standing}
-use Rattle.interruptions.proofs.Chain.{Stood, Chained, chained}
+use Rattle.interruptions.proofs.Chain.{Chained, chained}
 use Rattle.interruptions.proofs.Ways.{ownRest, same-pc, moved, reaches}
 use Rattle.interruptions.proofs.Narrowing.{relying, relied, narrowed, inside}
 use Rattle.interruptions.proofs.Resuming.{resumed}

@@ -1,5 +1,5 @@
 -- The wait for a key, between a way to it and a way from it, is a course: LDI of KBSR, BRzp back, LDI of KBDR.
-use Prim.Native.Nat.{ℕ, zero, suc, _+_, _-_, _*_, _%_, _≤_, _<_}
+use Prim.Native.Nat.{ℕ, suc, _+_, _-_, _%_, _≤_, _<_}
 use native.Mathlib.Nat.{add-zero}
 use native.Mathlib.Numerals.{add-one}
 use native.Mathlib.Omega.{arith}
@@ -30,7 +30,7 @@ use Rattle.monitor.proofs.Paths.{Readable, Path, keeps}
 use Rattle.interruptions.specs.GoesOn.{Returned}
 use Rattle.interruptions.specs.Reads.{KeyOf, loaded, before}
 use Rattle.interruptions.proofs.Leaving.{before as beforeWay}
-use Rattle.interruptions.proofs.Following.{Rest, twin, beside, less, Like, arrived, onward}
+use Rattle.interruptions.proofs.Following.{Rest, twin, beside, less, arrived, onward}
 use Rattle.interruptions.proofs.Standing.{Standing, fresh}
 use Rattle.interruptions.proofs.Chain.{Stood, Course}
 use Rattle.interruptions.proofs.Ways.{ownRest, same-pc, moved, Goes, once-more}

@@ -1,7 +1,7 @@
 -- What stays so along a way, and what was so before: R6 is where the view says, and the words stored are the stack's.
-use Prim.Native.Nat.{ℕ, _+_, _-_, _%_, _≤_, _<_}
+use Prim.Native.Nat.{ℕ, _-_, _%_, _≤_, _<_}
 use native.Mathlib.Omega.{arith}
-use mathlib.Core.Path.{_≡_, refl, sym, subst, _∙_}
+use mathlib.Core.Path.{_≡_, refl, subst}
 use mathlib.Core.Bool.{Bool, true, false, cond, _&&_}
 use mathlib.Core.List.{List, [], _∷_}
 use lib.Dec.{eqb}
@@ -14,7 +14,7 @@ use Rattle.machine.specs.Devices.{MCR}
 use Rattle.machine.proofs.Tests.{both-true}
 use Rattle.monitor.proofs.Execution.{Frame, Known, from, View}
 use Rattle.monitor.proofs.Intact.{cellsFine, wordAt}
-use Rattle.monitor.proofs.Instructions.{planAt, changed, valued, Kept, other, same, keeps-once}
+use Rattle.monitor.proofs.Instructions.{planAt, changed, valued}
 use Rattle.monitor.proofs.Instructions.{stepped, mayStep, performed, clocked, showing, Use, loadsSlot, storesSlot}
 use Rattle.monitor.proofs.Instructions.{movesStack, leavesStack, elsewhere, used, mayUse, useAt, on-stack}
 use Rattle.monitor.proofs.Entries.{within}

@@ -8,9 +8,9 @@ use Rattle.machine.proofs.Tests.{both-true}
 use Rattle.run.specs.Run.{Start}
 use Rattle.monitor.proofs.Execution.{Frame, View, At}
 use Rattle.monitor.proofs.Intact.{usable}
-use Rattle.monitor.proofs.Instructions.{planAt, useAt, Kept}
+use Rattle.monitor.proofs.Instructions.{planAt, useAt}
 use Rattle.monitor.proofs.Paths.{calmUse, calm, Path, stays, knows, makes, jumps, fetches, attends, joins}
-use Rattle.interruptions.proofs.Following.{Rest, twin, beside, Like}
+use Rattle.interruptions.proofs.Following.{Rest, twin, beside}
 use Rattle.interruptions.proofs.Standing.{Standing}
 
 -- With these words in the place of its own.

@@ -1,10 +1,10 @@
 -- Where a run stands on the way through a routine that it did not begin, and that each kind of move keeps it there: a
 -- step of its own, and an interrupt that is taken and returns.
-use Prim.Native.Nat.{ℕ, zero, suc, _+_, _-_, _*_, _/_, _%_, _≤_, _<_}
+use Prim.Native.Nat.{ℕ, _+_, _-_, _*_, _/_, _%_, _≤_, _<_}
 use native.Mathlib.Omega.{arith}
 use native.Mathlib.Decide.{decLe}
 use mathlib.Core.Path.{_≡_, refl, sym, ap, subst, _∙_}
-use mathlib.Core.Bool.{Bool, true, cond}
+use mathlib.Core.Bool.{true}
 use mathlib.Core.List.{List, [], _++_, append-nil}
 use lib.ListN.{length, getD, take, drop, length-append, length-drop}
 use lib.Seq.{getD-take, getD-drop, take-take, drop-drop}
@@ -14,10 +14,10 @@ use Rattle.run.specs.Refusals.{admissionOf}
 use Rattle.run.specs.Call.{callOf}
 use Rattle.run.proofs.Acceptance.{accepted-is-acceptable}
 use Rattle.monitor.specs.Calls.{StackApart}
-use Rattle.monitor.proofs.Execution.{Frame, codesNumber, View, memoryWith, standingAt, At, Quiet}
+use Rattle.monitor.proofs.Execution.{Frame, codesNumber, View, memoryWith, standingAt, At}
 use Rattle.monitor.proofs.Intact.{Intact, cellsFine, slot-with}
 use Rattle.monitor.proofs.Instructions.{Sound, codes-below, deeper, Kept}
-use Rattle.monitor.proofs.Entries.{startFrame, startViewWith, at-start-with}
+use Rattle.monitor.proofs.Entries.{startFrame, at-start-with}
 use Rattle.monitor.proofs.Calls.{words-below, words-above, call-stands}
 use Rattle.interruptions.specs.GoesOn.{sixAfter, Returned}
 use Rattle.interruptions.proofs.Following.{Rest, twin, beside, Like, holds-fine, holds-least}
@@ -67,6 +67,26 @@ untouched {f} {below} {q} st a outside = elim (decLe (f .sp - (f .words + below)
       same-below (f .sp - (f .words + below)) (f .sp) (q .memory) (f .memory) (st .words-below) (st .words-above) a
       (omega arith)
 ]
+
+-- What a view says of R6's place is no part of the run.
+deepened : {r : Start} {g : Frame} {v : View} (depth : ℕ) → At r 0 0 g v → At r 0 0 g (deeper v depth)
+deepened depth a = record {
+  keys = a .keys;
+  devices = a .devices;
+  clock = a .clock;
+  ticks = a .ticks;
+  order = a .order;
+  equal = a .equal;
+  arrived-by = a .arrived-by;
+  read-before = a .read-before;
+  kbsr = a .kbsr;
+  kbdr = a .kbdr;
+  rest-of-status = a .rest-of-status;
+  status-below = a .status-below;
+  timer = a .timer;
+  stands = a .stands;
+  quiet = a .quiet;
+}
 
 -- ---- an interrupt is taken and returns
 
@@ -175,27 +195,7 @@ module _ (f : Frame) (low : (a : ℕ) → f .uses a ≡ true → a < 0x02A5) (be
         read = 0;
         status = r .machine .devices .kbsr;
       })
-      (deepened (at-start-with (f .uses) (f .words) (f .sp) r m accepted′ 0 (w .codes) codes)))
-    where
-      deepened : At r 0 0 (startFrame (f .uses) (f .words) (f .sp) r) (startViewWith (w .codes) r)
-          → At r 0 0 (startFrame (f .uses) (f .words) (f .sp) r) (deeper (startViewWith (w .codes) r) (w .depth))
-      deepened a = record {
-        keys = a .keys;
-        devices = a .devices;
-        clock = a .clock;
-        ticks = a .ticks;
-        order = a .order;
-        equal = a .equal;
-        arrived-by = a .arrived-by;
-        read-before = a .read-before;
-        kbsr = a .kbsr;
-        kbdr = a .kbdr;
-        rest-of-status = a .rest-of-status;
-        status-below = a .status-below;
-        timer = a .timer;
-        stands = a .stands;
-        quiet = a .quiet;
-      }
+      (deepened (w .depth) (at-start-with (f .uses) (f .words) (f .sp) r m accepted′ 0 (w .codes) codes)))
 
   like-again : Like f (r .memory) (before ++ x .bytes) w (fresh r)
   like-again = record {

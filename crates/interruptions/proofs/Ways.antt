@@ -10,7 +10,7 @@ use lib.ListN.{length, getD}
 use Rattle.run.specs.Run.{Start, End}
 use Rattle.monitor.proofs.Execution.{Frame, View, At, Quiet, Leads}
 use Rattle.monitor.proofs.Intact.{cellsFine}
-use Rattle.monitor.proofs.Instructions.{Sound, Kept}
+use Rattle.monitor.proofs.Instructions.{Kept}
 use Rattle.monitor.proofs.Paths.{Readable, Path, keeps}
 use Rattle.interruptions.proofs.Leaving.{before}
 use Rattle.interruptions.proofs.Following.{Rest, twin, beside, Like, Next, arrived, onward, goes}

@@ -20,7 +20,7 @@ use Rattle.word.specs.declared.Instruction.the-variants.{Trap}
 use Rattle.machine.specs.declared.Machine.{Machine}
 use Rattle.machine.specs.declared.Devices.{Devices}
 use Rattle.machine.specs.Record.{withDevices}
-use Rattle.machine.specs.Words.{wrap, next, before, plus, andBits, wordAnd, register, withRegister}
+use Rattle.machine.specs.Words.{wrap, next, before, plus, wordAnd, register, withRegister}
 use Rattle.machine.specs.Psr.{inUserMode, definedPsr, codesOf, kept, setFrom, recoded, isTaken}
 use Rattle.machine.specs.Outcome.{trap, Outcome, touching, plainOutcome, afterInstruction}
 use Rattle.machine.specs.Devices.{DDR, MCR, isDeviceBy, isDevice, lentWordBy, lentWord, loadedValueBy, loadedValue}
