@@ -594,6 +594,18 @@ class OnScreen(Folder):
             self.assertEqual(shown.attributes(), shown.before)
             self.assertNotIn(b"Traceback", shown.seen)
 
+    def test_enter_is_a_line_feed_for_the_program(self) -> None:
+        with self.opened("debug", "--screen", self.file("until.obj", UNTIL_Q)) as shown:
+            self.until(shown, "(lc3)")
+            shown.press(b"run\n")
+            self.until(shown, "the program waits for a key")
+            shown.press(b"\r!")
+            self.until(shown, "\n!")
+            shown.press(b"\x03")
+            self.until(shown, "stopped by Ctrl-C; ")
+            shown.press(b"quit\r")
+            self.assertEqual(shown.process.wait(20), 0)
+
     def test_the_end_of_memory(self) -> None:
         with self.opened("debug", "--screen", self.file("until.obj", UNTIL_Q)) as shown:
             self.until(shown, "(lc3)")
@@ -650,10 +662,10 @@ class OnScreen(Folder):
                 self.assertIn(shown.process.wait(20), (-signal.SIGHUP, 0))
 
     def shell(self, *arguments: object) -> OnTerminal:
-        """The command as a job of a shell in such a window."""
-        bash = ["bash", "--norc", "--noprofile", "-i"]
-        with mock.patch.dict("tests.command_support.ENVIRONMENT", PS1="shell> "):
-            with mock.patch("tests.command_support.PYTHON", bash):
+        """The command as a job of a shell in such a window. Debian's sh, unlike others, leaves the
+        terminal as its jobs have left it."""
+        with mock.patch.dict("tests.command_support.ENVIRONMENT", PS1="shell> ", ENV=""):
+            with mock.patch("tests.command_support.PYTHON", ["sh", "-i"]):
                 shown = self.opened()
         shown.see(b"shell> ")
         shown.press(shlex.join([*PYTHON, *map(str, arguments)]).encode() + b"\n")
@@ -666,6 +678,7 @@ class OnScreen(Folder):
         shown.seen = b""
         shown.press(b"stty -a; fg\n")
         shown.see(b" icanon")
+        shown.see(b" echo ")
         shown.see(b"fanthrig debug")
 
     def test_ctrl_z_at_the_prompt(self) -> None:

@@ -181,6 +181,8 @@ class Terminal(Stream):
     def _set(self) -> None:
         """Keys as they are pressed: no lines, no echo, and Enter as a line feed."""
         changed = termios.tcgetattr(self.fd)
+        # A screen of curses has Enter as a carriage return.
+        changed[0] |= termios.ICRNL
         changed[3] &= ~(termios.ICANON | termios.ECHO)
         changed[6][termios.VMIN], changed[6][termios.VTIME] = 1, 0
         # At once: to wait for the display first would wait for ever where Ctrl-S stopped it.

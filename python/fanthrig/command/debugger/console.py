@@ -2,6 +2,7 @@
 
 from __future__ import annotations
 
+import signal
 import sys
 from types import FrameType
 from typing import Sequence
@@ -37,11 +38,14 @@ class Keys(Terminal):
             self._console.waits()
         return keys or super().wait()
 
-    def _suspend(self, number: int, frame: FrameType | None) -> None:
-        """Stops the process."""
+    def _suspend(self, number: int, _frame: FrameType | None) -> None:
+        """Stops the process, and goes on with all as it was shown."""
+        self._set_back()
         self._console.close()
-        super()._suspend(number, frame)
+        die(number)
+        signal.signal(number, self._suspend)
         self._console.reopen()
+        self._set()
 
 
 class Console:
