@@ -167,8 +167,8 @@ class _Writing:
         return total
 
     def _write(self, text: str) -> bool:
-        """Writes a piece of the results; whether it could be."""
-        shared = self._options.form in LINES
+        """Writes a piece of the results, which may be empty; whether it could be."""
+        shared = bool(text) and self._options.form in LINES
         if shared and not self._output.lock():
             return False
         self._output.write(text)
