@@ -63,8 +63,8 @@ pub record HasKey (s : Start) (shown : List ℕ) (r : Start) (m words : ℕ) (te
   pub is : KeyOf poll below r 0 key
   pub resumes : ResumesWith s shown r m words text after key
 
--- Where r goes on, by its PC. A wait for a key has no number of steps (0 in `OnTheWay`): that the routine has not come to
--- its end, is told by its last instruction.
+-- Where r goes on, by its PC. A wait for a key has no number of steps (0 in `OnTheWay`): that the routine has not come
+-- to its end, is told by its last instruction.
 pub record Reads (s : Start) (poll last words below : ℕ) (r : Start) (m : ℕ) (o : OnTheWay s 0 last words below r m)
     (text : ℕ → List ℕ) (after most : ℕ) : Type 0 where
   pub before : ShownBefore (o .interrupted)
