@@ -45,9 +45,9 @@ ENVIRONMENT = {**os.environ, "PYTHONPATH": str(ROOT / "python")}
 
 
 def takes_signals() -> None:
-    """In a new process: no signal that ends a process is ignored, though the tests may run where
-    some are, as in the background of a shell or under nohup."""
-    for number in NOTICED:
+    """In a new process: no signal that ends or stops a process is ignored, though the tests may run
+    where some are, as in the background of a shell or under nohup."""
+    for number in (*NOTICED, signal.SIGTSTP):
         signal.signal(number, signal.SIG_DFL)
 
 
