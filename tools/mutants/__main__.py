@@ -144,7 +144,7 @@ def judge_all(chosen: argparse.Namespace) -> int:
         return 0
     judge = Judge(repository)
     found = judge.found
-    print(f'{len(found.tables)} rows; {len(found.laws)} theorems on samples; '
+    print(f'{len(found.tables) + len(judge.long)} rows; {len(found.laws)} theorems on samples; '
           f'{len(found.untried)} not tried on samples')
     alterations = all_alterations(repository, chosen.names, chosen.extra)
     verdicts = list(judged(judge, alterations, chosen))

@@ -3,6 +3,8 @@
 by a row        a computed example comes to something else
 by a theorem    no row does, but a stated theorem is false on a sample: no proof of it can stand
 survives        neither. It must stand in unchanged.txt, with the reason why it changes nothing
+
+Rows that take long are asked last, after the theorems.
 """
 from __future__ import annotations
 
@@ -40,6 +42,8 @@ class Judge:
         self.found: Found = statements(repository, self.program)
         self.found.untried += [s.name for s in self.found.laws if s.seconds > SLOW]
         self.found.laws = [s for s in self.found.laws if s.seconds <= SLOW]
+        self.long = [s for s in self.found.tables if s.name.startswith(LONG)]
+        self.found.tables = [s for s in self.found.tables if not s.name.startswith(LONG)]
 
     def verdict(self, alteration: Alteration) -> Verdict:
         """Puts the altered definition in place of its original, and asks tables and theorems."""
@@ -52,7 +56,8 @@ class Judge:
             return Verdict(alteration, NO_DEFINITION)
         signal.setitimer(signal.ITIMER_VIRTUAL, SECONDS)
         try:
-            for kind, tried in ((ROW, self.found.tables), (THEOREM, self.found.laws)):
+            for kind, tried in ((ROW, self.found.tables), (THEOREM, self.found.laws),
+                                (ROW, self.long)):
                 by = self.refusing(tried, alteration.definition)
                 if by:
                     return Verdict(alteration, kind, by)
@@ -73,10 +78,9 @@ class Judge:
     def refusing(self, tried: List[Statement], altered: Definition) -> str:
         """The first statement that does not hold; if quick, it is asked first the next time."""
         self.program.remembered.clear()
-        of_runs = altered.module.crate in OF_RUNS
+        if tried is self.long and altered.module.crate not in OF_RUNS:
+            return ''
         for at, statement in enumerate(tried):
-            if statement.name.startswith(LONG) and not of_runs:
-                continue
             if altered.number in statement.calls and not statement.holds():
                 if statement.seconds <= QUICK:
                     tried.insert(0, tried.pop(at))
