@@ -7,7 +7,7 @@ use mathlib.Core.Bool.{Bool, true, false, cond, _&&_, _||_, true≢false}
 use mathlib.Core.List.{List, [], _∷_, _++_, append-assoc}
 use borrow.Author.Tests.{leb-true, le-leb, ltb-true, lt-ltb, eqb-true, eq-eqb, ne-eqb}
 use lib.Dec.{eqb, leb, ltb}
-use lib.IntN.{negsuc}
+use lib.IntN.{ℤ, negsuc}
 use lib.ListN.{length, getD, length-append}
 use lib.Seq.{set-set}
 use Rattle.word.specs.Reading.{readOf}
@@ -250,9 +250,12 @@ module _ {r : Start} {since bound : ℕ} (quiet : Quiet r since bound) (f : Fram
         (plan-by-use (w .regs) (w .pc) (codesFor (w .codes) (readOf (wordAt g v (w .pc))))
         (readOf (wordAt g v (w .pc))))
 
-    by-this-use : (room₀ : ℕ) → room₀ ≤ length (f .output) → (u : Use) → useAt f w ≡ u → mayUse f w room₀ u ≡ true
-        → calmUse f w u ≡ true → One w x (used f w u)
-    by-this-use room₀ has-room (loadsSlot d n) e allowed calms =
+    -- It loads a word of the stack, stores one, moves R6, or loads it.
+    abbrev ByUse : Use → Type 0
+    ByUse u = (room₀ : ℕ) → useAt f w ≡ u → mayUse f w room₀ u ≡ true → calmUse f w u ≡ true → One w x (used f w u)
+
+    loads-slot : (d : ℕ) (n : ℤ) → ByUse (loadsSlot d n)
+    loads-slot d n room₀ e allowed calms =
         let i : ℕ = slotOf (w .depth) n in
         let both = both-true (holds (w .cells) i) (leb i (w .depth)) calms in
         let same : slotAt g v i ≡ slotAt f w i = l .slots i (both .0) (leb-true i (w .depth) (both .1)) in
@@ -265,7 +268,18 @@ module _ {r : Start} {since bound : ℕ} (quiet : Quiet r since bound) (f : Fram
           keyboard = (refl, refl);
           counts = λ same. rw same;
         }
-    by-this-use room₀ has-room (storesSlot d n) e allowed calms =
+
+    either-slot : (j i y : ℕ) → (eqb j i || holds (w .cells) j) ≡ true → j ≤ w .depth
+        → slotWith (f .sp) mem (cell i y ∷ x .cells) j ≡ slotWith (f .sp) (f .memory) (cell i y ∷ w .cells) j
+    either-slot j i y h d = go (eqb j i) h
+      where
+        go : (b : Bool) → (b || holds (w .cells) j) ≡ true
+            → cond b y (slotWith (f .sp) mem (x .cells) j) ≡ cond b y (slotWith (f .sp) (f .memory) (w .cells) j)
+        go true h = refl
+        go false h = l .slots j h d
+
+    stores-slot : (d : ℕ) (n : ℤ) → ByUse (storesSlot d n)
+    stores-slot d n room₀ e allowed calms =
         let i : ℕ = slotOf (w .depth) n in
         let y : ℕ = register (w .regs) d in
         let o = on-stack f w n allowed in
@@ -288,16 +302,9 @@ module _ {r : Start} {since bound : ℕ} (quiet : Quiet r since bound) (f : Fram
           keyboard = (refl, refl);
           counts = λ same. rw same;
         }
-      where
-        either-slot : (j i y : ℕ) → (eqb j i || holds (w .cells) j) ≡ true → j ≤ w .depth
-            → slotWith (f .sp) mem (cell i y ∷ x .cells) j ≡ slotWith (f .sp) (f .memory) (cell i y ∷ w .cells) j
-        either-slot j i y h d = go (eqb j i) h
-          where
-            go : (b : Bool) → (b || holds (w .cells) j) ≡ true
-                → cond b y (slotWith (f .sp) mem (x .cells) j) ≡ cond b y (slotWith (f .sp) (f .memory) (w .cells) j)
-            go true h = refl
-            go false h = l .slots j h d
-    by-this-use room₀ has-room (movesStack n) e allowed calms =
+
+    moves-stack : (n : ℤ) → ByUse (movesStack n)
+    moves-stack n room₀ e allowed calms =
         let i : ℕ = slotOf (w .depth) n in
         record {
           rest = less x;
@@ -315,7 +322,9 @@ module _ {r : Start} {since bound : ℕ} (quiet : Quiet r since bound) (f : Fram
           keyboard = (refl, refl);
           counts = λ same. rw same;
         }
-    by-this-use room₀ has-room (leavesStack n) e allowed calms =
+
+    leaves-stack : (n : ℤ) → ByUse (leavesStack n)
+    leaves-stack n room₀ e allowed calms =
         let a : ℕ = plus (next (w .pc)) n in
         record {
           rest = less x;
@@ -332,6 +341,13 @@ module _ {r : Start} {since bound : ℕ} (quiet : Quiet r since bound) (f : Fram
           keyboard = (refl, refl);
           counts = λ same. rw same;
         }
+
+    by-this-use : (room₀ : ℕ) → room₀ ≤ length (f .output) → (u : Use) → useAt f w ≡ u → mayUse f w room₀ u ≡ true
+        → calmUse f w u ≡ true → One w x (used f w u)
+    by-this-use room₀ has-room (loadsSlot d n) e allowed calms = loads-slot d n room₀ e allowed calms
+    by-this-use room₀ has-room (storesSlot d n) e allowed calms = stores-slot d n room₀ e allowed calms
+    by-this-use room₀ has-room (movesStack n) e allowed calms = moves-stack n room₀ e allowed calms
+    by-this-use room₀ has-room (leavesStack n) e allowed calms = leaves-stack n room₀ e allowed calms
     by-this-use room₀ has-room elsewhere e allowed calms =
         by-this-plan room₀ has-room (planAt f w) refl
         (both-true (keepsSix (planAt f w)) (mayPerform f w room₀ (planAt f w)) allowed .1) calms

@@ -143,8 +143,8 @@ module _ (f : Frame) (below : ℕ) (may : ℕ → Bool)
                 })
                 (other f (polling wait regs c) (st .kept) 0 status refl polled-view refl refl)
                 (loads-status g (st .sound) (within (twin wait x) regs poll c (x .busy)) (reader .going)
-                (st .like .fine) 0 (k .pointer) (k .loads regs c (x .busy)) (k .pointer-plain) (st .at) (quiet .at (st .at) le)
-                (k .keyboard));
+                (st .like .fine) 0 (k .pointer) (k .loads regs c (x .busy)) (k .pointer-plain) (st .at)
+                (quiet .at (st .at) le) (k .keyboard));
             unread = record { none = u .none; status = u .status };
           }
 
