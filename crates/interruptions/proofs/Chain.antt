@@ -2,7 +2,7 @@
 use Prim.Native.Nat.{ℕ, zero, suc, _+_, _-_, _≤_, _<_}
 use native.Mathlib.Nat.{zero-add}
 use native.Mathlib.Omega.{arith}
-use mathlib.Core.Path.{_≡_, sym, ap, subst, _∙_}
+use mathlib.Core.Path.{_≡_, refl, sym, ap, subst, _∙_}
 use mathlib.Core.Bool.{true}
 use mathlib.Core.List.{List, [], _++_}
 use lib.ListN.{length, drop}
@@ -43,6 +43,12 @@ module _ (f : Frame) (below : ℕ) (s : Start) (total last : ℕ) (On : Start �
     pub rest : Rest
     pub standing : Standing f below q j before view rest
     pub on : On q j made view rest
+
+  -- The same at the start of a run, which has not loaded KBDR.
+  pub record StoodFirst (r : Start) (before : List ℕ) (made : ℕ) : Type 0 where
+    pub stood : Stood r 0 before made
+    pub none : stood .rest .read ≡ 0
+    pub status : stood .rest .status ≡ r .machine .devices .kbsr
 
   -- What a way is: each step but the last leads on, a return leads on, and the call comes to its beginning.
   pub record Course : Type 0 where
@@ -87,22 +93,26 @@ module _ (f : Frame) (below : ℕ) (s : Start) (total last : ℕ) (On : Start �
     -- The run goes on as r.
     returned : {q : Start} {k : ℕ} {before : List ℕ} {made : ℕ} {r : Start} → Stood q k before made
         → Interrupts below q k r → (m : ℕ) → admissionOf r m ≡ Accepted
-        → Stood r 0 (before ++ shownIn q k) made
+        → StoodFirst r (before ++ shownIn q k) made
     returned {before = before} {made} {r} t i m accepted =
-        subst (λ (bytes : List ℕ). Stood r 0 (before ++ bytes) made)
+        subst (λ (bytes : List ℕ). StoodFirst r (before ++ bytes) made)
         (sym (shown-is (t .standing) (i .steps) (i .accepted) (i .fits)))
         (record {
-          view = t .view;
-          rest = fresh r;
-          standing = goes-on-as f low below apart (t .standing) (i .steps) (i .accepted) (i .fits) r m (i .returned)
-              accepted (course .fine (t .on)) (course .deep (t .on)) (course .room (t .on));
-          on = course .returns (t .on) (i .returned);
+          stood = record {
+            view = t .view;
+            rest = fresh r;
+            standing = goes-on-as f low below apart (t .standing) (i .steps) (i .accepted) (i .fits) r m (i .returned)
+                accepted (course .fine (t .on)) (course .deep (t .on)) (course .room (t .on));
+            on = course .returns (t .on) (i .returned);
+          };
+          none = refl;
+          status = refl;
         })
 
     -- Where it stands after all of them, and what was shown before.
     pub record Chained {r : Start} {made : ℕ} {shown : List ℕ} (i : AfterInterrupts total last below s r made shown) :
         Type 0 where
-      pub stood : Stood r 0 shown made
+      pub first : StoodFirst r shown made
       pub before : ShownBefore i
 
     first-part : {k : ℕ} {r : Start} → 0 < k → Within total last s k → Interrupts below s k r → Stood s k [] k
@@ -127,13 +137,13 @@ module _ (f : Frame) (below : ℕ) (s : Start) (total last : ℕ) (On : Start �
     chained (once some within i) m accepted =
         let t = first-part some within i in
         record {
-          stood = returned t i m accepted;
+          first = returned t i m accepted;
           before = shows-only (t .standing) (i .steps) (i .accepted) (i .fits);
         }
     chained (again earlier not-yet i) m accepted =
         let c = chained earlier (i .steps) (i .accepted) in
-        let t = next-part (c .stood) not-yet i in
+        let t = next-part (c .first .stood) not-yet i in
         record {
-          stood = returned t i m accepted;
+          first = returned t i m accepted;
           before = (c .before, shows-only (t .standing) (i .steps) (i .accepted) (i .fits));
         }

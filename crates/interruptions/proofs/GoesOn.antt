@@ -46,7 +46,7 @@ use Rattle.interruptions.specs.GoesOn.{outLast, putsLast, putspLast, sto
 use Rattle.interruptions.proofs.Leaving.{before}
 use Rattle.interruptions.proofs.Following.{Rest}
 use Rattle.interruptions.proofs.Standing.{Standing}
-use Rattle.interruptions.proofs.Chain.{Course, Chained, chained}
+use Rattle.interruptions.proofs.Chain.{Stood, Course, Chained, chained}
 use Rattle.interruptions.proofs.Ways.{ownRest, OnWay, course, Reached, reaches}
 use Rattle.interruptions.proofs.Resuming.{resumed, halted}
 
@@ -101,13 +101,15 @@ module _ (vector : ℕ) (code : ℕ → Bool) (words : ℕ) (user : Bool) (s : S
         chained f below s total last On (with-vector-below vector code (omega arith) low) (o .apart) the-course
         (o .interrupted) m (o .accepted)
 
+    abbrev here : Stood f below s total last On r 0 (o .shown) (o .made)
+    here = chain .first .stood
+
     -- where it comes to, some steps behind mid
     ended : (more : ℕ) (end : View) → Path f may mid more end → 1 + len + more ≤ o .made + m
-        → Reached f below may away r 0 (o .shown) (chain .stood .rest) (chain .stood .on .left + more) end
+        → Reached f below may away r 0 (o .shown) (here .rest) (here .on .left + more) end
     ended more end tail enough =
-        reaches f below may away quiet (o .shown) (chain .stood .on .left + more) 0 (chain .stood .on .left + more)
-        (chain .stood .view) end (chain .stood .rest) (chain .stood .standing) (then (chain .stood .on .way) tail)
-        (omega arith) (omega (arith, chain .stood .on .in-time))
+        reaches f below may away quiet (o .shown) (here .on .left + more) 0 (here .on .left + more) (here .view) end
+        (here .rest) (here .standing) (then (here .on .way) tail) (omega arith) (omega (arith, here .on .in-time))
 
     goes-on : Ends uses words user s last mid → total ≤ o .made + m → (regs : List ℕ)
         → set (mid .regs) 6 (getD (s .machine .regs) 6 0) ≡ regs → (bytes : List ℕ) → mid .bytes ≡ bytes
@@ -117,9 +119,9 @@ module _ (vector : ℕ) (code : ℕ → Bool) (words : ℕ) (user : Bool) (s : S
         record {
           before = chain .before;
           steps = suc (0 + e .steps);
-          in-time = omega (arith, e .fewer, chain .stood .on .in-time);
+          in-time = omega (arith, e .fewer, here .on .in-time);
           resumed = resumed uses words user s n (c .begins) two may below (o .apart) away (e .standing) m (o .accepted)
-              quiet (omega (arith, e .fewer, chain .stood .on .in-time)) ends regs same bytes shown;
+              quiet (omega (arith, e .fewer, here .on .in-time)) ends regs same bytes shown;
         }
 
     -- A routine that comes to STOP, and halts there in two steps.
@@ -129,7 +131,7 @@ module _ (vector : ℕ) (code : ℕ → Bool) (words : ℕ) (user : Bool) (s : S
     stops end tail enough off pc psr regs bytes shown =
         let e = ended 2 end tail (omega arith) in
         halted uses words user s n (c .begins) two may below (o .apart) away (e .standing) m (o .accepted) o refl
-        (chain .before) (omega (arith, e .fewer, chain .stood .on .in-time)) off pc psr regs bytes shown
+        (chain .before) (omega (arith, e .fewer, here .on .in-time)) off pc psr regs bytes shown
 
 -- What is apart from more words of the stack is apart from fewer.
 fewer-words : (user : Bool) (more fewer sp a : ℕ) → fewer ≤ more → mayRead user more sp a ≡ true

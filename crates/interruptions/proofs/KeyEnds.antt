@@ -6,18 +6,20 @@ use mathlib.Core.Bool.{Bool, true, false, cond}
 use mathlib.Core.List.{List, []}
 use borrow.Author.Tests.{lt-ltb, le-ltb}
 use lib.Dec.{eqb}
-use lib.ListN.{getD, set}
+use lib.ListN.{getD, set, take, drop}
 use lib.Seq.{set-set}
 use Rattle.machine.specs.Words.{next, withRegister}
 use Rattle.machine.specs.Psr.{codesOf}
+use Rattle.machine.specs.Keys.{readyAfter}
 use Rattle.run.specs.Run.{Start, End}
-use Rattle.monitor.specs.Calls.{stackOf, Begins}
+use Rattle.monitor.specs.Calls.{stackOf, Begins, notRead, readIn}
 use Rattle.monitor.specs.Keys.{arrivedBy, statusAt, keyAt}
 use Rattle.monitor.specs.Getc.{KeyComes}
 use Rattle.monitor.proofs.Execution.{Frame, Known, from, codesNumber, View, At, Quiet, statusIn}
 use Rattle.monitor.proofs.Instructions.{codes-below, other}
 use Rattle.monitor.proofs.Entries.{at-start, psr-parts, calledFrame, within}
 use Rattle.monitor.proofs.Calls.{quiet-steps, call-stands}
+use Rattle.monitor.proofs.KeyLaws.{ready-leaves-rest}
 use Rattle.monitor.proofs.Keyboard.{keyRead, Turned, turns, takes-key}
 use Rattle.monitor.proofs.Strings.{negative}
 use Rattle.monitor.proofs.Paths.{Readable, Ends, Path}
@@ -28,7 +30,7 @@ use Rattle.interruptions.proofs.Standing.{Standing}
 use Rattle.interruptions.proofs.Chain.{Chained, chained}
 use Rattle.interruptions.proofs.Ways.{ownRest, same-pc, moved, reaches}
 use Rattle.interruptions.proofs.Narrowing.{relying, relied, narrowed, inside}
-use Rattle.interruptions.proofs.Resuming.{resumed}
+use Rattle.interruptions.proofs.Resuming.{resumed, keyboard-then}
 use Rattle.interruptions.proofs.KeyWait.{Unread, keyed, Reader, Same, polling, branching, loading, OnWait}
 use Rattle.interruptions.proofs.KeyWait.{polls, found-none, found-one, loads, with-key, branched, key-loaded}
 use Rattle.interruptions.proofs.KeyWait.{to-wait, waiting}
@@ -47,6 +49,20 @@ n-is-clear x h = rw (lt-ltb x 0x8000 h) (go (eqb x 0))
     go : (z : Bool) → cond {A = ℕ} z 2 1 < 4
     go true = omega arith
     go false = omega arith
+
+-- KBSR, once so many keys have arrived, where the first `read` of them had when it was last loaded, and was `status`.
+abbrev kbsrAfter : Start → ℕ → ℕ → ℕ → ℕ
+kbsrAfter r read status keys = readyAfter (take (keys - read) (drop read (r .bytes))) status
+
+abbrev KeyboardIs : Start → ℕ → ℕ → (ℕ → ℕ) → Type 0
+KeyboardIs r read status is = (keys : ℕ) → kbsrAfter r read status keys ≡ is keys
+
+same-keyboard : (r : Start) {read read′ status status′ : ℕ} → read ≡ read′ → status ≡ status′ → (keys : ℕ)
+    → kbsrAfter r read status keys ≡ kbsrAfter r read′ status′ keys
+same-keyboard r p q keys = λ i. kbsrAfter r (p i) (q i) keys
+
+none-of-them : (r : Start) (keys : ℕ) → kbsrAfter r 0 (r .machine .devices .kbsr) keys ≡ notRead r keys
+none-of-them r keys = let z : keys - 0 ≡ keys = omega arith in rw z
 
 module _ (uses : ℕ → Bool) (words : ℕ) (user : Bool) (s : Start) (n : ℕ) (b : Begins uses words user s n)
     (two : 2 ≤ words) (low : (a : ℕ) → uses a ≡ true → a < 0x02A5) (may : ℕ → Bool) (below : ℕ)
@@ -80,32 +96,38 @@ module _ (uses : ℕ → Bool) (words : ℕ) (user : Bool) (s : Start) (n : ℕ)
 
   -- ---- with the key
 
-  abbrev With : ℕ → ℕ → Type 0
+  abbrev With : ℕ → ℕ → (ℕ → ℕ) → Type 0
   With = ResumesWith s (o .shown) r m (words + below) text
 
   module _ {j : ℕ} {w : View} {x : Rest} (st : Standing f below r j (o .shown) w x) where
     back : (y i : ℕ) → i ≤ rest → Path (relying f (reader .later)) may w i (end y) → (most : ℕ) → j + suc rest ≤ most
-        → most ≤ m → With most y
-    back y i few path most le fits =
+        → most ≤ m → (status : ℕ → ℕ) → KeyboardIs r (x .read) (x .status) status → With most y status
+    back y i few path most le fits status is =
         let e = reaches (relying f (reader .later)) below may away quiet (o .shown) i j i w (end y) x
         (narrowed f (f .uses) (reader .later) (reader .later-used) st) path (omega arith) (omega arith) in
+        let st′ = relied f (reader .later) (f .uses) st (e .standing) in
         record {
           steps = suc (j + e .steps);
           in-time = omega (arith, e .fewer);
-          resumed = resumed uses words user s n b two may below (o .apart) away
-              (relied f (reader .later) (f .uses) st (e .standing)) m (o .accepted) quiet
+          resumed = resumed uses words user s n b two may below (o .apart) away st′ m (o .accepted) quiet
               (omega (arith, e .fewer)) (ends y) (set (s .machine .regs) 0 y) (regs-back y) (text y) (text-is y);
+          kbsr =
+              keyboard-then uses words user s n b two may below (o .apart) away st′ m (o .accepted) quiet
+              (omega (arith, e .fewer)) (ends y)
+              ∙ same-keyboard r (e .keyboard .0) (e .keyboard .1) _
+              ∙ is _;
         }
 
   -- At the load of KBDR.
   loads-now : (j : ℕ) (regs : List ℕ) (c : Known) → Same wait regs
       → (x : Rest)
       → Standing f below r j (o .shown) (loading wait regs c) x
-      → (most : ℕ) → suc j + suc rest ≤ most → most ≤ m → With most (keyAt r j)
-  loads-now j regs c same-regs x st most le fits =
+      → Unread r x → (most : ℕ) → suc j + suc rest ≤ most → most ≤ m → With most (keyAt r j) (readIn j r)
+  loads-now j regs c same-regs x st u most le fits =
       let p = key-loaded f below may away last len rest begin wait end reader quiet j (o .shown) (omega arith) regs c
-      same-regs x st in
-      back (p .standing) (keyAt r j) rest (omega arith) (reader .way-back (keyAt r j)) most le fits
+      same-regs x st u in
+      back (p .standing) (keyAt r j) rest (omega arith) (reader .way-back (keyAt r j)) most le fits (readIn j r)
+      (same-keyboard r (p .read) (p .status))
 
   -- ---- the wait
 
@@ -161,9 +183,11 @@ module _ (uses : ℕ → Bool) (words : ℕ) (user : Bool) (s : Start) (n : ℕ)
         (keyed wait byte) (sym (same-regs byte)) refl)
         taken
 
-    takes : With (first + 2 * t + 3 + suc rest) byte
+    takes : With (first + 2 * t + 3 + suc rest) byte (readIn (first + 2 * t + 2) r)
     takes =
         back with-byte byte rest (omega arith) (reader .way-back byte) (first + 2 * t + 3 + suc rest) (omega arith) fits
+        (readIn (first + 2 * t + 2) r)
+        (same-keyboard r refl (ready-leaves-rest _ (x .status) ∙ ap (λ (y : ℕ). y % 0x8000) (u .status)))
 
   -- ---- by its PC
 
@@ -252,7 +276,7 @@ module _ (uses : ℕ → Bool) (words : ℕ) (user : Bool) (s : Start) (n : ℕ)
         (λ regs y same-regs big e u. absurd (omega (arith, negative y big, codes-at regs y e)))
 
     found-then : On r 0 (o .made) w x → r .machine .pc ≡ poll + 1 → 4 ≤ r .machine .psr % 8 → 2 + suc rest ≤ m
-        → With (2 + suc rest) (keyAt r 1)
+        → With (2 + suc rest) (keyAt r 1) (readIn 1 r)
     found-then on h set-n enough =
         at-branch h on
         (λ regs y same-regs small e u. absurd (omega (arith, n-is-clear y small, codes-at regs y e)))
@@ -260,9 +284,10 @@ module _ (uses : ℕ → Bool) (words : ℕ) (user : Bool) (s : Start) (n : ℕ)
         let p = branched f below may away last len rest begin wait end reader quiet 0 (o .shown) (omega arith) regs y
         (wait .busy - 1 - 1) false (omega arith) (le-ltb y 0x8000 big) x
         (subst (λ (v : View). Standing f below r 0 (o .shown) v x) (sym e) st) u in
-        loads-now 1 regs (from y) same-regs (p .rest) (p .standing) (2 + suc rest) (omega arith) enough)
+        loads-now 1 regs (from y) same-regs (p .rest) (p .standing) (p .unread) (2 + suc rest) (omega arith) enough)
 
-    to-load : On r 0 (o .made) w x → r .machine .pc ≡ poll + 2 → 1 + suc rest ≤ m → With (1 + suc rest) (keyAt r 0)
+    to-load : On r 0 (o .made) w x → r .machine .pc ≡ poll + 2 → 1 + suc rest ≤ m
+        → With (1 + suc rest) (keyAt r 0) (readIn 0 r)
     to-load (to-wait i few path u) h enough =
         absurd (not-behind path (omega (arith, place st)) (omega (arith, place st, reader .before-last)))
     to-load (polls regs c same-regs e u) h enough =
@@ -272,35 +297,38 @@ module _ (uses : ℕ → Bool) (words : ℕ) (user : Bool) (s : Start) (n : ℕ)
     to-load (found-one regs y same-regs big e u) h enough =
         let p = ap (λ (v : View). v .pc) e ∙ place st in absurd (omega (arith, p, reader .one))
     to-load (loads regs c same-regs e u) h enough =
-        loads-now 0 regs c same-regs x (subst (λ (v : View). Standing f below r 0 (o .shown) v x) (sym e) st)
+        loads-now 0 regs c same-regs x (subst (λ (v : View). Standing f below r 0 (o .shown) v x) (sym e) st) u
         (1 + suc rest) (omega arith) enough
     to-load (with-key y i key few path) h enough = absurd (omega (arith, behind {y = y} path, place st))
 
-    has : On r 0 (o .made) w x → poll + 2 < r .machine .pc → r .machine .pc ≤ last → suc rest ≤ m → Has
-    has (to-wait i few path u) h l enough =
+    has : KeyboardIs r (x .read) (x .status) (notRead r) → On r 0 (o .made) w x → poll + 2 < r .machine .pc
+        → r .machine .pc ≤ last → suc rest ≤ m → Has
+    has unread (to-wait i few path u) h l enough =
         absurd (not-behind path (omega (arith, place st)) (omega (arith, place st)))
-    has (polls regs c same-regs e u) h l enough =
+    has unread (polls regs c same-regs e u) h l enough =
         let p = ap (λ (v : View). v .pc) e ∙ place st in absurd (omega (arith, p))
-    has (found-none regs y same-regs small e u) h l enough =
+    has unread (found-none regs y same-regs small e u) h l enough =
         let p = ap (λ (v : View). v .pc) e ∙ place st in absurd (omega (arith, p, reader .one))
-    has (found-one regs y same-regs big e u) h l enough =
+    has unread (found-one regs y same-regs big e u) h l enough =
         let p = ap (λ (v : View). v .pc) e ∙ place st in absurd (omega (arith, p, reader .one))
-    has (loads regs c same-regs e u) h l enough =
+    has unread (loads regs c same-regs e u) h l enough =
         let p = ap (λ (v : View). v .pc) e ∙ place st in absurd (omega (arith, p, reader .two))
-    has (with-key y i key few path) h l enough = record {
+    has unread (with-key y i key few path) h l enough = record {
       key = y;
       is = key;
-      resumes = back st y i few path (suc rest) (omega arith) enough;
+      resumes = back st y i few path (suc rest) (omega arith) enough (notRead r) unread;
     }
 
   pub reads : Reads s poll last words below r m o text (suc rest) (suc len)
   reads =
-      let t = chain .stood in
+      let first = chain .first in
+      let t = first .stood in
       record {
         before = chain .before;
         to-poll = to-poll (t .standing) (t .on);
         none-found = none-found (t .standing) (t .on);
         found = found-then (t .standing) (t .on);
         to-load = to-load (t .standing) (t .on);
-        has = has (t .standing) (t .on);
+        has = has (t .standing)
+            (λ keys. same-keyboard r (first .none) (first .status) keys ∙ none-of-them r keys) (t .on);
       }

@@ -25,6 +25,7 @@ use Rattle.monitor.proofs.Intact.{cellsFine, usable}
 use Rattle.monitor.proofs.Instructions.{codesFor, other, same, by-plan}
 use Rattle.monitor.proofs.Entries.{within}
 use Rattle.monitor.proofs.Calls.{call-stands}
+use Rattle.monitor.proofs.KeyLaws.{ready-leaves-rest}
 use Rattle.monitor.proofs.Keyboard.{keyRead, loads-status, loads-key, taken-after, Keys}
 use Rattle.monitor.proofs.Paths.{Readable, Path, keeps}
 use Rattle.interruptions.specs.GoesOn.{Returned}
@@ -41,10 +42,12 @@ pub record Unread (q : Start) (x : Rest) : Type 0 where
   pub none : x .read ≡ 0
   pub status : x .status ≡ q .machine .devices .kbsr
 
--- The run q of j steps stands at w.
-pub record There (f : Frame) (below : ℕ) (q : Start) (j : ℕ) (shown : List ℕ) (w : View) : Type 0 where
+-- The run q of j steps stands at w, and has loaded KBDR in the last of them; or it has not loaded it.
+pub record Loaded (f : Frame) (below : ℕ) (q : Start) (j : ℕ) (shown : List ℕ) (w : View) : Type 0 where
   pub rest : Rest
   pub standing : Standing f below q j shown w rest
+  pub read : rest .read ≡ arrivedBy q j
+  pub status : rest .status ≡ q .machine .devices .kbsr % 0x8000
 
 pub record ThereUnread (f : Frame) (below : ℕ) (q : Start) (j : ℕ) (shown : List ℕ) (w : View) : Type 0 where
   pub rest : Rest
@@ -179,8 +182,9 @@ module _ (f : Frame) (below : ℕ) (may : ℕ → Bool)
     -- ---- LDI of KBDR
 
     pub key-loaded : (regs : List ℕ) (c : Known) → Same wait regs → (x : Rest)
-        → Standing f below q j shown (loading wait regs c) x → There f below q (suc j) shown (keyed wait (keyAt q j))
-    key-loaded regs c same-regs x st =
+        → Standing f below q j shown (loading wait regs c) x → Unread q x
+        → Loaded f below q (suc j) shown (keyed wait (keyAt q j))
+    key-loaded regs c same-regs x st u =
         let k = reader .keys (q .memory) (q .output) x in
         let v : View = within (twin wait x) regs (next (next poll)) c (x .busy) in
         let x′ : Rest = record {
@@ -207,6 +211,8 @@ module _ (f : Frame) (below : ℕ) (may : ℕ → Bool)
               (subst (λ (rs : List ℕ). At q 0 (suc j) g
               (twin (within wait rs (next (next (next poll))) (from (keyAt q j)) (wait .busy - 1 - 1 - 1)) x′))
               (same-regs (keyAt q j)) a);
+          read = refl;
+          status = ready-leaves-rest _ (x .status) ∙ ap (λ (y : ℕ). y % 0x8000) (u .status);
         }
 
   -- ---- the course
@@ -326,7 +332,7 @@ module _ (f : Frame) (below : ℕ) (may : ℕ → Bool)
             }
         by-place n accepted fits {x = x} st (loads regs c same-regs e u) not-last =
             let here = subst (λ (v : View). Standing f below q j shown v x) (sym e) st in
-            let p = key-loaded quiet j shown le regs c same-regs x here in
+            let p = key-loaded quiet j shown le regs c same-regs x here u in
             record {
               view = keyed wait (keyAt q j);
               rest = p .rest;

@@ -7,9 +7,11 @@ use mathlib.Core.Bool.{Bool, true, cond}
 use mathlib.Core.List.{List}
 use lib.ListN.{getD, set, take, drop}
 use Rattle.machine.specs.Words.{next}
+use Rattle.machine.specs.Keys.{readyAfter}
 use Rattle.run.specs.declared.Admission.the-variants.{Accepted}
 use Rattle.run.specs.Run.{Start, endedBy}
 use Rattle.run.specs.Refusals.{admissionOf}
+use Rattle.run.specs.Call.{callOf}
 use Rattle.monitor.specs.Calls.{stackOf, StackApart, Begins}
 use Rattle.monitor.proofs.Execution.{Frame, View, psrAt, memoryWith, At, Quiet}
 use Rattle.monitor.proofs.Intact.{wordAt}
@@ -109,6 +111,11 @@ module _ (uses : ℕ → Bool) (words : ℕ) (user : Bool) (s : Start) (n : ℕ)
           words-below = rw q below-is;
           words-above = rw q above-is;
         }
+
+    -- KBSR by the keys that have arrived.
+    pub keyboard-then : callOf r (suc i) .machine .devices .kbsr
+        ≡ readyAfter (take (callOf r (suc i) .keys - x .read) (drop (x .read) (r .bytes))) (x .status)
+    keyboard-then = rw (call-stands at-back m accepted more) (at-back .kbsr)
 
   -- ---- it halts
 

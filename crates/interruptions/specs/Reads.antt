@@ -10,7 +10,7 @@ use Rattle.run.specs.Run.{Start}
 use Rattle.run.specs.Call.{callOf}
 use Rattle.monitor.specs.Uses.{getcCode, inCode}
 use Rattle.monitor.specs.Keys.{keyAt}
-use Rattle.monitor.specs.Calls.{Calls}
+use Rattle.monitor.specs.Calls.{Calls, notRead, readIn}
 use Rattle.monitor.specs.Getc.{KeyComes}
 use Rattle.monitor.specs.In.{prompt, firstPoll}
 use Rattle.interruptions.specs.GoesOn.{Returned, OnTheWay, ShownBefore, ResumedLater}
@@ -34,19 +34,21 @@ pub data KeyOf (poll below : ℕ) : Start → ℕ → ℕ → Type 0 where
   loaded : {q : Start} {k : ℕ} (j : ℕ) → j < k → callOf q j .machine .pc ≡ poll + 2 → KeyOf poll below q k (keyAt q j)
   before : {q r : Start} {i k key : ℕ} → KeyOf poll below q i key → Returned q i below r → KeyOf poll below r k key
 
--- The caller resumes within so many steps of r, with this key in R0 and all other registers as before, and its text is
--- shown.
-pub record ResumesWith (s : Start) (shown : List ℕ) (r : Start) (m words : ℕ) (text : ℕ → List ℕ) (within key : ℕ) :
-    Type 0 where
+-- The caller resumes within so many steps of r, with this key in R0 and all other registers as before; its text is
+-- shown, and KBSR is this by the keys that have arrived.
+pub record ResumesWith (s : Start) (shown : List ℕ) (r : Start) (m words : ℕ) (text : ℕ → List ℕ) (within key : ℕ)
+    (status : ℕ → ℕ) : Type 0 where
   pub steps : ℕ
   pub in-time : steps ≤ within
   pub resumed : ResumedLater s shown r m steps (text key) words (set (s .machine .regs) 0 key)
+  pub kbsr : callOf r steps .machine .devices .kbsr ≡ status (callOf r steps .keys)
 
 -- r polls KBSR from step `first` on, every two steps: it takes the key that has arrived last by the step that loads
 -- KBDR, after so many polls that find none. `after` are the steps behind that load.
 abbrev pub TakesKey : Start → List ℕ → Start → ℕ → ℕ → (ℕ → List ℕ) → ℕ → ℕ → Type 0
 TakesKey s shown r m words text after first = (turns : ℕ) → KeyComes r first turns → first + 2 * turns + 3 + after ≤ m
     → ResumesWith s shown r m words text (first + 2 * turns + 3 + after) (keyAt r (first + 2 * turns + 2))
+    (readIn (first + 2 * turns + 2) r)
 
 -- It is to come to its first poll of KBSR, in fewer steps than the call takes to it.
 pub record TakesKeyLater (s : Start) (shown : List ℕ) (r : Start) (m words : ℕ) (text : ℕ → List ℕ)
@@ -61,7 +63,7 @@ pub record HasKey (s : Start) (shown : List ℕ) (r : Start) (m words : ℕ) (te
     Type 0 where
   pub key : ℕ
   pub is : KeyOf poll below r 0 key
-  pub resumes : ResumesWith s shown r m words text after key
+  pub resumes : ResumesWith s shown r m words text after key (notRead r)
 
 -- Where r goes on, by its PC. A wait for a key has no number of steps (0 in `OnTheWay`): that the routine has not come
 -- to its end, is told by its last instruction.
@@ -76,10 +78,10 @@ pub record Reads (s : Start) (poll last words below : ℕ) (r : Start) (m : ℕ)
       → TakesKey s (o .shown) r m (words + below) text after 1
   -- at BRzp, where the poll found one: KBDR is loaded as it stands then, though the interrupt's routine took the key
   pub found : r .machine .pc ≡ poll + 1 → 4 ≤ r .machine .psr % 8 → 2 + after ≤ m
-      → ResumesWith s (o .shown) r m (words + below) text (2 + after) (keyAt r 1)
+      → ResumesWith s (o .shown) r m (words + below) text (2 + after) (keyAt r 1) (readIn 1 r)
   -- at the load of KBDR, the same
   pub to-load : r .machine .pc ≡ poll + 2 → 1 + after ≤ m
-      → ResumesWith s (o .shown) r m (words + below) text (1 + after) (keyAt r 0)
+      → ResumesWith s (o .shown) r m (words + below) text (1 + after) (keyAt r 0) (readIn 0 r)
   -- behind it
   pub has : poll + 2 < r .machine .pc → r .machine .pc ≤ last → after ≤ m
       → HasKey s (o .shown) r m (words + below) text after poll below
