@@ -8,6 +8,7 @@ use Rattle.certify.specs.Finding.{wrongIn, wrongInRow, wrongAt, wrongInRows, wr
 use Rattle.certify_examples.specs.Monitor.{classWords, classKinds, classWatched, classRows, endsFrom, joined}
 use Rattle.certify_examples.specs.Examples.{answerOf, answerFor, answerWith, rowsWith, LeaksAreFound}
 use Rattle.certify_examples.specs.Examples.{StoresAreFound, UnfollowedIsFound, OtherFindings, ExamplesHold}
+use Rattle.certify_examples.specs.Examples.{FindingsInOrder}
 
 -- To unfold this is to compute an answer.
 unfoldable pub computing : Unit {0}
@@ -79,6 +80,20 @@ by-two : answerWith 0x020D 0x1022 ≡ nothingWrong
 unfolding computing
 by-two = refl
 
+in-order : FindingsInOrder
+unfolding computing
+in-order = record {
+  nothing = refl;
+  in-place = refl;
+  first-vector = refl;
+  vector-first = refl;
+  keyboard-first = refl;
+  x0103-is-free = refl;
+  own-without = refl;
+  secret-without = refl;
+  first-state = refl;
+}
+
 pub examples-hold : ExamplesHold
 examples-hold = record {
   certified = certified;
@@ -87,4 +102,5 @@ examples-hold = record {
   stores = stores;
   unfollowed = unfollowed;
   others = others;
+  in-order = in-order;
 }

@@ -5,9 +5,10 @@ use mathlib.Core.Path.{_≡_}
 use mathlib.Core.List.{List, [], _∷_, _++_}
 use lib.ListN.{replicate, take}
 use Rattle.machine.specs.Rows.{withWord}
+use Rattle.sitting.specs.Test.{own, hidden, Claim}
 use Rattle.claims.specs.Encoding.{claimWith}
 use Rattle.certify.specs.declared.Certified.{Certified}
-use Rattle.certify.specs.Finding.{nothingWrong, wrong, wrongInRows, certifyOf}
+use Rattle.certify.specs.Finding.{nothingWrong, wrong, wrongVectors, wrongAt, wrongInRows, wrongWith, certifyOf}
 use Rattle.certify_examples.specs.Monitor.{classWords, classKinds, classWatched, stateWith, entry, classRows}
 use Rattle.certify_examples.specs.Monitor.{endsFrom, joined}
 
@@ -101,6 +102,26 @@ pub record OtherFindings : Type 0 where
   pub known-below : answerOf classWords classKinds 0x2FFC classWatched (rowsWith (knownBelow ∷ []) [])
       ≡ wrong 6 0x0226 53
 
+-- A claim about no words: all of them are secret.
+abbrev pub allSecret : Claim
+allSecret = claimWith [] [] 0x2FFC classWatched []
+
+-- Each number in its place, and which of two findings is answered.
+pub record FindingsInOrder : Type 0 where
+  pub nothing : nothingWrong ≡ record { finding = 0; address = 0; state = 0 }
+  pub in-place : wrong 3 0x0102 5 ≡ record { finding = 3; address = 0x0102; state = 5 }
+  -- the first of the vectors; a vector before a state
+  pub first-vector : wrongVectors allSecret ≡ wrong 3 0 0
+  pub vector-first : wrongWith allSecret (1 ∷ []) entry ≡ wrong 3 0 0
+  -- the keyboard before the timer; x0103 is no vector of these
+  pub keyboard-first : answerFor (withWord (withWord classWords 0x0180 0x0200) 0x0181 0x0222) ≡ wrong 4 0x0180 0
+  pub x0103-is-free : answerOf classWords (withWord classKinds 0x0103 0) 0x2FFC classWatched classRows ≡ nothingWrong
+  -- a word that may change, or is secret, has no state, and so nothing is wrong with it
+  pub own-without : wrongAt allSecret 0x0205 own 3 [] ≡ nothingWrong
+  pub secret-without : wrongAt allSecret 0x0205 hidden 3 [] ≡ nothingWrong
+  -- the first state has number 0: what stands at x0200 is no instruction
+  pub first-state : answerWith 0x0200 0xD000 ≡ wrong 7 0x0200 0
+
 -- It is certified, and so it is with BUMP that counts by two; others are not.
 pub record ExamplesHold : Type 0 where
   pub certified : answerFor classWords ≡ nothingWrong
@@ -109,3 +130,4 @@ pub record ExamplesHold : Type 0 where
   pub stores : StoresAreFound
   pub unfollowed : UnfollowedIsFound
   pub others : OtherFindings
+  pub in-order : FindingsInOrder
