@@ -137,11 +137,12 @@ def add_equation(module: Module, start: int, end: int) -> None:
     texts = [token.text for token in words]
     depth, equals = 0, 1
     while texts[equals] != '=' or depth:
-        depth += (texts[equals] == '(') - (texts[equals] == ')')
+        depth += (texts[equals] in '({') - (texts[equals] in ')}')
         equals += 1
     left, right = Parser(words[1:equals]), Parser(words[equals + 1:])
     patterns = []
     while not left.finished():
+        left.skip_braces()                     # a name for an implicit argument
         patterns.append(left.atom())
     body = right.expression()
     if not right.finished():

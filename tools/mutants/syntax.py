@@ -174,12 +174,16 @@ class Parser:
                 for name in word[1:].split('.'):
                     function = Node('proj', name, [function], function.start, end)
             elif word == '{':                  # a level, as in Unit {0}
-                while self.take().text != '}':
-                    pass
+                self.skip_braces()
             else:
                 argument = self.atom()
                 parts = function.parts if function.kind == 'app' else [function]
                 function = Node('app', None, parts + [argument], function.start, argument.end)
+
+    def skip_braces(self) -> None:
+        while self.peek() == '{':
+            while self.take().text != '}':
+                pass
 
     def atom(self) -> Node:
         token = self.take()
