@@ -1,0 +1,2 @@
+-- Laws of walks.
+pub mod StepLaws
