@@ -1,2 +1,3 @@
 -- Laws of walks.
 pub mod StepLaws
+pub mod LegLaws
