@@ -1,3 +1,4 @@
 -- Laws of walks.
 pub mod StepLaws
 pub mod LegLaws
+pub mod WalkLaws
