@@ -2,3 +2,4 @@
 pub mod StepLaws
 pub mod LegLaws
 pub mod WalkLaws
+pub mod VisitLaws
