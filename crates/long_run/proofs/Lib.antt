@@ -1,0 +1,3 @@
+pub mod LookingLaws
+pub mod SteppingLaws
+pub mod StretchingLaws

@@ -1,0 +1,3 @@
+-- What the parts of the long run promise.
+pub mod Looking
+pub mod Stretching
