@@ -65,7 +65,7 @@ run: told lib
 
 told:
 	@command -v python3 >/dev/null || { echo "The command needs python3, and none is found." >&2; exit 2; }
-	@[ -e build/libfanthrig.so ] || echo "The library is proved and built first: about 6 minutes on two cores, once."
+	@[ -e build/libfanthrig.so ] || echo "The library is proved and built first: about 5 and a half minutes on two cores, once."
 
 # `make test` compares what it prints with crates/demo/stdout.
 demo:
@@ -76,7 +76,7 @@ demo:
 # The archives are built from the crates that `rt ci` has just proved. Its verdict is repeated as the last line of all.
 test:
 	@echo "Everything: formatting, all proofs from nothing, wrong programs that must be refused, and then the host tests."
-	@echo "That takes about 45 minutes on two cores."
+	@echo "That takes about 50 minutes on two cores."
 	@tools/prerequisites
 	@$(MAKE) --no-print-directory format lint
 	@tools/progress build/ci.log rt ci
