@@ -33,9 +33,9 @@ class Keys(Terminal):
     def wait(self) -> bytes:
         """Waits for keys, or for a signal."""
         keys = self.poll()
-        if not (keys or self._said or self._signals.caught):
+        if not (keys or self._signals.caught):
+            self._console.waits(self._said)
             self._said = True
-            self._console.waits()
         return keys or super().wait()
 
     def _suspend(self, number: int, _frame: FrameType | None) -> None:
@@ -100,9 +100,10 @@ class Console:
         if data:
             self._line_begun = bool(display.line_feed())
 
-    def waits(self) -> None:
-        """Says that the program waits for a key."""
-        tell(f"{self.line_feed()}{WAITS}\n")
+    def waits(self, said: bool) -> None:
+        """Says that the program waits for a key, unless that was said."""
+        if not said:
+            tell(f"{self.line_feed()}{WAITS}\n")
 
     def line_feed(self) -> str:
         """A line feed where the program has left the cursor of a terminal within a line."""

@@ -54,8 +54,8 @@ class ScreenConsole(Console):
             self._screen.draw(RUNS)
             self._drawn = time.monotonic()
 
-    def waits(self) -> None:
-        """Draws the screen with that."""
+    def waits(self, said: bool) -> None:
+        """Draws the screen with that, each time: what the program showed last may not be drawn."""
         self._screen.draw(WAITS)
 
     def close(self) -> None:
