@@ -20,5 +20,5 @@ pub extern "C" fn lc3_run_long(
         ≡ answerOf (callOf (startOf m (now (memory .entry)) (now (times .entry)) (now (bytes .entry))
         (now (output .entry))) n) ⌝ }
 {
-    answers::answer_of(long::run(m, memory, times, bytes, output, n))
+    answers::answer_of(long_run::run(m, memory, times, bytes, output, n))
 }
