@@ -6,7 +6,6 @@ use mathlib.Core.Path.{_≡_, refl, sym, ap, subst, _∙_}
 use mathlib.Core.Bool.{Bool, false}
 use mathlib.Core.List.{List}
 use native.Mathlib.Omega.{arith}
-use lib.Dec.{ltb}
 use Rattle.machine.specs.declared.Machine.{Machine}
 use Rattle.machine.specs.Outcome.{Outcome}
 use Rattle.machine.specs.Step.{Step, stepBy}
@@ -85,7 +84,7 @@ wider-ends f a = record {
 -- What equal records and equal memories but for the altered words lead to: the tests and stops of a run.
 pub halts-alike : {altered : ℕ → Bool} {e₁ e₂ : End} → SameEnds altered e₁ e₂ → isHalted e₁ ≡ isHalted e₂
 unfolding isHalted
-halts-alike a = ap (λ (m : Machine). ltb (m .devices .mcr) 0x8000) (a .machine)
+halts-alike a = cc (a .machine)
 
 pub ended-alike : {altered : ℕ → Bool} {e₁ e₂ : End} → SameEnds altered e₁ e₂ → (w : Ending)
     → SameEnds altered (endedBy w e₁) (endedBy w e₂)
