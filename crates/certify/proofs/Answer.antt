@@ -10,12 +10,12 @@ use Rattle.word.specs.Reading.{readOf}
 use Rattle.word.specs.declared.Instruction.{Instruction}
 use Rattle.machine.specs.declared.Devices.{Devices}
 use Rattle.machine.specs.Interrupts.{keyboardVector, timerVector}
+use Rattle.run.proofs.AlteredWords.{wider-ends}
 use Rattle.sitting.specs.Sitting.{answerAfter}
 use Rattle.sitting.specs.Test.{Claim, State, Row, Cell, fixed, own, hidden, cellAt, valueIn, sound, harmless}
 use Rattle.sitting.specs.Test.{allHarmless, isEmpty, rowHolds, rowsHold, leadsIn, allLeadIn, leadsBack, vectorsHold}
 use Rattle.sitting.specs.Test.{roomHolds, passes}
 use Rattle.sitting.specs.Certified.{isSecretBeside}
-use Rattle.sitting.proofs.Runs.{wider-ends}
 use Rattle.sitting.proofs.Certified.{certified-tells-nothing}
 use Rattle.claims.specs.Encoding.{rowOf, rowsOf, claimOf}
 use Rattle.claims.proofs.Encoding.{tested-is-loaded}
@@ -153,7 +153,7 @@ certifying-is-enough memory kinds lowest watched ends table h m s other v earlie
     let n : length kinds ≤ 0x2FFE = short-kinds memory kinds (s .size) (cells-below c p) in
     record {
       same = record {
-        run = wider-ends (isSecretBeside c d) (isSecretBy kinds lowest d) _ _ (λ a z. b a ∙ z) (t .same .run);
+        run = wider-ends (λ a z. b a ∙ z) (t .same .run);
         log = t .same .log;
         words = t .same .words;
         ending = t .same .ending;

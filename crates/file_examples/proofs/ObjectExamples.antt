@@ -3,10 +3,10 @@ use mathlib.Core.Path.{refl}
 use Rattle.object.specs.File.{wordsOf, bytesOf}
 use Rattle.object.specs.Calls.{wrongSize, wrongLength, beyondMemory, tooShort, loadRefusal, loadAccepted, loadBy}
 use Rattle.object.specs.Calls.{loadOf}
-use Rattle.object.specs.Calls.{saveRefusal, saveAccepted, saveBy, saveOf}
+use Rattle.object.specs.Calls.{saveRefusal, saveAccepted, saveOf}
 use Rattle.file_examples.specs.ObjectExamples.{ExamplesHold}
 
 pub examples-hold : ExamplesHold
 unfolding wordsOf bytesOf wrongSize wrongLength beyondMemory tooShort loadRefusal loadAccepted loadBy loadOf saveRefusal
-    saveAccepted saveBy saveOf
+    saveAccepted saveOf
 examples-hold = refl

@@ -15,7 +15,7 @@ use Rattle.run.specs.declared.Ending.the-variants.{Done, Halted}
 use Rattle.run.specs.Run.{Start}
 use Rattle.run.specs.Refusals.{admissionOf}
 use Rattle.run.specs.Call.{callOf}
-use Rattle.monitor.specs.Install.{writtenOver}
+use Rattle.lent.specs.Lent.{writtenOver}
 use Rattle.monitor.specs.Uses.{outCode, putsCode, putspCode, haltCode}
 use Rattle.monitor.specs.Calls.{stackOf, StackApart, Calls, NoInterrupt}
 use Rattle.monitor.specs.Out.{Uninterrupted, outStepsOf}

@@ -1,26 +1,19 @@
 // Lines of text for hosts in C and Rust: the line of a word (request 1), its length (request 6) and the lines of a
 // range of memory (request 5). Every call accepts every argument; the refusals are those of include/fanthrig/lc3.h.
+use lent::Lc3Counted;
 use line::lengths::line_length;
 use lines::line;
 use lines::page::page;
 ghost use mathlib.Core.Path.{_≡_};
 ghost use lib.ListN.{length};
+ghost use Rattle.lent.specs.Lent.{hostCounted, writtenWhole};
 ghost use Rattle.line.specs.Line.{lineOf};
-ghost use Rattle.lines.specs.Answer.{textAnswer};
 ghost use Rattle.lines.specs.Page.{pageOf};
-ghost use Rattle.lc3_lines.specs.Counted.{answeredWith};
-
-// A byte count and 0, or 0 and the number of the refusal.
-#[repr(C)]
-pub struct Lc3Counted {
-    pub count: u64,
-    pub refusal: u32,
-}
 
 // The line of a word, at the start of the output.
 #[no_mangle]
 pub extern "C" fn lc3_line(word: u16, output: &mut [u8]) -> Lc3Counted
-    ensures { λ r. ⌜ answeredWith r (now (output .exit)) ≡ textAnswer (lineOf word) (now (output .entry)) ⌝ }
+    ensures { λ r. ⌜ hostCounted r (now (output .exit)) ≡ writtenWhole (lineOf word) (now (output .entry)) ⌝ }
 {
     let counted = line(word, output);
     Lc3Counted {
@@ -46,7 +39,7 @@ pub extern "C" fn lc3_page(
     output: &mut [u8],
 ) -> Lc3Counted
     ensures { λ r.
-        ⌜ answeredWith r (now (output .exit)) ≡ pageOf (now (memory .entry)) first count (now (output .entry)) ⌝ }
+        ⌜ hostCounted r (now (output .exit)) ≡ pageOf (now (memory .entry)) first count (now (output .entry)) ⌝ }
 {
     let written = page(memory, first, count, output);
     Lc3Counted {

@@ -1,2 +1,2 @@
--- What a host's calls answer, in the terms of the crates `start` and `object`.
+-- What a host's calls answer, in the terms of the crate `start`.
 pub mod Answers

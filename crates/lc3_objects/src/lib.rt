@@ -1,10 +1,12 @@
 // Object files for hosts in C and Rust: a file loaded into lent memory and started, a candidate's file too, and one
 // written from a range of memory. The calls accept every argument; the refusals are those of include/fanthrig/lc3.h.
+use lent::Lc3Counted;
 use machine::Machine;
 ghost use mathlib.Core.Path.{_≡_};
+ghost use Rattle.lent.specs.Lent.{hostCounted};
 ghost use Rattle.object.specs.Calls.{saveOf};
 ghost use Rattle.start.specs.Start.{startedOf, userStartedOf};
-ghost use Rattle.lc3_objects.specs.Answers.{hostStarting, hostSaving};
+ghost use Rattle.lc3_objects.specs.Answers.{hostStarting};
 
 // A fresh record at the file's origin and the number of words loaded, with 0; or both all zero, with the number of the
 // refusal. 56 bytes.
@@ -12,13 +14,6 @@ ghost use Rattle.lc3_objects.specs.Answers.{hostStarting, hostSaving};
 pub struct Lc3Started {
     pub machine: Machine,
     pub words: u32,
-    pub refusal: u32,
-}
-
-// The number of bytes written, with 0; or 0, with the number of the refusal.
-#[repr(C)]
-pub struct Lc3Counted {
-    pub count: u64,
     pub refusal: u32,
 }
 
@@ -57,7 +52,7 @@ pub extern "C" fn lc3_save(
     words: usize,
     output: &mut [u8],
 ) -> Lc3Counted
-    ensures { λ r. ⌜ hostSaving r (now (output .exit))
+    ensures { λ r. ⌜ hostCounted r (now (output .exit))
         ≡ saveOf (now (memory .entry)) origin words (now (output .entry)) ⌝ }
 {
     let saved = loader::save(memory, origin, words, output);

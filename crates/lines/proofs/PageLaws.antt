@@ -8,9 +8,9 @@ use mathlib.Core.List.{List, [], _∷_, _++_, append-nil, append-assoc}
 use lib.Dec.{eqb, ltb}
 use lib.ListN.{length, getD, take, drop, length-append, take-append-drop}
 use lib.Seq.{take-add, take-suc, drop-drop, drop-cons}
-use borrow.Author.Tests.{eq-eqb, le-ltb, le-leb}
+use borrow.Author.Tests.{eq-eqb, le-ltb}
+use Rattle.lent.specs.Lent.{wrongSize, tooShort, writtenWhole}
 use Rattle.line.specs.Line.{lineOf}
-use Rattle.lines.specs.Answer.{textAnswer, refused}
 use Rattle.lines.specs.Page.{linesOf, pageText, pageOf}
 use Rattle.lines.specs.Theorems.{PageSplits, PageOfOne, PageOfNone}
 
@@ -47,17 +47,17 @@ page-splits memory first a b =
 -- ---- the call, by what is tested
 module _ (memory : List ℕ) (first count : ℕ) (output : List ℕ) (size : length memory ≡ 65536) where
   pub in-memory : first + count ≤ 65536
-      → pageOf memory first count output ≡ textAnswer (pageText memory first count) output
-  unfolding pageOf
+      → pageOf memory first count output ≡ writtenWhole (pageText memory first count) output
+  unfolding pageOf wrongSize
   in-memory p = rw (eq-eqb (length memory) 65536 size, le-ltb 65536 (first + count) p)
 
 pub page-of-one : PageOfOne
 page-of-one memory first output size p =
     let one : pageText memory first 1 ≡ lineOf (getD memory first 0) =
     ap (λ (l : List ℕ). linesOf (take 1 l)) (drop-cons memory first 0 (omega arith)) ∙ one-line (getD memory first 0) in
-    in-memory memory first 1 output size (omega arith) ∙ ap (λ (l : List ℕ). textAnswer l output) one
+    in-memory memory first 1 output size (omega arith) ∙ ap (λ (l : List ℕ). writtenWhole l output) one
 
 pub page-of-none : PageOfNone
-unfolding linesOf
+unfolding linesOf tooShort
 page-of-none memory first output size p =
-    in-memory memory first 0 output size (omega arith) ∙ rw (le-leb 0 (length output) zero-le)
+    in-memory memory first 0 output size (omega arith) ∙ rw (le-ltb (length output) 0 zero-le)

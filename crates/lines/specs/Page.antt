@@ -1,11 +1,11 @@
 -- A whole page of lines (request 5): "what asking for the lines singly and joining them gives".
 use Prim.Native.Nat.{ℕ, _+_}
-use mathlib.Core.Bool.{cond, not}
+use mathlib.Core.Bool.{cond}
 use mathlib.Core.List.{List, [], _∷_, _++_}
-use lib.Dec.{eqb, ltb}
-use lib.ListN.{length, take, drop}
+use lib.Dec.{ltb}
+use lib.ListN.{take, drop}
+use Rattle.lent.specs.Lent.{wrongSize, tooShort, Written, writtenBy}
 use Rattle.line.specs.Line.{lineOf}
-use Rattle.lines.specs.Answer.{Answer, textAnswer, refused}
 
 -- the lines of words, one after the other
 unfoldable pub linesOf : List ℕ → List ℕ
@@ -17,8 +17,10 @@ abbrev pub pageText : List ℕ → ℕ → ℕ → List ℕ
 pageText memory first count = linesOf (take count (drop first memory))
 
 -- "Turned away, after 11: 20, first address plus count above 65,536; then 16 if the whole page doesn't fit"
-unfoldable pub pageOf : List ℕ → ℕ → ℕ → List ℕ → Answer
+unfoldable pub pageOf : List ℕ → ℕ → ℕ → List ℕ → Written
 pageOf memory first count output =
-    cond (not (eqb (length memory) 65536)) (refused 11 output)
-    (cond (ltb 65536 (first + count)) (refused 20 output)
-    (textAnswer (pageText memory first count) output))
+    writtenBy
+    (cond (wrongSize memory) 11
+    (cond (ltb 65536 (first + count)) 20
+    (cond (tooShort output (pageText memory first count)) 16 0)))
+    (pageText memory first count) output

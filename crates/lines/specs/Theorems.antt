@@ -3,8 +3,8 @@ use Prim.Native.Nat.{ℕ, _+_, _<_, _≤_}
 use mathlib.Core.Path.{_≡_}
 use mathlib.Core.List.{List, _++_}
 use lib.ListN.{length, getD}
+use Rattle.lent.specs.Lent.{writtenWhole}
 use Rattle.line.specs.Line.{lineOf}
-use Rattle.lines.specs.Answer.{textAnswer}
 use Rattle.lines.specs.Page.{pageText, pageOf}
 
 -- A page of a + b lines is the page of a and then the page of b.
@@ -17,7 +17,7 @@ PageSplits =
 abbrev pub PageOfOne : Type 0
 PageOfOne =
     (memory : List ℕ) (first : ℕ) (output : List ℕ) → length memory ≡ 65536 → first < 65536
-    → pageOf memory first 1 output ≡ textAnswer (lineOf (getD memory first 0)) output
+    → pageOf memory first 1 output ≡ writtenWhole (lineOf (getD memory first 0)) output
 
 -- A page of no lines is accepted, with count 0 and nothing written.
 abbrev pub PageOfNone : Type 0

@@ -1,23 +1,18 @@
 // The calls that write lines: that of one memory word (request 1), and a whole page of them (request 5).
+use lent::Counted;
 use line::lengths::line_length;
 use line::putting::put_line;
 ghost use mathlib.Core.Path.{_≡_};
 ghost use lib.Dec.{leb};
 ghost use lib.ListN.{length};
+ghost use Rattle.lent.specs.Lent.{counted, writtenWhole};
 ghost use Rattle.line.specs.Line.{lineOf};
-ghost use Rattle.lines.specs.Answer.{answered, textAnswer};
 
 pub mod page;
 
-// What a call answers that writes text: the byte count and 0, or 0 and the number of the refusal.
-pub struct Counted {
-    pub count: usize,
-    pub refusal: u8,
-}
-
 // The line of a word, from the output's start; the rest stays as lent. Where it does not fit, the output is untouched.
 pub fn line(word: u16, output: &mut [u8]) -> Counted
-    ensures { λ r. ⌜ answered r (now (output .exit)) ≡ textAnswer (lineOf word) (now (output .entry)) ⌝ }
+    ensures { λ r. ⌜ counted r (now (output .exit)) ≡ writtenWhole (lineOf word) (now (output .entry)) ⌝ }
 {
     if !fits(word, output.len()) {
         return Counted {

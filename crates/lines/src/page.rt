@@ -1,19 +1,19 @@
 // A whole page of lines (request 5): the lines of a range of memory, one after the other.
-use crate::Counted;
+use lent::Counted;
 use line::lengths::line_length;
 use line::putting::put_line;
 ghost use mathlib.Core.Path.{_≡_};
 ghost use Prim.Native.Nat.{_≤_};
 ghost use lib.ListN.{length};
+ghost use Rattle.lent.specs.Lent.{counted, writtenWhole};
 ghost use Rattle.text.specs.Placing.{Put};
-ghost use Rattle.lines.specs.Answer.{answered, textAnswer};
 ghost use Rattle.lines.specs.Page.{linesOf, pageOf};
 
 // The lines of `count` words from `first` on, from the output's start; the rest stays as lent. A page that is turned
 // away leaves the output untouched.
 pub fn page(memory: &[u16], first: u16, count: usize, output: &mut [u8]) -> Counted
     ensures { λ r.
-        ⌜ answered r (now (output .exit)) ≡ pageOf (now (memory .entry)) first count (now (output .entry)) ⌝ }
+        ⌜ counted r (now (output .exit)) ≡ pageOf (now (memory .entry)) first count (now (output .entry)) ⌝ }
 {
     if memory.len() != 65536 {
         return Counted {
@@ -36,7 +36,7 @@ pub fn page(memory: &[u16], first: u16, count: usize, output: &mut [u8]) -> Coun
 fn lines(words: &[u16], output: &mut [u8]) -> Counted
     requires { ⌜ length (now words) ≤ 65536 ⌝ }
     ensures { λ r.
-        ⌜ answered r (now (output .exit)) ≡ textAnswer (linesOf (now (words .entry))) (now (output .entry)) ⌝ }
+        ⌜ counted r (now (output .exit)) ≡ writtenWhole (linesOf (now (words .entry))) (now (output .entry)) ⌝ }
 {
     if output.len() < lines_length(words) {
         return Counted {

@@ -1,8 +1,9 @@
 // Object files, read into lent memory and written from a range of it.
+use lent::Counted;
 use object::Loaded;
-use object::Saved;
 ghost use mathlib.Core.Path.{_≡_};
-ghost use Rattle.object.specs.Calls.{loading, saving, loadAccepted, loadOf, saveAccepted, saveOf};
+ghost use Rattle.lent.specs.Lent.{counted};
+ghost use Rattle.object.specs.Calls.{loading, loadAccepted, loadOf, saveAccepted, saveOf};
 ghost use Rattle.object.specs.Accepted.{Readable, Writable};
 
 pub mod refusals;
@@ -39,19 +40,20 @@ fn load_accepted(file: &[u8], memory: &mut [u16]) -> Loaded
 }
 
 // The origin is one word of the file, so that a range, an empty one too, begins at xFFFF at most.
-pub fn save(memory: &[u16], origin: u16, words: usize, output: &mut [u8]) -> Saved
-    ensures { λ r. ⌜ saving r (now (output .exit)) ≡ saveOf (now (memory .entry)) origin words (now (output .entry)) ⌝ }
+pub fn save(memory: &[u16], origin: u16, words: usize, output: &mut [u8]) -> Counted
+    ensures { λ r. ⌜ counted r (now (output .exit))
+        ≡ saveOf (now (memory .entry)) origin words (now (output .entry)) ⌝ }
 {
     let refusal = refusals::save_refusal(memory, origin, words, output);
     if refusal != 0 {
-        return Saved { count: 0, refusal };
+        return Counted { count: 0, refusal };
     }
     save_accepted(memory, origin, words, output)
 }
 
-fn save_accepted(memory: &[u16], origin: u16, words: usize, output: &mut [u8]) -> Saved
+fn save_accepted(memory: &[u16], origin: u16, words: usize, output: &mut [u8]) -> Counted
     requires { ⌜ Writable (now memory) origin words (now output) ⌝ }
-    ensures { λ r. ⌜ saving r (now (output .exit))
+    ensures { λ r. ⌜ counted r (now (output .exit))
         ≡ saveAccepted (now (memory .entry)) origin words (now (output .entry)) ⌝ }
 {
     output[0] = words::high(origin);
@@ -60,5 +62,5 @@ fn save_accepted(memory: &[u16], origin: u16, words: usize, output: &mut [u8]) -
     let start = origin as usize;
     let end = start + words;
     words::write_words(&memory[start..end], &mut output[2..count]);
-    Saved { count, refusal: 0 }
+    Counted { count, refusal: 0 }
 }

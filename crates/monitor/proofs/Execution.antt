@@ -25,7 +25,7 @@ use Rattle.run.specs.Run.{Start, End, arriving, nextStepBy, nextStep, withShown
 use Rattle.run.specs.Run.{showsByte, isFullBy, isFull, runOf}
 use Rattle.machine.proofs.InterruptRule.{interrupt-is-taken-by-rule-2, otherwise-the-word-is-obeyed}
 use Rattle.run.proofs.RunLaws.{done-run-goes-on}
-use Rattle.monitor.specs.Install.{writtenOver}
+use Rattle.lent.specs.Lent.{writtenOver}
 use Rattle.monitor.specs.Keys.{arrivedBy}
 use Rattle.monitor.specs.Out.{NotEnabled}
 use Rattle.monitor.proofs.KeyLaws.{arrived, all-arrived, ready-after-both, last-of-both, one-step-more}

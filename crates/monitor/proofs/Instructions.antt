@@ -35,7 +35,7 @@ use Rattle.machine.specs.Step.{performBy, perform, obeyedBy, obeyed, busyAfter}
 use Rattle.machine.proofs.StepLaws.{codesOf-below}
 use Rattle.machine.proofs.Tests.{both-true}
 use Rattle.run.specs.Run.{Start, withShown, showsByte}
-use Rattle.monitor.specs.Install.{writtenOver}
+use Rattle.lent.specs.Lent.{writtenOver}
 use Rattle.monitor.specs.Routines.{routineWords}
 use Rattle.monitor.specs.Calls.{StackApart}
 use Rattle.monitor.proofs.Modes.{plain-word, after-plain-load, always-taken, allowed-in-supervisor-mode}

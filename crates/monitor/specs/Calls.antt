@@ -21,7 +21,7 @@ use Rattle.run.specs.Run.{Start, End}
 use Rattle.run.specs.Refusals.{admissionOf}
 use Rattle.run.specs.Call.{callOf}
 use Rattle.run.specs.Noninterference.{causeAt}
-use Rattle.monitor.specs.Install.{writtenOver}
+use Rattle.lent.specs.Lent.{writtenOver}
 use Rattle.monitor.specs.Uses.{HasWords, withVector}
 use Rattle.monitor.specs.Keys.{arrivedBy}
 use Rattle.monitor.specs.Out.{Uninterrupted, NotEnabled}

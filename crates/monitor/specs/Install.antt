@@ -1,9 +1,8 @@
 -- The calls: the generator's table written to a lent buffer, and the monitor put into lent memory.
 use Prim.Native.Nat.{ℕ}
 use mathlib.Core.Bool.{cond}
-use mathlib.Core.List.{List, _++_}
-use lib.Dec.{ltb, eqb}
-use lib.ListN.{length, drop}
+use mathlib.Core.List.{List}
+use Rattle.lent.specs.Lent.{wrongSize, Written, writtenBy, writtenWhole}
 use Rattle.monitor.specs.declared.Routines.{Routines}
 use Rattle.monitor.specs.Vectors.{vectorTable}
 use Rattle.monitor.specs.Routines.{monitorWords}
@@ -16,14 +15,13 @@ pub record Filling : Type 0 where
 abbrev pub filling : ℕ → List ℕ → Filling
 filling refusal words = record { refusal = refusal; words = words }
 
--- "A lent output .. is written from its start, the rest stays as lent."
-abbrev pub writtenOver : List ℕ → List ℕ → List ℕ
-writtenOver words lent = words ++ drop (length words) lent
+abbrev pub filled : Written → Filling
+filled w = filling (w .refusal) (w .output)
 
 -- 16: the table does not fit the lent buffer, "which is then untouched".
 unfoldable pub vectorsOf : Routines → List ℕ → Filling
-vectorsOf r lent = cond (ltb (length lent) 512) (filling 16 lent) (filling 0 (writtenOver (vectorTable r) lent))
+vectorsOf r lent = filled (writtenWhole (vectorTable r) lent)
 
--- 11: "memory is not 65,536 words".
+-- 11: memory of another size is untouched too.
 unfoldable pub installOf : List ℕ → Filling
-installOf memory = cond (eqb (length memory) 65536) (filling 0 (writtenOver monitorWords memory)) (filling 11 memory)
+installOf memory = filled (writtenBy (cond (wrongSize memory) 11 0) monitorWords memory)

@@ -28,12 +28,10 @@ others-in-place : (m : Machine) → OthersInPlace m
 unfolding flatOf
 others-in-place m = record {
   load = refl;
-  save = refl;
-  save-to-c = refl;
+  bytes = refl;
+  bytes-to-c = refl;
   start = refl;
   start-to-c = refl;
-  line = refl;
-  line-to-c = refl;
   reading-to-c = refl;
   writing-to-c = refl;
 }

@@ -1,5 +1,6 @@
 -- What is left in lent buffers, by computation.
 use mathlib.Core.Path.{refl}
+use Rattle.lent.specs.Lent.{wrongSize, tooShort}
 use Rattle.word.specs.Reading.{readOf}
 use Rattle.word.specs.FixedBits.{fixedOf}
 use Rattle.machine.specs.Rules.{fetchedWordBy}
@@ -8,7 +9,7 @@ use Rattle.logging.specs.Log.{nextRule, entryOf, lacksRoom}
 use Rattle.logging.specs.LoggedRun.{beginLogged, stoppedBy, stepLogged, oneMoreLogged, loggedRunOf}
 use Rattle.logging.specs.LoggedCall.{loggedAdmitted, loggedCallOf}
 use Rattle.object.specs.File.{bytesOf}
-use Rattle.object.specs.Calls.{wrongSize, beyondMemory, tooShort, saveRefusal, saveAccepted, saveBy, saveOf}
+use Rattle.object.specs.Calls.{beyondMemory, saveRefusal, saveAccepted, saveOf}
 use Rattle.start.proofs.Opened.{opened as start-opened}
 use Rattle.monitor.specs.declared.Routines.{Routines}
 use Rattle.monitor.specs.Vectors.{vectorWord, vectorsFrom, vectorTable}
@@ -21,7 +22,7 @@ use Rattle.numbers.specs.Buffers.{LinesAndPages, ObjectFiles, MonitorRef
 use Rattle.numbers.specs.Buffers.{LastStepLogged, BuffersHold}
 
 lines-and-pages : LinesAndPages
-unfolding readOf fixedOf digits decimal lineOf linesOf pageOf
+unfolding readOf fixedOf digits decimal lineOf linesOf wrongSize tooShort pageOf
 lines-and-pages = record {
   fits-and-rest-as-lent = refl;
   fits-exactly = refl;
@@ -37,7 +38,7 @@ lines-and-pages = record {
 }
 
 object-files : ObjectFiles
-unfolding start-opened bytesOf wrongSize beyondMemory tooShort saveRefusal saveAccepted saveBy saveOf
+unfolding start-opened bytesOf wrongSize beyondMemory tooShort saveRefusal saveAccepted saveOf
 object-files = record {
   rest-as-lent = refl;
   save-11 = refl;
@@ -56,11 +57,11 @@ object-files = record {
 }
 
 monitor : (r : Routines) → MonitorRefusals r
-unfolding vectorsOf installOf
+unfolding vectorWord vectorsFrom vectorTable wrongSize tooShort vectorsOf installOf
 monitor r = record { vectors-16 = refl; install-11 = refl }
 
 monitor-in-place : MonitorInPlace
-unfolding vectorWord vectorsFrom vectorTable vectorsOf routineWords monitorWords installOf
+unfolding vectorWord vectorsFrom vectorTable wrongSize tooShort vectorsOf routineWords monitorWords installOf
 monitor-in-place = record { vectors = refl; fits-exactly = refl; sizes = refl; installed = refl; routines = refl }
 
 last-step-logged : LastStepLogged

@@ -5,6 +5,7 @@ use mathlib.Core.Path.{_≡_}
 use mathlib.Core.List.{List, [], _∷_}
 use lib.IntN.{pos}
 use Rattle.word.specs.declared.Instruction.the-variants.{Rti}
+use Rattle.lent.specs.Lent.{counted, hostCounted}
 use Rattle.machine.specs.declared.Machine.{Machine}
 use Rattle.run.specs.declared.Refusal.the-variants.{TimesOutOfOrder}
 use Rattle.run.specs.declared.Report.{Report}
@@ -16,13 +17,11 @@ use Rattle.logging.specs.declared.LoggedEnding.{LoggedEnding}
 use Rattle.logging.specs.declared.LoggedEnding.the-variants.{Run, LogFull}
 use Rattle.logging.specs.LoggedRun.{Logged, withLog}
 use Rattle.logging.specs.LoggedCall.{loggedEndOf}
-use Rattle.object.specs.Calls.{loading, saving}
+use Rattle.object.specs.Calls.{loading}
 use Rattle.start.specs.Start.{starting}
-use Rattle.lines.specs.Answer.{answered as lineAnswered}
 use Rattle.answers.specs.Answer.{Answered, answerOf, reportOf, reported, answered}
 use Rattle.lc3_logging.specs.LoggedAnswer.{LoggedAnswered, loggedAnswerOf, loggedAnswered}
-use Rattle.lc3_objects.specs.Answers.{hostStarting, hostSaving}
-use Rattle.lc3_lines.specs.Counted.{answeredWith}
+use Rattle.lc3_objects.specs.Answers.{hostStarting}
 use Rattle.lc3_words.specs.Flat.{flat, flatReadOf}
 use Rattle.lc3_words.specs.Writing.{hostAnswer}
 
@@ -125,18 +124,13 @@ pub record LoggedRunsInPlace (m : Machine) : Type 0 where
 pub record OthersInPlace (m : Machine) : Type 0 where
   pub load : loading (record { origin = 1; words = 2; refusal = 3 }) (4 ∷ [])
       ≡ record { origin = 1; words = 2; refusal = 3; memory = 4 ∷ [] }
-  pub save : saving (record { count = 1; refusal = 2 }) (3 ∷ [])
-      ≡ record { count = 1; refusal = 2; output = 3 ∷ [] }
-  pub save-to-c : hostSaving (record { count = 1; refusal = 2 }) (3 ∷ [])
+  pub bytes : counted (record { count = 1; refusal = 2 }) (3 ∷ []) ≡ record { count = 1; refusal = 2; output = 3 ∷ [] }
+  pub bytes-to-c : hostCounted (record { count = 1; refusal = 2 }) (3 ∷ [])
       ≡ record { count = 1; refusal = 2; output = 3 ∷ [] }
   pub start : starting (record { machine = m; words = 1; refusal = 2 }) (3 ∷ [])
       ≡ record { machine = m; words = 1; refusal = 2; memory = 3 ∷ [] }
   pub start-to-c : hostStarting (record { machine = m; words = 1; refusal = 2 }) (3 ∷ [])
       ≡ record { machine = m; words = 1; refusal = 2; memory = 3 ∷ [] }
-  pub line : lineAnswered (record { count = 1; refusal = 2 }) (3 ∷ [])
-      ≡ record { count = 1; refusal = 2; output = 3 ∷ [] }
-  pub line-to-c : answeredWith (record { count = 1; refusal = 2 }) (3 ∷ [])
-      ≡ record { count = 1; refusal = 2; output = 3 ∷ [] }
   pub reading-to-c : flatReadOf (record { instruction = Rti; mask = 5 })
       ≡ record { instruction = flat 11 0 0 0 (pos 0); mask = 5 }
   pub writing-to-c : hostAnswer (record { word = 1; refusal = 2 }) ≡ record { word = 1; refusal = 2 }

@@ -5,11 +5,12 @@ use mathlib.Core.Path.{_≡_}
 use mathlib.Core.Bool.{true}
 use mathlib.Core.List.{List, [], _∷_, map}
 use lib.ListN.{length, getD, replicate}
+use Rattle.lent.specs.Lent.{Written, writtenWhole}
 use Rattle.machine.specs.declared.Machine.{Machine}
 use Rattle.run.specs.Call.{startOf}
 use Rattle.logging.specs.LoggedRun.{Logged}
 use Rattle.logging.specs.LoggedCall.{loggedCallOf}
-use Rattle.object.specs.Calls.{Saving, loadOf, saveOf}
+use Rattle.object.specs.Calls.{loadOf, saveOf}
 use Rattle.object.specs.RoundTrip.{fileIn}
 use Rattle.start.specs.Start.{zeroMachine, startedOf, userStartedOf}
 use Rattle.monitor.specs.declared.Routines.{Routines}
@@ -17,14 +18,10 @@ use Rattle.monitor.specs.Vectors.{ours}
 use Rattle.monitor.specs.Install.{filling, vectorsOf, installOf}
 use Rattle.text.specs.Characters.{codesIn}
 use Rattle.line.specs.Line.{lineOf}
-use Rattle.lines.specs.Answer.{Answer, textAnswer}
 use Rattle.lines.specs.Page.{pageOf}
 
-abbrev pub answer : ℕ → ℕ → List ℕ → Answer
+abbrev pub answer : ℕ → ℕ → List ℕ → Written
 answer count refusal output = record { count = count; refusal = refusal; output = output }
-
-abbrev pub saved : ℕ → ℕ → List ℕ → Saving
-saved count refusal output = record { count = count; refusal = refusal; output = output }
 
 -- A memory of RTI.
 abbrev pub returns : List ℕ
@@ -32,10 +29,10 @@ returns = replicate 65536 0x8000
 
 pub record LinesAndPages : Type 0 where
   -- the text from the output's start and the rest as lent; 16 where it does not fit, and the output untouched
-  pub fits-and-rest-as-lent : textAnswer (codesIn "RTI\n") (1 ∷ 2 ∷ 3 ∷ 4 ∷ 5 ∷ [])
+  pub fits-and-rest-as-lent : writtenWhole (codesIn "RTI\n") (1 ∷ 2 ∷ 3 ∷ 4 ∷ 5 ∷ [])
       ≡ answer 4 0 (0x52 ∷ 0x54 ∷ 0x49 ∷ 0x0A ∷ 5 ∷ [])
-  pub fits-exactly : textAnswer (codesIn "RTI\n") (1 ∷ 2 ∷ 3 ∷ 4 ∷ []) ≡ answer 4 0 (0x52 ∷ 0x54 ∷ 0x49 ∷ 0x0A ∷ [])
-  pub does-not-fit : textAnswer (codesIn "RTI\n") (1 ∷ 2 ∷ 3 ∷ []) ≡ answer 0 16 (1 ∷ 2 ∷ 3 ∷ [])
+  pub fits-exactly : writtenWhole (codesIn "RTI\n") (1 ∷ 2 ∷ 3 ∷ 4 ∷ []) ≡ answer 4 0 (0x52 ∷ 0x54 ∷ 0x49 ∷ 0x0A ∷ [])
+  pub does-not-fit : writtenWhole (codesIn "RTI\n") (1 ∷ 2 ∷ 3 ∷ []) ≡ answer 0 16 (1 ∷ 2 ∷ 3 ∷ [])
   -- "Turned away, after 11: 20, first address plus count above 65,536; then 16"
   pub wrong-size-first : pageOf [] 0xFFFF 2 (1 ∷ []) ≡ answer 0 11 (1 ∷ [])
   pub beyond-memory : pageOf returns 0xFFFF 2 (1 ∷ []) ≡ answer 0 20 (1 ∷ [])
@@ -52,11 +49,11 @@ pub record LinesAndPages : Type 0 where
 pub record ObjectFiles : Type 0 where
   -- "written from its start, the rest stays as lent"
   pub rest-as-lent : saveOf (replicate 65536 7) 0x3000 1 (1 ∷ 2 ∷ 3 ∷ 4 ∷ 5 ∷ 6 ∷ [])
-      ≡ saved 4 0 (0x30 ∷ 0x00 ∷ 0x00 ∷ 0x07 ∷ 5 ∷ 6 ∷ [])
+      ≡ answer 4 0 (0x30 ∷ 0x00 ∷ 0x00 ∷ 0x07 ∷ 5 ∷ 6 ∷ [])
   -- "Writing uses 11, then 18 for its range, then 16"
-  pub save-11 : saveOf [] 0xFFFF 2 (1 ∷ []) ≡ saved 0 11 (1 ∷ [])
-  pub save-18 : saveOf (replicate 65536 7) 0xFFFF 2 (1 ∷ []) ≡ saved 0 18 (1 ∷ [])
-  pub save-16 : saveOf (replicate 65536 7) 0xFFFF 1 (1 ∷ 2 ∷ 3 ∷ []) ≡ saved 0 16 (1 ∷ 2 ∷ 3 ∷ [])
+  pub save-11 : saveOf [] 0xFFFF 2 (1 ∷ []) ≡ answer 0 11 (1 ∷ [])
+  pub save-18 : saveOf (replicate 65536 7) 0xFFFF 2 (1 ∷ []) ≡ answer 0 18 (1 ∷ [])
+  pub save-16 : saveOf (replicate 65536 7) 0xFFFF 1 (1 ∷ 2 ∷ 3 ∷ []) ≡ answer 0 16 (1 ∷ 2 ∷ 3 ∷ [])
   pub save-16-long : saveOf (replicate 65536 7) 0 40000 (replicate 60000 1) .refusal ≡ 16
   -- the file that is then in the output
   pub file-in-output : fileIn (saved 2 0 (1 ∷ 2 ∷ 3 ∷ [])) ≡ 1 ∷ 2 ∷ []

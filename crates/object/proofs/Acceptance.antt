@@ -8,9 +8,10 @@ use mathlib.Core.List.{List}
 use lib.Dec.{ltb, eqb}
 use lib.ListN.{length, drop, length-drop, length-take}
 use borrow.Author.Tests.{ltb-false, eqb-true, not-false, le-ltb, eq-eqb}
+use Rattle.lent.specs.Lent.{writtenBy}
 use Rattle.object.specs.File.{fileOf, originIn, wordsIn, range}
 use Rattle.object.specs.Calls.{wrongSize, wrongLength, beyondMemory, tooShort, loadRefusal, loadAccepted, loadBy}
-use Rattle.object.specs.Calls.{loadOf, saveRefusal, saveAccepted, saveBy, saveOf}
+use Rattle.object.specs.Calls.{loadOf, saveRefusal, saveAccepted, saveOf}
 use Rattle.object.specs.Accepted.{Readable, Writable}
 use Rattle.object.proofs.WordLaws.{length-of-words, length-of-bytes}
 
@@ -82,11 +83,9 @@ unfolding loadBy
 load-refusal-answered zero file memory h = refl
 load-refusal-answered (suc n) file memory h = h
 
-save-refusal-answered : (n : ℕ) (memory : List ℕ) (origin count : ℕ) (output : List ℕ)
-    → saveBy n memory origin count output .refusal ≡ 0 → n ≡ 0
-unfolding saveBy
-save-refusal-answered zero memory origin count output h = refl
-save-refusal-answered (suc n) memory origin count output h = h
+save-refusal-answered : (n : ℕ) (words output : List ℕ) → writtenBy n words output .refusal ≡ 0 → n ≡ 0
+save-refusal-answered zero words output h = refl
+save-refusal-answered (suc n) words output h = h
 
 pub loaded-is-readable : (file memory : List ℕ) → loadOf file memory .refusal ≡ 0 → Readable file memory
 unfolding loadOf
@@ -102,9 +101,9 @@ pub saved-is-writable : (memory : List ℕ) (origin count : ℕ) (output : List 
 unfolding saveOf
 saved-is-writable memory origin count output h =
     accepted-is-writable memory origin count output
-    (save-refusal-answered (saveRefusal memory origin count output) memory origin count output h)
+    (save-refusal-answered (saveRefusal memory origin count output) _ output h)
 
 pub writable-is-saved : (memory : List ℕ) (origin count : ℕ) (output : List ℕ)
     → Writable memory origin count output → saveOf memory origin count output ≡ saveAccepted memory origin count output
-unfolding saveOf saveBy
+unfolding saveOf saveAccepted
 writable-is-saved memory origin count output w = rw (writable-is-accepted memory origin count output w)

@@ -6,8 +6,9 @@ use mathlib.Core.Path.{_≡_, refl, ap, _∙_}
 use mathlib.Core.List.{List, [], _∷_, _++_}
 use lib.ListN.{length, take, drop, set, length-append, length-drop}
 use lib.Seq.{take-all, drop-drop}
+use Rattle.lent.specs.Lent.{Written, writtenBy}
 use Rattle.object.specs.File.{bytesOf, wordsOf, fileOf, originIn, wordsIn, range}
-use Rattle.object.specs.Calls.{Loading, Saving, loadAccepted, loadBy, saveAccepted, saveBy}
+use Rattle.object.specs.Calls.{Loading, loadAccepted, loadBy, saveAccepted}
 use Rattle.object.specs.Accepted.{Writable}
 use Rattle.object.proofs.Acceptance.{words-in, file-length}
 
@@ -46,7 +47,7 @@ module _ (memory output part : List ℕ) (origin count : ℕ) (a : Writable memo
         rw (n, m)
 
     pub file-in-place :
-        _≡_ {A = Saving}
+        _≡_ {A = Written}
         (record {
           count = 2 + 2 * count;
           refusal = 0;
@@ -74,7 +75,7 @@ module _ (memory output part : List ℕ) (origin count : ℕ) (a : Writable memo
     same-length-out =
         let l : length (fileOf origin (range origin count memory))
         ≡ 2 + 2 * count = file-length origin count memory (omega (arith, a .size, a .fits)) in
-        ap (λ (s : Saving). length (s .output)) file-in-place
+        ap (λ (s : Written). length (s .output)) file-in-place
         ∙ simp (length-append, length-drop) (omega (arith, a .room))
 
 pub loading-turned-away : (n : ℕ) (file memory : List ℕ) → (n ≡ 0 → ⊥) →
@@ -83,8 +84,7 @@ unfolding loadBy
 loading-turned-away zero file memory h = absurd (h refl)
 loading-turned-away (suc n) file memory h = refl
 
-pub saving-turned-away : (n : ℕ) (memory : List ℕ) (origin count : ℕ) (output : List ℕ) → (n ≡ 0 → ⊥) →
-    _≡_ {A = Saving} (record { count = 0; refusal = n; output = output }) (saveBy n memory origin count output)
-unfolding saveBy
-saving-turned-away zero memory origin count output h = absurd (h refl)
-saving-turned-away (suc n) memory origin count output h = refl
+pub writing-turned-away : (n : ℕ) (words output : List ℕ) → (n ≡ 0 → ⊥) →
+    _≡_ {A = Written} (record { count = 0; refusal = n; output = output }) (writtenBy n words output)
+writing-turned-away zero words output h = absurd (h refl)
+writing-turned-away (suc n) words output h = refl

@@ -6,9 +6,10 @@ use mathlib.Core.Path.{refl, ap}
 use mathlib.Core.List.{[], _∷_}
 use lib.ListN.{length, take-append-drop}
 use borrow.Author.Tests.{eq-eqb, ne-eqb, lt-ltb, le-ltb}
+use Rattle.lent.specs.Lent.{Written}
 use Rattle.object.specs.File.{word, wordsOf, bytesOf, originIn, wordsIn}
 use Rattle.object.specs.Calls.{wrongSize, wrongLength, beyondMemory, tooShort, loadRefusal, saveRefusal, Loading}
-use Rattle.object.specs.Calls.{loadAccepted, loadBy, loadOf, Saving, saveAccepted, saveBy, saveOf}
+use Rattle.object.specs.Calls.{loadAccepted, loadBy, loadOf, saveAccepted, saveOf}
 use Rattle.object.specs.Edges.{FileWithoutWords, RangeWithoutWords, RangeToTheEnd, FileToTheEnd}
 use Rattle.object.specs.Edges.{WrongSizeFirst}
 use Rattle.object.proofs.Acceptance.{words-in, readable-is-loaded, writable-is-saved}
@@ -29,9 +30,9 @@ range-without-words memory origin output size h room =
     rw (writable-is-saved memory origin 0 output (record { size = size; fits = omega arith; room = omega arith }))
 
 pub range-to-the-end : RangeToTheEnd
-unfolding saveAccepted saveOf saveBy saveRefusal wrongSize beyondMemory
+unfolding saveAccepted saveOf saveRefusal wrongSize beyondMemory
 range-to-the-end memory origin count output size room = (
-  λ e. ap (λ (s : Saving). s .refusal)
+  λ e. ap (λ (s : Written). s .refusal)
       (writable-is-saved memory origin count output (record { size = size; fits = omega arith; room = room })),
   λ e. rw (eq-eqb (length memory) 65536 size, lt-ltb 65536 (origin + count) (omega arith)),
 )
@@ -58,7 +59,7 @@ file-to-the-end file memory size even least = (
 )
 
 pub wrong-size-first : WrongSizeFirst
-unfolding loadOf loadBy loadRefusal saveOf saveBy saveRefusal wrongSize
+unfolding loadOf loadBy loadRefusal saveOf saveRefusal wrongSize
 wrong-size-first memory h = (
   λ file. rw (ne-eqb (length memory) 65536 h),
   λ origin count output. rw (ne-eqb (length memory) 65536 h),

@@ -1,11 +1,12 @@
 -- Refused calls touch nothing, and which calls are refused.
 use mathlib.Core.Path.{sym, ap}
-use Rattle.object.specs.Calls.{Loading, Saving, loadRefusal, loadAccepted, loadOf, saveRefusal, saveAccepted}
+use Rattle.lent.specs.Lent.{Written}
+use Rattle.object.specs.Calls.{Loading, loadRefusal, loadAccepted, loadOf, saveRefusal, saveAccepted}
 use Rattle.object.specs.Calls.{saveOf}
 use Rattle.object.specs.RefusedCalls.{RefusedLoadTouchesNothing, RefusedSaveTouchesNothing, AcceptedExactly}
 use Rattle.object.proofs.Acceptance.{loaded-is-readable, readable-is-loaded, saved-is-writable}
 use Rattle.object.proofs.Acceptance.{writable-is-saved}
-use Rattle.object.proofs.CallLaws.{loading-turned-away, saving-turned-away}
+use Rattle.object.proofs.CallLaws.{loading-turned-away, writing-turned-away}
 
 pub refused-load-touches-nothing : RefusedLoadTouchesNothing
 unfolding loadOf
@@ -14,7 +15,7 @@ refused-load-touches-nothing file memory h = sym (loading-turned-away (loadRefus
 pub refused-save-touches-nothing : RefusedSaveTouchesNothing
 unfolding saveOf
 refused-save-touches-nothing memory origin count output h =
-    sym (saving-turned-away (saveRefusal memory origin count output) memory origin count output h)
+    sym (writing-turned-away (saveRefusal memory origin count output) _ output h)
 
 pub accepted-exactly : AcceptedExactly
 unfolding loadAccepted saveAccepted
@@ -22,6 +23,6 @@ accepted-exactly = record {
   readable = loaded-is-readable;
   read = λ file memory r. ap (λ (l : Loading). l .refusal) (readable-is-loaded file memory r);
   writable = saved-is-writable;
-  wrote = λ memory origin count output w. ap (λ (s : Saving). s .refusal)
+  wrote = λ memory origin count output w. ap (λ (s : Written). s .refusal)
       (writable-is-saved memory origin count output w);
 }

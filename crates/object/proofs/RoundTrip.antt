@@ -10,8 +10,9 @@ use lib.ListN.{length, length-drop, length-take}
 use lib.Seq.{take-append-seam}
 use lib.Pow.{areBytes}
 use borrow.Author.Tests.{ltb-true}
+use Rattle.lent.specs.Lent.{written}
 use Rattle.object.specs.File.{word, wordsOf, bytesOf, fileOf, originIn, wordsIn, range, placed}
-use Rattle.object.specs.Calls.{loadAccepted, loadOf, written, saveAccepted}
+use Rattle.object.specs.Calls.{loadAccepted, loadOf, saveAccepted}
 use Rattle.object.specs.Accepted.{Readable, Writable}
 use Rattle.object.specs.RoundTrip.{Reproduced, SavedFileLoads, LoadedFileSaves}
 use Rattle.object.proofs.Acceptance.{words-in, file-length, loaded-is-readable, readable-is-loaded}

@@ -2,16 +2,13 @@
 -- memory and output as lent.
 use Prim.Native.Nat.{ℕ, zero, suc, _+_, _%_}
 use mathlib.Core.Bool.{Bool, cond, _||_, not}
-use mathlib.Core.List.{List, _++_}
+use mathlib.Core.List.{List}
 use lib.Dec.{ltb, eqb}
-use lib.ListN.{length, drop}
+use lib.ListN.{length}
+unfoldable pub use Rattle.lent.specs.Lent.{wrongSize, tooShort}
+use Rattle.lent.specs.Lent.{Written, written, writtenBy}
 use Rattle.object.specs.declared.Loaded.{Loaded}
-use Rattle.object.specs.declared.Saved.{Saved}
 use Rattle.object.specs.File.{fileOf, originIn, wordsIn, range, placed}
-
--- 11: "memory is not 65,536 words".
-unfoldable pub wrongSize : List ℕ → Bool
-wrongSize memory = not (eqb (length memory) 65536)
 
 -- 17: "odd length or fewer than two bytes".
 unfoldable pub wrongLength : List ℕ → Bool
@@ -20,10 +17,6 @@ wrongLength file = not (eqb (length file % 2) 0) || ltb (length file) 2
 -- 18: "origin plus word count above 65,536".
 unfoldable pub beyondMemory : ℕ → ℕ → Bool
 beyondMemory origin count = ltb 65536 (origin + count)
-
--- 16: "an output that is too short".
-unfoldable pub tooShort : List ℕ → List ℕ → Bool
-tooShort output file = ltb (length output) (length file)
 
 -- The number of the first that applies, or 0. "Turned away, for reading after 11 and in this order: 17, ..; 18, .."
 unfoldable pub loadRefusal : List ℕ → List ℕ → ℕ
@@ -62,27 +55,13 @@ unfoldable pub loadOf : List ℕ → List ℕ → Loading
 loadOf file memory = loadBy (loadRefusal file memory) file memory
 
 -- What writing answers, and the output it leaves: the file from its start, and the rest as lent.
-pub record Saving : Type 0 where
-  pub count : ℕ
-  pub refusal : ℕ
-  pub output : List ℕ
-
-abbrev pub written : List ℕ → List ℕ → Saving
-written file output = record { count = length file; refusal = 0; output = file ++ drop (length file) output }
-
-unfoldable pub saveAccepted : List ℕ → ℕ → ℕ → List ℕ → Saving
+unfoldable pub saveAccepted : List ℕ → ℕ → ℕ → List ℕ → Written
 saveAccepted memory origin count output = written (fileOf origin (range origin count memory)) output
 
-unfoldable pub saveBy : ℕ → List ℕ → ℕ → ℕ → List ℕ → Saving
-saveBy zero memory origin count output = saveAccepted memory origin count output
-saveBy (suc n) memory origin count output = record { count = 0; refusal = suc n; output = output }
+unfoldable pub saveOf : List ℕ → ℕ → ℕ → List ℕ → Written
+saveOf memory origin count output =
+    writtenBy (saveRefusal memory origin count output) (fileOf origin (range origin count memory)) output
 
-unfoldable pub saveOf : List ℕ → ℕ → ℕ → List ℕ → Saving
-saveOf memory origin count output = saveBy (saveRefusal memory origin count output) memory origin count output
-
--- What the functions answer and leave, each as one value.
+-- What `load` answers and leaves, as one value.
 abbrev pub loading : Loaded → List ℕ → Loading
 loading r memory = record { origin = r .origin; words = r .words; refusal = r .refusal; memory = memory }
-
-abbrev pub saving : Saved → List ℕ → Saving
-saving r output = record { count = r .count; refusal = r .refusal; output = output }

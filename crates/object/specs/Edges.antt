@@ -4,7 +4,8 @@ use mathlib.Core.Path.{_≡_}
 use mathlib.Core.List.{List, [], _∷_}
 use lib.ListN.{length}
 use Rattle.object.specs.File.{word, originIn, wordsIn}
-use Rattle.object.specs.Calls.{loadOf, written, saveOf}
+use Rattle.lent.specs.Lent.{written}
+use Rattle.object.specs.Calls.{loadOf, saveOf}
 
 -- A file of two bytes has no words: it is accepted, wherever its origin, and memory stays as it is.
 abbrev pub FileWithoutWords : Type 0

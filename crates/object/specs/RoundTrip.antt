@@ -5,11 +5,12 @@ use mathlib.Core.Bool.{true}
 use mathlib.Core.List.{List}
 use lib.ListN.{length, take, drop}
 use lib.Pow.{areBytes}
+use Rattle.lent.specs.Lent.{Written, written}
 use Rattle.object.specs.File.{range}
-use Rattle.object.specs.Calls.{Loading, Saving, loadOf, written, saveOf}
+use Rattle.object.specs.Calls.{Loading, loadOf, saveOf}
 
 -- The file that a call has written.
-abbrev pub fileIn : Saving → List ℕ
+abbrev pub fileIn : Written → List ℕ
 fileIn s = take (s .count) (s .output)
 
 -- The range of one memory is in another, and nothing else of that has changed.

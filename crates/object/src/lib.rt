@@ -7,9 +7,3 @@ pub struct Loaded {
     pub words: u32,
     pub refusal: u8,
 }
-
-// The number of bytes written, with 0; or 0, with the number of the refusal.
-pub struct Saved {
-    pub count: usize,
-    pub refusal: u8,
-}

@@ -1,35 +1,29 @@
--- Two accepted runs with equal inputs but for altered words go side by side, step by step, while no step takes from one
--- of them: by induction on the steps made, for any step that tells nothing of words that it does not read. A step that
--- is not made since the output is full may read what it likes: if the other run makes it, that run takes from the word.
-use Prim.Native.Nat.{ℕ, zero, suc, _+_, _≤_, _<_}
+-- Two accepted runs with equal inputs but for altered words agree while no step takes from one of them: by the law of
+-- two related runs, for any step that tells nothing of words that it does not read. A step that is not made since the
+-- output is full may read what it likes: if the other run makes it, that run takes from the word.
+use Prim.Native.Nat.{ℕ, suc, _+_, _-_, _≤_, _<_}
 use mathlib.Core.Path.{_≡_, refl, sym, ap, subst, _∙_}
-use mathlib.Core.Bool.{Bool, true, false, cond, true≢false, false≢true}
-use mathlib.Core.Logic.{_⊎_, inl, inr}
+use mathlib.Core.Bool.{Bool, false}
 use mathlib.Core.List.{List}
 use native.Mathlib.Omega.{arith}
-use native.Mathlib.Decide.{decLe}
-use lib.ListN.{length}
 use Rattle.machine.specs.declared.Machine.{Machine}
-use Rattle.machine.specs.Edition.{Edition}
 use Rattle.machine.specs.Outcome.{Outcome}
 use Rattle.machine.specs.Step.{Step, stepBy}
-use Rattle.touched.specs.Altered.{SameOutside, stillAltered, NoneAltered, SameButAltered, AlteredWordsUnread}
+use Rattle.machine.specs.Keeping.{Keeping}
+use Rattle.machine.proofs.StepLaws.{step-keeps}
+use Rattle.touched.specs.Altered.{stillAltered, NoneAltered, SameButAltered, AlteredWordsUnread}
 use Rattle.touched.proofs.AlteredWords.{altered-words-unread, none-altered-all-same}
-use Rattle.run.specs.declared.Admission.the-variants.{Accepted}
 use Rattle.run.specs.declared.Ending.{Ending}
-use Rattle.run.specs.declared.Ending.the-variants.{Done, Halted, OutputFull, Refused}
-use Rattle.run.specs.Run.{Start, End, begin, endedBy, arriving, nextStepBy, withShown, stepMadeBy, isHalted}
-use Rattle.run.specs.Run.{showsByte, isFullBy, oneMoreBy, runBy}
-use Rattle.run.specs.Refusals.{admissionOf}
+use Rattle.run.specs.declared.Ending.the-variants.{Done, OutputFull}
+use Rattle.run.specs.Run.{Start, End, begin, endedBy, arriving, nextStepBy, stepMadeBy, isHalted, isFullBy, runBy}
 use Rattle.run.specs.Call.{callBy}
+use Rattle.run.specs.Continuing.{remaining, joined}
 use Rattle.run.specs.AlteredWords.{readsAt, writesAt, alteredAfter, Unread, UnreadUpTo, Variants, SameEnds}
-use Rattle.run.specs.AlteredWords.{VariantRuns, EndAlike, AgreeWhileUnread, AlteredWords}
-use Rattle.run.proofs.RunLaws.{Turn, makes-step, makes-none, full-is-not-done, each-turn}
-use Rattle.run.proofs.RunLaws.{done-run-goes-on, step-leaves-done, step-adds-one, stopped-run-stays}
-use Rattle.run.proofs.RunLaws.{done-makes-all-steps, steps-made-at-most, steps-made-never-fall}
-use Rattle.run.proofs.RunLaws.{steps-made-are-done, done-steps-are-made}
-use Rattle.run.proofs.RunsAlike.{run-fills}
+use Rattle.run.specs.AlteredWords.{VariantRuns, EndAlike, AlteredWords}
+use Rattle.run.proofs.RunLaws.{steps-made-are-done}
 use Rattle.run.proofs.Acceptance.{call-is-run, call-steps-are-run-steps}
+use Rattle.run.proofs.Continuing.{run-continued}
+use Rattle.run.proofs.RelatedRuns.{Related, Together, together, stop-alike}
 
 -- ---- two starts and two ends
 
@@ -74,12 +68,53 @@ same-parts altered e₁ e₂ a m = parts (a .machine) m (a .output) (a .steps) (
         → ending m₁ mem₁ out₁ i₁ j₁ k₁ w₁ ≡ ending m₂ mem₂ out₂ i₂ j₂ k₂ w₂
     parts q₁ q₂ q₃ q₄ q₅ q₆ q₇ = cc
 
+-- A set of altered words may be made larger.
+pub wider-ends : {altered wider : ℕ → Bool} {e₁ e₂ : End} → ((a : ℕ) → wider a ≡ false → altered a ≡ false)
+    → SameEnds altered e₁ e₂ → SameEnds wider e₁ e₂
+wider-ends f a = record {
+  machine = a .machine;
+  memory = record { size = a .memory .size; words = λ b h. a .memory .words b (f b h) };
+  output = a .output;
+  steps = a .steps;
+  keys = a .keys;
+  shown = a .shown;
+  ending = a .ending;
+}
+
+-- What equal records and equal memories but for the altered words lead to: the tests and stops of a run.
+pub halts-alike : {altered : ℕ → Bool} {e₁ e₂ : End} → SameEnds altered e₁ e₂ → isHalted e₁ ≡ isHalted e₂
+unfolding isHalted
+halts-alike a = cc (a .machine)
+
+pub ended-alike : {altered : ℕ → Bool} {e₁ e₂ : End} → SameEnds altered e₁ e₂ → (w : Ending)
+    → SameEnds altered (endedBy w e₁) (endedBy w e₂)
+unfolding endedBy
+ended-alike a w = record {
+  machine = a .machine;
+  memory = a .memory;
+  output = a .output;
+  steps = a .steps;
+  keys = a .keys;
+  shown = a .shown;
+  ending = refl;
+}
+
+pub begin-alike : {altered : ℕ → Bool} {s₁ s₂ : Start} → Variants altered s₁ s₂
+    → SameEnds altered (begin s₁) (begin s₂)
+unfolding begin
+begin-alike v = record {
+  machine = v .machine;
+  memory = v .memory;
+  output = v .output;
+  steps = refl;
+  keys = refl;
+  shown = refl;
+  ending = refl;
+}
+
 -- ---- the two runs
 
 module _ (step : Step) (law : AlteredWordsUnread step) where
-  abbrev run : Start → ℕ → End
-  run = runBy step
-
   abbrev call : Start → ℕ → End
   call = callBy step
 
@@ -92,409 +127,149 @@ module _ (step : Step) (law : AlteredWordsUnread step) where
   abbrev fullAt : Start → End → Bool
   fullAt = isFullBy step
 
-  abbrev moreFrom : Ending → Start → End → End
-  moreFrom = oneMoreBy step
-
   abbrev left : (ℕ → Bool) → Start → ℕ → (ℕ → Bool)
   left = alteredAfter step
 
-  -- ---- one run
-
-  step-in-run : (s : Start) (n k : ℕ) → admissionOf s n ≡ Accepted → k ≤ n → nextOf s (call s k) ≡ nextOf s (run s k)
-  step-in-run s n k e h = ap (nextOf s) (call-is-run step s n k e h)
-
-  pub reads-in-run : (s : Start) (n k : ℕ) → admissionOf s n ≡ Accepted → k ≤ n
-      → readsAt step s k ≡ nextOf s (run s k) .reads
-  unfolding readsAt
-  reads-in-run s n k e h = ap (λ (o : Outcome). o .reads) (step-in-run s n k e h)
-
-  pub writes-in-run : (s : Start) (n k : ℕ) → admissionOf s n ≡ Accepted → k ≤ n
-      → writesAt step s k ≡ nextOf s (run s k) .writes
-  unfolding writesAt
-  writes-in-run s n k e h = ap (λ (o : Outcome). o .writes) (step-in-run s n k e h)
-
-  unread-fewer : (altered : ℕ → Bool) (s : Start) (k i : ℕ) → i ≤ k → Unread step altered s k → Unread step altered s i
-  unread-fewer altered s k i h c = record { unread = λ j l. c .unread j (omega arith) }
-
-  unread-one-more : (altered : ℕ → Bool) (s : Start) (k : ℕ) → Unread step altered s k
-      → NoneAltered (left altered s k) (readsAt step s k) → Unread step altered s (suc k)
-  unread-one-more altered s k c e = record {
-    unread = λ j l. elim (decLe (suc j) k) [
-      | yes h ↦ c .unread j h
-      | no h ↦ (let z : j ≡ k = omega arith in rw z e)
-    ];
-  }
-
   -- ---- one step of both
 
-  module _ (s₁ s₂ : Start) (times : s₁ .times ≡ s₂ .times) (bytes : s₁ .bytes ≡ s₂ .bytes) where
-    arriving-alike : (e₁ e₂ : End) → e₁ .machine ≡ e₂ .machine → e₁ .keys ≡ e₂ .keys → arriving s₁ e₁ ≡ arriving s₂ e₂
-    unfolding arriving
-    arriving-alike e₁ e₂ m k = cc
+  module _ {start end : ℕ → Bool} {s₁ s₂ : Start} (v : Variants start s₁ s₂) {e₁ e₂ : End} (a : SameEnds end e₁ e₂)
+    where
+      arriving-alike : arriving s₁ e₁ ≡ arriving s₂ e₂
+      unfolding arriving
+      arriving-alike = cc (v .times, v .bytes, a .machine, a .keys)
 
-    pub halts-alike : (e₁ e₂ : End) → e₁ .machine ≡ e₂ .machine → isHalted e₁ ≡ isHalted e₂
-    unfolding isHalted
-    halts-alike e₁ e₂ m = cc
-
-    module _ (altered : ℕ → Bool) (e₁ e₂ : End) (a : SameEnds altered e₁ e₂) where
-      pub steps-alike : NoneAltered altered (nextOf s₁ e₁ .reads) → SameButAltered altered (nextOf s₁ e₁) (nextOf s₂ e₂)
+      pub steps-alike : NoneAltered end (nextOf s₁ e₁ .reads) → SameButAltered end (nextOf s₁ e₁) (nextOf s₂ e₂)
       unfolding nextStepBy
       steps-alike n =
-          let o : Outcome = step (arriving s₁ e₁) (e₁ .machine) (e₁ .memory) in
-          let a₁ : SameButAltered altered o (step (arriving s₁ e₁) (e₁ .machine) (e₂ .memory)) =
-          law altered (arriving s₁ e₁) (e₁ .machine) (e₁ .memory) (e₂ .memory) (a .memory) n in
-          subst (λ (keys : List ℕ). SameButAltered altered o (step keys (e₂ .machine) (e₂ .memory)))
-          (arriving-alike e₁ e₂ (a .machine) (a .keys))
-          (subst (λ (m : Machine). SameButAltered altered o (step (arriving s₁ e₁) m (e₂ .memory))) (a .machine) a₁)
+          rw (← arriving-alike, ← a .machine)
+          (law end (arriving s₁ e₁) (e₁ .machine) (e₁ .memory) (e₂ .memory) (a .memory) n)
 
-      pub full-alike : SameButAltered altered (nextOf s₁ e₁) (nextOf s₂ e₂) → fullAt s₁ e₁ ≡ fullAt s₂ e₂
+      pub full-alike : SameButAltered end (nextOf s₁ e₁) (nextOf s₂ e₂) → fullAt s₁ e₁ ≡ fullAt s₂ e₂
       unfolding isFullBy
-      full-alike o =
-          let x : nextOf s₁ e₁ .shown ≡ nextOf s₂ e₂ .shown = o .shown in
-          let y : e₁ .output ≡ e₂ .output = a .output in
-          let z : e₁ .shown ≡ e₂ .shown = a .shown in
-          cc
+      full-alike o = cc (o .shown, a .output, a .shown)
 
-      pub made-alike : SameButAltered altered (nextOf s₁ e₁) (nextOf s₂ e₂)
-          → SameEnds (stillAltered (nextOf s₁ e₁ .writes) altered) (madeFrom s₁ e₁) (madeFrom s₂ e₂)
+      pub made-alike : SameButAltered end (nextOf s₁ e₁) (nextOf s₂ e₂)
+          → SameEnds (stillAltered (nextOf s₁ e₁ .writes) end) (madeFrom s₁ e₁) (madeFrom s₂ e₂)
       unfolding stepMadeBy
-      made-alike o =
-          let x : nextOf s₁ e₁ .shown ≡ nextOf s₂ e₂ .shown = o .shown in
-          let y : e₁ .output ≡ e₂ .output = a .output in
-          let z : e₁ .shown ≡ e₂ .shown = a .shown in
-          let k : e₁ .keys ≡ e₂ .keys = a .keys in
-          let r : arriving s₁ e₁ ≡ arriving s₂ e₂ = arriving-alike e₁ e₂ (a .machine) (a .keys) in
-          record {
-            machine = o .machine;
-            memory = o .memory;
-            output = cc;
-            steps = ap suc (a .steps);
-            keys = cc;
-            shown = cc;
-            ending = refl;
-          }
-
-      pub ended-alike : (w : Ending) → SameEnds altered (endedBy w e₁) (endedBy w e₂)
-      unfolding endedBy
-      ended-alike w = record {
-        machine = a .machine;
-        memory = a .memory;
-        output = a .output;
-        steps = a .steps;
-        keys = a .keys;
-        shown = a .shown;
+      made-alike o = record {
+        machine = o .machine;
+        memory = o .memory;
+        output = cc (o .shown, a .output, a .shown);
+        steps = ap suc (a .steps);
+        keys = cc (a .keys, arriving-alike);
+        shown = cc (o .shown, a .shown);
         ending = refl;
       }
 
-    -- From equal states the runs go on equally.
-    next-equal : (e : End) → nextOf s₁ e ≡ nextOf s₂ e
-    unfolding nextStepBy
-    next-equal e = rw (arriving-alike e e refl refl)
-
-    one-more-equal : (w : Ending) (e : End) → moreFrom w s₁ e ≡ moreFrom w s₂ e
-    unfolding oneMoreBy isFullBy stepMadeBy
-    one-more-equal Done e = rw (next-equal e, arriving-alike e e refl refl)
-    one-more-equal Halted e = refl
-    one-more-equal OutputFull e = refl
-    one-more-equal (Refused r) e = refl
-
-    equal-from : (k i : ℕ) → k ≤ i → run s₁ k ≡ run s₂ k → run s₁ i ≡ run s₂ i
-    unfolding runBy
-    equal-from k zero h q = let z : k ≡ 0 = omega arith in rw z at q
-    equal-from k (suc i) h q =
-        elim (decLe k i) [
-          | yes j ↦ (
-              let r : run s₁ i ≡ run s₂ i = equal-from k i j q in
-              one-more-equal (run s₁ i .ending) (run s₁ i) ∙ ap (λ (e : End). moreFrom (e .ending) s₂ e) r
-              )
-          | no j ↦ (let z : k ≡ suc i = omega arith in rw z at q)
-        ]
-
   -- ---- from the first run to the second
 
-  -- Both have made k steps, and none took an altered word.
-  record Both (altered : ℕ → Bool) (s₁ s₂ : Start) (k : ℕ) : Type 0 where
-    same : SameEnds (left altered s₁ k) (run s₁ k) (run s₂ k)
+  -- How two runs stand where none of k steps took from an altered word.
+  record Both (altered : ℕ → Bool) (s₁ s₂ : Start) (k : ℕ) (e₁ e₂ : End) : Type 0 where
+    same : SameEnds (left altered s₁ k) e₁ e₂
     sets : left altered s₁ k ≡ left altered s₂ k
-    unread₂ : Unread step altered s₂ k
-    words : (j : ℕ) → j < k → (readsAt step s₁ j ≡ readsAt step s₂ j) × (writesAt step s₁ j ≡ writesAt step s₂ j)
+
+  both-swapped : (altered : ℕ → Bool) (s₁ s₂ : Start) (k : ℕ) (e₁ e₂ : End) → Both altered s₁ s₂ k e₁ e₂
+      → Both altered s₂ s₁ k e₂ e₁
+  both-swapped altered s₁ s₂ k e₁ e₂ b = record {
+    same = subst (λ (f : ℕ → Bool). SameEnds f e₂ e₁) (b .sets) (ends-swapped (left altered s₁ k) e₁ e₂ (b .same));
+    sets = sym (b .sets);
+  }
 
   module _ (altered : ℕ → Bool) (s₁ s₂ : Start) (n : ℕ) (p : VariantRuns altered s₁ s₂ n) where
-    same-times : s₁ .times ≡ s₂ .times
-    same-times = p .variants .times
+    abbrev BothAt : ℕ → Type 0
+    BothAt k = Both altered s₁ s₂ k (call s₁ k) (call s₂ k)
 
-    same-bytes : s₁ .bytes ≡ s₂ .bytes
-    same-bytes = p .variants .bytes
+    abbrev Outcomes : ℕ → Type 0
+    Outcomes k = SameButAltered (left altered s₁ k) (nextOf s₁ (call s₁ k)) (nextOf s₂ (call s₂ k))
 
-    both-begin : Both altered s₁ s₂ 0
-    unfolding runBy begin alteredAfter
-    both-begin =
-        let v = p .variants in
-        record {
-          same = record {
-            machine = v .machine;
-            memory = v .memory;
-            output = v .output;
-            steps = refl;
-            keys = refl;
-            shown = refl;
-            ending = refl;
-          };
-          sets = refl;
-          unread₂ = record { unread = λ j l. absurd (omega arith) };
-          words = λ j l. absurd (omega arith);
-        }
+    outcomes : (k : ℕ) → NoneAltered (left altered s₁ k) (readsAt step s₁ k) → BothAt k → Outcomes k
+    unfolding readsAt
+    outcomes k r b = steps-alike (p .variants) (b .same) r
 
-    step-outcomes : (k : ℕ) → k ≤ n → Both altered s₁ s₂ k → NoneAltered (left altered s₁ k) (readsAt step s₁ k)
-        → SameButAltered (left altered s₁ k) (nextOf s₁ (run s₁ k)) (nextOf s₂ (run s₂ k))
-    step-outcomes k h b r =
-        steps-alike s₁ s₂ same-times same-bytes (left altered s₁ k) (run s₁ k) (run s₂ k) (b .same)
-        (rw (reads-in-run s₁ n k (p .accepted₁) h) at r)
+    full-if-unread : (k : ℕ) → NoneAltered (left altered s₁ k) (readsAt step s₁ k) → BothAt k
+        → fullAt s₁ (call s₁ k) ≡ fullAt s₂ (call s₂ k)
+    full-if-unread k r b = full-alike (p .variants) (b .same) (outcomes k r b)
 
-    both-one-more : (k : ℕ) → suc k ≤ n → Both altered s₁ s₂ k → NoneAltered (left altered s₁ k) (readsAt step s₁ k)
-        → run s₁ (suc k) ≡ madeFrom s₁ (run s₁ k) → run s₂ (suc k) ≡ madeFrom s₂ (run s₂ k) → Both altered s₁ s₂ (suc k)
+    both-one-more : (k : ℕ) → BothAt k → Outcomes k
+        → Both altered s₁ s₂ (suc k) (madeFrom s₁ (call s₁ k)) (madeFrom s₂ (call s₂ k))
+    unfolding alteredAfter writesAt
+    both-one-more k b o =
+        record { same = made-alike (p .variants) (b .same) o; sets = cc (o .writes, b .sets) }
+
+    related : Related step step s₁ s₂ n (Unread step altered s₁) (Both altered s₁ s₂)
     unfolding alteredAfter
-    both-one-more k h b r e₁ e₂ =
-        let o = step-outcomes k (omega arith) b r in
-        let w₁ : writesAt step s₁ k ≡ nextOf s₁ (run s₁ k) .writes =
-        writes-in-run s₁ n k (p .accepted₁) (omega arith) in
-        let w₂ : writesAt step s₂ k ≡ nextOf s₂ (run s₂ k) .writes =
-        writes-in-run s₂ n k (p .accepted₂) (omega arith) in
-        let w : writesAt step s₁ k ≡ writesAt step s₂ k = w₁ ∙ (o .writes ∙ sym w₂) in
-        let r₁ : readsAt step s₁ k ≡ nextOf s₁ (run s₁ k) .reads = reads-in-run s₁ n k (p .accepted₁) (omega arith) in
-        let r₂ : readsAt step s₂ k ≡ nextOf s₂ (run s₂ k) .reads = reads-in-run s₂ n k (p .accepted₂) (omega arith) in
-        let q : readsAt step s₁ k ≡ readsAt step s₂ k = r₁ ∙ (o .reads ∙ sym r₂) in
-        let c : left altered s₁ k ≡ left altered s₂ k = b .sets in
-        record {
-          same = rw (e₁, e₂, w₁)
-              (made-alike s₁ s₂ same-times same-bytes (left altered s₁ k) (run s₁ k) (run s₂ k) (b .same) o);
-          sets = rw (w, c);
-          unread₂ = unread-one-more altered s₂ k (b .unread₂)
-              (subst (λ (l : List ℕ). NoneAltered (left altered s₂ k) l) q
-              (subst (λ (f : ℕ → Bool). NoneAltered f (readsAt step s₁ k)) c r));
-          words = λ j l. elim (decLe (suc j) k) [
-            | yes h ↦ b .words j h
-            | no h ↦ (let z : j ≡ k = omega arith in rw z (q, w))
-          ];
-        }
+    related = record {
+      accepted₁ = p .accepted₁;
+      accepted₂ = p .accepted₂;
+      begins = record { same = begin-alike (p .variants); sets = refl };
+      fewer = λ k c. record { unread = λ j l. c .unread j (omega arith) };
+      halted = λ k b. halts-alike (b .same);
+      full = λ k c b. full-if-unread k (c .unread k (omega arith)) b;
+      keeps = λ k c m b. both-one-more k b (outcomes k (c .unread k (omega arith)) b);
+      ends = λ k w b. record { same = ended-alike (b .same) w; sets = b .sets };
+    }
 
-    both : (k : ℕ) → k ≤ run s₁ n .steps → Unread step altered s₁ k → Both altered s₁ s₂ k
-    both zero h c = both-begin
-    both (suc k) h c =
-        go (both k (omega arith) (unread-fewer altered s₁ (suc k) k (omega arith) c)) (each-turn step s₁ k)
-      where
-        go : Both altered s₁ s₂ k → Turn step s₁ (run s₁ k) (run s₁ (suc k)) → Both altered s₁ s₂ (suc k)
-        go b (makes-none x e) = absurd (x (steps-made-are-done step s₁ n (suc k) h))
-        go b (makes-step d hh f e) =
-            let bound : run s₁ n .steps ≤ n = steps-made-at-most step s₁ n in
-            let r = c .unread k (omega arith) in
-            let o = step-outcomes k (omega arith) b r in
-            let hh₂ : isHalted (run s₂ k) ≡ false =
-            sym (halts-alike s₁ s₂ same-times same-bytes (run s₁ k) (run s₂ k) (b .same .machine)) ∙ hh in
-            let f₂ : fullAt s₂ (run s₂ k) ≡ false =
-            sym (full-alike s₁ s₂ same-times same-bytes (left altered s₁ k) (run s₁ k) (run s₂ k) (b .same) o) ∙ f in
-            both-one-more k (omega arith) b r e (done-run-goes-on step s₂ k (sym (b .same .ending) ∙ d) hh₂ f₂)
+    both : (k : ℕ) → UnreadUpTo step altered s₁ n k → Together step step s₁ s₂ n (Both altered s₁ s₂) k
+    both k c = together step step s₁ s₂ n related k (c .made) (c .none-takes)
 
-    -- ---- to the end
-
-    -- Both ends are alike, by the words that are altered still after the steps made.
-    abbrev Alike : End → End → Type 0
-    Alike e₁ e₂ = SameEnds (left altered s₁ (e₁ .steps)) e₁ e₂
-
-    -- What the test for a full output answers in a run that may go on: both are full, or neither, and then both make
-    -- the step.
-    abbrev Going : End → End → Type 0
-    Going e₁ e₂ = ((fullAt s₁ e₁ ≡ true) × (fullAt s₂ e₂ ≡ true))
-        ⊎ ((fullAt s₁ e₁ ≡ false) × (fullAt s₂ e₂ ≡ false) × Alike (madeFrom s₁ e₁) (madeFrom s₂ e₂))
-
-    one-more-alike : (e₁ e₂ : End) (w : Ending) → Alike e₁ e₂ → (w ≡ Done → isHalted e₁ ≡ false → Going e₁ e₂)
-        → Alike (moreFrom w s₁ e₁) (moreFrom w s₂ e₂)
-    unfolding oneMoreBy
-    one-more-alike e₁ e₂ Done a t =
-        go (isHalted e₁) (isHalted e₂) refl (halts-alike s₁ s₂ same-times same-bytes e₁ e₂ (a .machine)) (t refl)
-      where
-        by : (w : Ending) → Alike (endedBy w e₁) (endedBy w e₂)
-        by w = unfold endedBy in
-            ended-alike s₁ s₂ same-times same-bytes (left altered s₁ (e₁ .steps)) e₁ e₂ a w
-
-        further : Going e₁ e₂
-            → Alike (cond (fullAt s₁ e₁) (endedBy OutputFull e₁) (madeFrom s₁ e₁))
-            (cond (fullAt s₂ e₂) (endedBy OutputFull e₂) (madeFrom s₂ e₂))
-        further (inl (f₁, f₂)) = rw (f₁, f₂) (by OutputFull)
-        further (inr (f₁, f₂, m)) = rw (f₁, f₂) m
-
-        go : (h₁ h₂ : Bool) → isHalted e₁ ≡ h₁ → h₁ ≡ h₂ → (h₁ ≡ false → Going e₁ e₂)
-            → Alike (cond h₁ (endedBy Halted e₁) (cond (fullAt s₁ e₁) (endedBy OutputFull e₁) (madeFrom s₁ e₁)))
-            (cond h₂ (endedBy Halted e₂) (cond (fullAt s₂ e₂) (endedBy OutputFull e₂) (madeFrom s₂ e₂)))
-        go true true q e g = by Halted
-        go true false q e g = absurd (true≢false e)
-        go false true q e g = absurd (false≢true e)
-        go false false q e g = further (g refl)
-    one-more-alike e₁ e₂ Halted a t = a
-    one-more-alike e₁ e₂ OutputFull a t = a
-    one-more-alike e₁ e₂ (Refused r) a t = a
-
-    module _ (i : ℕ) (bound : suc i ≤ n) (d : run s₁ i .ending ≡ Done) (hh : isHalted (run s₁ i) ≡ false)
-        (b : Both altered s₁ s₂ i)
-      where
-        -- The first run makes step number i: then so does the second.
-        first-goes : fullAt s₁ (run s₁ i) ≡ false → Unread step altered s₁ (run s₁ (suc i) .steps)
-            → Going (run s₁ i) (run s₂ i)
-        unfolding stepMadeBy
-        first-goes f u =
-            let z : run s₁ i .steps ≡ i = done-makes-all-steps step s₁ i d in
-            let e₁ : run s₁ (suc i) ≡ madeFrom s₁ (run s₁ i) = done-run-goes-on step s₁ i d hh f in
-            let q : run s₁ (suc i) .steps ≡ suc (run s₁ i .steps) = step-adds-one step s₁ i e₁ in
-            let r = u .unread i (omega arith) in
-            let o = step-outcomes i (omega arith) b r in
-            let hh₂ : isHalted (run s₂ i) ≡ false =
-            sym (halts-alike s₁ s₂ same-times same-bytes (run s₁ i) (run s₂ i) (b .same .machine)) ∙ hh in
-            let f₂ : fullAt s₂ (run s₂ i) ≡ false =
-            sym (full-alike s₁ s₂ same-times same-bytes (left altered s₁ i) (run s₁ i) (run s₂ i) (b .same) o) ∙ f in
-            let e₂ : run s₂ (suc i) ≡ madeFrom s₂ (run s₂ i) =
-            done-run-goes-on step s₂ i (sym (b .same .ending) ∙ d) hh₂ f₂ in
-            let both-after : Both altered s₁ s₂ (suc i) = both-one-more i bound b r e₁ e₂ in
-            let after : SameEnds (left altered s₁ (suc i)) (madeFrom s₁ (run s₁ i)) (madeFrom s₂ (run s₂ i)) =
-            rw (e₁, e₂) at (both-after .same) in
-            inr (
-              f,
-              f₂,
-              subst
-                  (λ (k : ℕ). SameEnds (left altered s₁ (suc k)) (madeFrom s₁ (run s₁ i)) (madeFrom s₂ (run s₂ i)))
-                  (sym z) after,
-            )
-
-        -- The second run makes it: then the first was not full.
-        second-goes : Unread step altered s₂ (run s₂ n .steps) → fullAt s₂ (run s₂ i) ≡ false
-            → fullAt s₁ (run s₁ i) ≡ false
-        second-goes u f =
-            let d₂ : run s₂ i .ending ≡ Done = sym (b .same .ending) ∙ d in
-            let hh₂ : isHalted (run s₂ i) ≡ false =
-            sym (halts-alike s₁ s₂ same-times same-bytes (run s₁ i) (run s₂ i) (b .same .machine)) ∙ hh in
-            let e₂ : run s₂ (suc i) ≡ madeFrom s₂ (run s₂ i) = done-run-goes-on step s₂ i d₂ hh₂ f in
-            let l : suc i ≤ run s₂ n .steps =
-            done-steps-are-made step s₂ n (suc i) bound (step-leaves-done step s₂ i e₂) in
-            let r : NoneAltered (left altered s₂ i) (readsAt step s₂ i) = u .unread i (omega arith) in
-            let c : left altered s₂ i ≡ left altered s₁ i = sym (b .sets) in
-            let r₁ : NoneAltered (left altered s₁ i) (readsAt step s₂ i) =
-            subst (λ (g : ℕ → Bool). NoneAltered g (readsAt step s₂ i)) c r in
-            let r₂ : NoneAltered (left altered s₁ i) (nextOf s₂ (run s₂ i) .reads) =
-            subst (NoneAltered (left altered s₁ i)) (reads-in-run s₂ n i (p .accepted₂) (omega arith)) r₁ in
-            let a : SameEnds (left altered s₁ i) (run s₂ i) (run s₁ i) =
-            ends-swapped (left altered s₁ i) (run s₁ i) (run s₂ i) (b .same) in
-            let o =
-            steps-alike s₂ s₁ (sym same-times) (sym same-bytes) (left altered s₁ i) (run s₂ i) (run s₁ i) a r₂ in
-            sym (full-alike s₂ s₁ (sym same-times) (sym same-bytes) (left altered s₁ i) (run s₂ i) (run s₁ i) a o) ∙ f
-
-        -- The step that a full output stops the first run before takes no altered word: then the second is full too.
-        first-stopped : (run s₁ n .ending ≡ OutputFull
-            → NoneAltered (left altered s₁ (run s₁ n .steps)) (readsAt step s₁ (run s₁ n .steps)))
-            → fullAt s₂ (run s₂ i) ≡ false → fullAt s₁ (run s₁ i) ≡ false
-        unfolding endedBy
-        first-stopped u f = go (fullAt s₁ (run s₁ i)) refl
-          where
-            go : (b₁ : Bool) → fullAt s₁ (run s₁ i) ≡ b₁ → fullAt s₁ (run s₁ i) ≡ false
-            go false x = x
-            go true x =
-                let e : run s₁ (suc i) ≡ endedBy OutputFull (run s₁ i) = run-fills step s₁ i d hh x in
-                let w : run s₁ (suc i) .ending ≡ OutputFull = ap (λ (a : End). a .ending) e in
-                let y : run s₁ n ≡ run s₁ (suc i) =
-                stopped-run-stays step s₁ n (suc i) bound (full-is-not-done (run s₁ (suc i) .ending) w) in
-                let k : run s₁ n .steps ≡ i = ap (λ (a : End). a .steps) (y ∙ e) ∙ done-makes-all-steps step s₁ i d in
-                let r : NoneAltered (left altered s₁ i) (readsAt step s₁ i) =
-                subst (λ (j : ℕ). NoneAltered (left altered s₁ j) (readsAt step s₁ j)) k
-                (u (ap (λ (a : End). a .ending) y ∙ w)) in
-                full-alike s₁ s₂ same-times same-bytes (left altered s₁ i) (run s₁ i) (run s₂ i) (b .same)
-                (step-outcomes i (omega arith) b r)
-                ∙ f
-
-        goes-alike : Unread step altered s₁ (run s₁ (suc i) .steps)
-            → (fullAt s₂ (run s₂ i) ≡ false → fullAt s₁ (run s₁ i) ≡ false)
-            → Going (run s₁ i) (run s₂ i)
-        goes-alike u second = go (fullAt s₁ (run s₁ i)) (fullAt s₂ (run s₂ i)) refl refl
-          where
-            go : (f₁ f₂ : Bool) → fullAt s₁ (run s₁ i) ≡ f₁ → fullAt s₂ (run s₂ i) ≡ f₂ → Going (run s₁ i) (run s₂ i)
-            go true true x y = inl (x, y)
-            go true false x y = first-goes (second y) u
-            go false f₂ x y = first-goes x u
-
-    -- Where the second run makes a step, the first does.
-    abbrev SecondFollows : Type 0
-    SecondFollows = (i : ℕ) → suc i ≤ n → run s₁ i .ending ≡ Done → isHalted (run s₁ i) ≡ false → Both altered s₁ s₂ i
-        → fullAt s₂ (run s₂ i) ≡ false → fullAt s₁ (run s₁ i) ≡ false
-
-    ends-alike : SecondFollows → (i : ℕ) → i ≤ n → Unread step altered s₁ (run s₁ i .steps)
-        → Alike (run s₁ i) (run s₂ i)
-    unfolding runBy
-    ends-alike second zero l u = unfold begin in both-begin .same
-    ends-alike second (suc i) l u =
-        let v : Unread step altered s₁ (run s₁ i .steps) =
-        unread-fewer altered s₁ _ _ (steps-made-never-fall step s₁ i) u in
-        let a : Alike (run s₁ i) (run s₂ i) = ends-alike second i (omega arith) v in
-        subst (λ (w : Ending). Alike (moreFrom (run s₁ i .ending) s₁ (run s₁ i)) (moreFrom w s₂ (run s₂ i))) (a .ending)
-        (one-more-alike (run s₁ i) (run s₂ i) (run s₁ i .ending) a
-        (λ d hh.
-        let b : Both altered s₁ s₂ i =
-        both i (done-steps-are-made step s₁ n i (omega arith) d) (rw (done-makes-all-steps step s₁ i d) at v) in
-        goes-alike i l d hh b u (second i l d hh b)))
-
-    -- ---- the same of the calls
-
-    both-calls : (k : ℕ) → UnreadUpTo step altered s₁ n k → (k ≤ n) × Both altered s₁ s₂ k
-    both-calls k c =
-        let z : call s₁ n .steps ≡ run s₁ n .steps = call-steps-are-run-steps step s₁ n (p .accepted₁) in
-        let made : k ≤ call s₁ n .steps = c .made in
-        (omega (arith, steps-made-at-most step s₁ n), both k (omega arith) (c .none-takes))
+    both-before : (k : ℕ) → UnreadUpTo step altered s₁ n k → (j : ℕ) → j < k → BothAt j × Outcomes j
+    both-before k c j l =
+        let b : BothAt j = both j (record {
+          made = omega (arith, l, c .made);
+          none-takes = record { unread = λ i m. c .none-takes .unread i (omega arith) };
+        }) .related in
+        (b, outcomes j (c .none-takes .unread j l) b)
 
     second-reaches-it : (k : ℕ) → UnreadUpTo step altered s₁ n k → UnreadUpTo step altered s₂ n k
-    second-reaches-it k c =
-        let b : (k ≤ n) × Both altered s₁ s₂ k = both-calls k c in
-        let z₁ : call s₁ n .steps ≡ run s₁ n .steps = call-steps-are-run-steps step s₁ n (p .accepted₁) in
-        let z₂ : call s₂ n .steps ≡ run s₂ n .steps = call-steps-are-run-steps step s₂ n (p .accepted₂) in
-        let d : run s₁ k .ending ≡ Done = steps-made-are-done step s₁ n k (omega (arith, c .made)) in
-        let l : k ≤ run s₂ n .steps = done-steps-are-made step s₂ n k (b .0) (sym (b .1 .same .ending) ∙ d) in
-        record { made = omega arith; none-takes = b .1 .unread₂ }
+    unfolding readsAt
+    second-reaches-it k c = record {
+      made = both k c .reached;
+      none-takes = record {
+        unread = λ j l.
+            let b = both-before k c j l in
+            rw (← b .0 .sets, ← b .1 .reads) (c .none-takes .unread j l);
+      };
+    }
 
-    calls-alike : (k : ℕ) → UnreadUpTo step altered s₁ n k → SameEnds (left altered s₁ k) (call s₁ k) (call s₂ k)
-    calls-alike k c =
-        let b : (k ≤ n) × Both altered s₁ s₂ k = both-calls k c in
-        rw (call-is-run step s₁ n k (p .accepted₁) (b .0), call-is-run step s₂ n k (p .accepted₂) (b .0)) (b .1 .same)
+    same-words : (k : ℕ) → UnreadUpTo step altered s₁ n k → (j : ℕ) → j < k
+        → (readsAt step s₁ j ≡ readsAt step s₂ j) × (writesAt step s₁ j ≡ writesAt step s₂ j)
+    unfolding readsAt writesAt
+    same-words k c j l = let o = both-before k c j l .1 in (o .reads, o .writes)
 
-    calls-end-alike-by : SecondFollows → Unread step altered s₁ (call s₁ n .steps)
-        → SameEnds (left altered s₁ (call s₁ n .steps)) (call s₁ n) (call s₂ n)
-    calls-end-alike-by second u =
-        rw (call-is-run step s₁ n n (p .accepted₁) (omega arith), call-is-run step s₂ n n (p .accepted₂) (omega arith))
-        (ends-alike second n (omega arith) (rw (call-steps-are-run-steps step s₁ n (p .accepted₁)) at u))
+    -- To the end, where the test for a full output that stops the first run answers alike in the second.
+    end-alike : Unread step altered s₁ (call s₁ n .steps)
+        → (call s₁ n .ending ≡ OutputFull → call s₁ n .steps < call s₂ n .steps → BothAt (call s₁ n .steps)
+        → fullAt s₁ (call s₁ (call s₁ n .steps)) ≡ fullAt s₂ (call s₂ (call s₁ n .steps)))
+        → EndAlike step altered s₁ s₂ n
+    end-alike u q =
+        let b = both (call s₁ n .steps) (record { made = omega arith; none-takes = u }) .related in
+        stop-alike step step s₁ s₂ n related u (λ w l. q w l b) .related .same
 
-    calls-end-alike : Unread step altered s₁ (call s₁ n .steps) → Unread step altered s₂ (call s₂ n .steps)
-        → SameEnds (left altered s₁ (call s₁ n .steps)) (call s₁ n) (call s₂ n)
-    calls-end-alike u₁ u₂ =
-        calls-end-alike-by
-        (λ i l d hh b. second-goes i l d hh b (rw (call-steps-are-run-steps step s₂ n (p .accepted₂)) at u₂)) u₁
+    -- Once no word is altered, both stand alike and go on with the same keys.
+    equal-once-replaced : Keeping step → (k : ℕ) → UnreadUpTo step altered s₁ n k
+        → ((a : ℕ) → left altered s₁ k a ≡ false) → (i : ℕ) → k ≤ i → i ≤ n → call s₁ i ≡ call s₂ i
+    equal-once-replaced keeping k c none i h l =
+        rw (call-is-run step s₁ n i (p .accepted₁) l, call-is-run step s₂ n i (p .accepted₂) l, z)
+        (run-continued keeping s₁ k (i - k) d
+        ∙ (ap (λ (e : End). joined e (runBy step (remaining s₁ e) (i - k))) q
+        ∙ (rw (p .variants .times, p .variants .bytes) (sym (run-continued keeping s₂ k (i - k) (rw q at d))))))
+      where
+        a : SameEnds (left altered s₁ k) (call s₁ k) (call s₂ k)
+        a = both k c .related .same
 
-    calls-end-alike-by-first : Unread step altered s₁ (call s₁ n .steps)
-        → (call s₁ n .ending ≡ OutputFull
-        → NoneAltered (left altered s₁ (call s₁ n .steps)) (readsAt step s₁ (call s₁ n .steps)))
-        → SameEnds (left altered s₁ (call s₁ n .steps)) (call s₁ n) (call s₂ n)
-    calls-end-alike-by-first u stopped =
-        calls-end-alike-by
-        (λ i l d hh b. first-stopped i l d hh b
-        (subst
-        (λ (e : End). e .ending ≡ OutputFull
-        → NoneAltered (left altered s₁ (e .steps)) (readsAt step s₁ (e .steps)))
-        (call-is-run step s₁ n n (p .accepted₁) (omega arith)) stopped))
-        u
+        m : call s₁ k .memory ≡ call s₂ k .memory
+        m = none-altered-all-same (left altered s₁ k) _ _ none (a .memory)
 
-    calls-equal-once-replaced : (k : ℕ) → UnreadUpTo step altered s₁ n k → ((a : ℕ) → left altered s₁ k a ≡ false)
-        → (i : ℕ) → k ≤ i → i ≤ n → call s₁ i ≡ call s₂ i
-    calls-equal-once-replaced k c none i h l =
-        let b : (k ≤ n) × Both altered s₁ s₂ k = both-calls k c in
-        let a : SameEnds (left altered s₁ k) (run s₁ k) (run s₂ k) = b .1 .same in
-        let m : run s₁ k .memory ≡ run s₂ k .memory =
-        none-altered-all-same (left altered s₁ k) (run s₁ k .memory) (run s₂ k .memory) none (a .memory) in
-        let q : run s₁ k ≡ run s₂ k = same-parts (left altered s₁ k) (run s₁ k) (run s₂ k) a m in
-        rw (call-is-run step s₁ n i (p .accepted₁) l, call-is-run step s₂ n i (p .accepted₂) l)
-        (equal-from s₁ s₂ same-times same-bytes k i h q)
+        q : runBy step s₁ k ≡ runBy step s₂ k
+        q = sym (call-is-run step s₁ n k (p .accepted₁) (omega arith))
+            ∙ (same-parts (left altered s₁ k) (call s₁ k) (call s₂ k) a m
+            ∙ call-is-run step s₂ n k (p .accepted₂) (omega arith))
+
+        z : i ≡ k + (i - k)
+        z = omega arith
+
+        d : runBy step s₁ k .ending ≡ Done
+        d = steps-made-are-done step s₁ n k (omega (arith, c .made, call-steps-are-run-steps step s₁ n (p .accepted₁)))
 
 -- ---- for any set of words
 
@@ -504,11 +279,15 @@ altered-words edition altered s₁ s₂ n p =
     let law : AlteredWordsUnread (stepBy edition) = altered-words-unread edition in
     let q : VariantRuns altered s₂ s₁ n = swapped altered s₁ s₂ n p in
     record {
-      reached-by-second = λ k c. second-reaches-it step law altered s₁ s₂ n p k c;
-      reached-by-first = λ k c. second-reaches-it step law altered s₂ s₁ n q k c;
-      same = λ k c. calls-alike step law altered s₁ s₂ n p k c;
-      same-words = λ k c. both-calls step law altered s₁ s₂ n p k c .1 .words;
-      same-to-the-end = λ u₁ u₂. calls-end-alike step law altered s₁ s₂ n p u₁ u₂;
-      same-by-first = λ u stopped. calls-end-alike-by-first step law altered s₁ s₂ n p u stopped;
-      equal-once-replaced = λ k c none i h l. calls-equal-once-replaced step law altered s₁ s₂ n p k c none i h l;
+      reached-by-second = second-reaches-it step law altered s₁ s₂ n p;
+      reached-by-first = second-reaches-it step law altered s₂ s₁ n q;
+      same = λ k c. both step law altered s₁ s₂ n p k c .related .same;
+      same-words = same-words step law altered s₁ s₂ n p;
+      same-to-the-end = λ u₁ u₂.
+          end-alike step law altered s₁ s₂ n p u₁
+          (λ w l b. sym (full-if-unread step law altered s₂ s₁ n q _ (u₂ .unread _ l)
+          (both-swapped step law altered s₁ s₂ _ _ _ b)));
+      same-by-first = λ u stopped.
+          end-alike step law altered s₁ s₂ n p u (λ w l b. full-if-unread step law altered s₁ s₂ n p _ (stopped w) b);
+      equal-once-replaced = equal-once-replaced step law altered s₁ s₂ n p (step-keeps edition);
     }

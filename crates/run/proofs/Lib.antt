@@ -10,8 +10,8 @@ pub mod KeyLists
 pub mod Continuing
 pub mod Bounds
 pub mod CallExamples
+pub mod RelatedRuns
 pub mod Noninterference
-pub mod RunsAlike
 pub mod SecondEdition
 pub mod AlteredWords
 pub mod OneAlteredWord

@@ -4,9 +4,8 @@ use mathlib.Core.Path.{_≡_, refl, sym, ap, _∙_}
 use mathlib.Core.Bool.{Bool, true, false, _&&_, not}
 use mathlib.Core.List.{List, [], _∷_}
 use native.Mathlib.Omega.{arith}
-use native.Mathlib.Decide.{decLe}
 use lib.Dec.{eqb}
-use lib.ListN.{length, getD, set, length-set}
+use lib.ListN.{length-set}
 use lib.Seq.{getD-set-other}
 use borrow.Author.Tests.{eqb-true, eqb-false, ne-eqb}
 use Rattle.machine.specs.Step.{Step, stepBy}
@@ -19,10 +18,10 @@ use Rattle.run.specs.Refusals.{admissionOf}
 use Rattle.run.specs.Call.{callBy}
 use Rattle.run.specs.AlteredWords.{readsAt, writesAt, alteredAfter, Unread, UnreadUpTo, Variants, SameEnds}
 use Rattle.run.specs.AlteredWords.{VariantRuns, AgreeWhileUnread}
-use Rattle.run.specs.OneAlteredWord.{withWord, only, takes, replaces, NotTaken, NotTakenUpTo, Reach}
+use Rattle.run.specs.OneAlteredWord.{withWord, only, takes, replaces, NotTaken, NotTakenUpTo}
 use Rattle.run.specs.OneAlteredWord.{OneAlteredWord}
 use Rattle.run.proofs.Acceptance.{Acceptable, accepted-is-acceptable, acceptable-is-accepted}
-use Rattle.run.proofs.AlteredWords.{variants-swapped, altered-words}
+use Rattle.run.proofs.AlteredWords.{variants-swapped, wider-ends, altered-words}
 
 -- ---- the two starts
 
@@ -61,17 +60,6 @@ and-not-of-false b c e = rw e refl
 and-not-of-true : (b c : Bool) → c ≡ true → (b && not c) ≡ false
 and-not-of-true true c e = rw e refl
 and-not-of-true false c e = refl
-
-ends-by : (f g : ℕ → Bool) (e₁ e₂ : End) → ((a : ℕ) → g a ≡ false → f a ≡ false) → SameEnds f e₁ e₂ → SameEnds g e₁ e₂
-ends-by f g e₁ e₂ h a = record {
-  machine = a .machine;
-  memory = record { size = a .memory .size; words = λ b q. a .memory .words b (h b q) };
-  output = a .output;
-  steps = a .steps;
-  keys = a .keys;
-  shown = a .shown;
-  ending = a .ending;
-}
 
 module _ (step : Step) where
   abbrev call : Start → ℕ → End
@@ -125,7 +113,7 @@ module _ (step : Step) where
     -- Alike but for the words that are altered still: so alike but for the one word.
     but-for-the-word : (k : ℕ) (e₁ e₂ : End) → SameEnds (alteredAfter step (only w) s₁ k) e₁ e₂
         → SameEnds (only w) e₁ e₂
-    but-for-the-word k e₁ e₂ = ends-by (alteredAfter step (only w) s₁ k) (only w) e₁ e₂ (unaltered-stays (only w) s₁ k)
+    but-for-the-word k e₁ e₂ = wider-ends (unaltered-stays (only w) s₁ k)
 
     same-while-not-taken : (k : ℕ) → NotTakenUpTo step w s₁ n k → SameEnds (only w) (call s₁ k) (call s₂ k)
     same-while-not-taken k c = but-for-the-word k (call s₁ k) (call s₂ k) (g .same k (unread-up-to k c))

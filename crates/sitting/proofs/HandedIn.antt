@@ -236,7 +236,7 @@ marking-files-loaded memory (file ∷ files) there =
     (marking-files-loaded (startedOf file memory false 0 .memory) files (there .1))
 
 installed-length : (memory : List ℕ) → length memory ≡ 65536 → length (installOf memory .words) ≡ 65536
-unfolding installOf
+unfolding installOf wrongSize
 installed-length memory h =
     rw (eq-eqb (length memory) 65536 h)
     (simp (length-append, length-drop) (omega (arith, monitor-length)))

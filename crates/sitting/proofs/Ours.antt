@@ -16,7 +16,8 @@ use Rattle.machine.specs.Devices.{isDeviceBy}
 use Rattle.monitor.specs.Vectors.{vectorWord, vectorsFrom, vectorTable}
 use Rattle.monitor.specs.Routines.{routineWords, monitorWords}
 use Rattle.monitor.proofs.Intact.{monitor-length, monitor-word}
-use Rattle.logging.specs.LoggedRun.{Logged, runIn}
+use Rattle.run.proofs.AlteredWords.{wider-ends}
+use Rattle.logging.specs.LoggedRun.{Logged}
 use Rattle.sitting.specs.Sitting.{isEnabled, stackFrom, lowestStackWord, isSecretAbove, isSecret, Begins}
 use Rattle.sitting.specs.Sitting.{answerAfter, SameAnswers, Guarded, HasMonitor, SittingTellsNothing}
 use Rattle.sitting.specs.Values.{Value, unset, any, is, high, sum, allowed, forget, kindOf, numberOf, same}
@@ -31,7 +32,6 @@ use Rattle.sitting.specs.Test.{returning, returnsBy, harmless, isKept, a
 use Rattle.sitting.specs.Test.{rowHolds, rowsHold, leadsIn, allLeadIn, isReturn, leadsBack, vectorsHold}
 use Rattle.sitting.specs.Test.{roomHolds, passes}
 use Rattle.sitting.specs.Certified.{isSecretIn, isSecretBeside, Loaded}
-use Rattle.sitting.proofs.Runs.{wider-ends}
 use Rattle.sitting.proofs.MonitorWords.{has-monitor}
 use Rattle.sitting.proofs.Certified.{certified-tells-nothing}
 
@@ -234,8 +234,7 @@ guarded d before after t = record {
 same-answers : (d : Devices) (a₁ a₂ : Logged) → SameAnswers (isSecretBeside claimOfOurs d) a₁ a₂
     → SameAnswers (isSecret d) a₁ a₂
 same-answers d a₁ a₂ s = record {
-  run = wider-ends (isSecretBeside claimOfOurs d) (isSecret d) (runIn a₁) (runIn a₂) (λ a z. same-secret d a ∙ z)
-      (s .run);
+  run = wider-ends (λ a z. same-secret d a ∙ z) (s .run);
   log = s .log;
   words = s .words;
   ending = s .ending;

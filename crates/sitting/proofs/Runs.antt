@@ -27,7 +27,8 @@ use Rattle.run.specs.Run.{isFull, runOf}
 use Rattle.run.specs.Refusals.{wrongSize, admissionOf}
 use Rattle.run.specs.Call.{callOf}
 use Rattle.run.specs.AlteredWords.{Variants, SameEnds}
-use Rattle.run.proofs.AlteredWords.{halts-alike, steps-alike, full-alike, made-alike, ended-alike}
+use Rattle.run.proofs.AlteredWords.{wider-ends, halts-alike, ended-alike, begin-alike, steps-alike, full-alike}
+use Rattle.run.proofs.AlteredWords.{made-alike}
 use Rattle.run.proofs.RunKeeps.{every-run-keeps}
 use Rattle.logging.specs.Log.{nextRule, entryOf, lacksRoom}
 use Rattle.logging.specs.declared.LoggedEnding.{LoggedEnding}
@@ -62,19 +63,6 @@ run-is-logged s n =
 each-by : (P Q : ℕ → Type 0) (addresses : List ℕ) → ((a : ℕ) → P a → Q a) → Each P addresses → Each Q addresses
 each-by P Q [] f e = tt
 each-by P Q (a ∷ addresses) f e = (f a (e .0), each-by P Q addresses f (e .1))
-
--- A set of altered words may be made larger.
-pub wider-ends : (altered wider : ℕ → Bool) (e₁ e₂ : End) → ((a : ℕ) → wider a ≡ false → altered a ≡ false)
-    → SameEnds altered e₁ e₂ → SameEnds wider e₁ e₂
-wider-ends altered wider e₁ e₂ f a = record {
-  machine = a .machine;
-  memory = record { size = a .memory .size; words = λ b h. a .memory .words b (f b h) };
-  output = a .output;
-  steps = a .steps;
-  keys = a .keys;
-  shown = a .shown;
-  ending = a .ending;
-}
 
 first-of : (altered : ℕ → Bool) (a : ℕ) (addresses : List ℕ) → (rest : List ℕ) × (addresses ≡ a ∷ rest)
     → NoneAltered altered addresses → altered a ≡ false
@@ -154,9 +142,7 @@ module _ (secret : ℕ → Bool) (Invariant : Machine → List ℕ → Type 0) w
         first-is-keeps = step (arriving s₁ e₁) (e₁ .machine) (e₁ .memory) i
 
         next-alike : SameButAltered secret (nextStep s₁ e₁) (nextStep s₂ e₂)
-        next-alike =
-            steps-alike stepOf (altered-words-unread third) s₁ s₂ (v .times) (v .bytes) secret e₁ e₂ a
-            (first-is-keeps .reads)
+        next-alike = steps-alike stepOf (altered-words-unread third) v a (first-is-keeps .reads)
 
         pc-is-read : isInterrupt (ruleOf (nextStep s₁ e₁ .cause)) ≡ false
             → denied (e₁ .machine .psr) (e₁ .machine .pc) ≡ false
@@ -168,13 +154,11 @@ module _ (secret : ℕ → Bool) (Invariant : Machine → List ℕ → Type 0) w
 
         made-steps-alike : SameEnds secret (stepMade s₁ e₁) (stepMade s₂ e₂)
         made-steps-alike =
-            wider-ends (stillAltered (nextStep s₁ e₁ .writes) secret) secret (stepMade s₁ e₁) (stepMade s₂ e₂)
-            (never-still-altered (nextStep s₁ e₁ .writes) secret)
-            (made-alike stepOf (altered-words-unread third) s₁ s₂ (v .times) (v .bytes) secret e₁ e₂ a next-alike)
+            wider-ends (never-still-altered (nextStep s₁ e₁ .writes) secret)
+            (made-alike stepOf (altered-words-unread third) v a next-alike)
 
         full-steps-alike : isFull s₁ e₁ ≡ isFull s₂ e₂
-        full-steps-alike =
-            full-alike stepOf (altered-words-unread third) s₁ s₂ (v .times) (v .bytes) secret e₁ e₂ a next-alike
+        full-steps-alike = full-alike stepOf (altered-words-unread third) v a next-alike
 
         -- The word fetched is one that the step reads.
         fetched-alike :
@@ -208,13 +192,8 @@ module _ (secret : ℕ → Bool) (Invariant : Machine → List ℕ → Type 0) w
       module _ (l₁ l₂ : Logged) (a : SameAnswers secret l₁ l₂) where
         stopped-alike : (w : LoggedEnding) → SameAnswers secret (stoppedBy w l₁) (stoppedBy w l₂)
         unfolding stoppedBy endedBy
-        stopped-alike w = record {
-          run = ended-alike stepOf (altered-words-unread third) s₁ s₂ (v .times) (v .bytes) secret (runIn l₁) (runIn l₂)
-              (a .run) (runEnding w);
-          log = a .log;
-          words = a .words;
-          ending = refl;
-        }
+        stopped-alike w =
+            record { run = ended-alike (a .run) (runEnding w); log = a .log; words = a .words; ending = refl }
 
         logged-step-alike : Invariant (l₁ .machine) (l₁ .memory)
             → SameAnswers secret (stepLogged s₁ l₁) (stepLogged s₂ l₂)
@@ -232,9 +211,7 @@ module _ (secret : ℕ → Bool) (Invariant : Machine → List ℕ → Type 0) w
         unfolding oneMoreLogged
         goes-on-alike i =
             same-test-same-branch (SameAnswers secret) (isHalted (runIn l₁)) (isHalted (runIn l₂))
-            (halts-alike stepOf (altered-words-unread third) s₁ s₂ (v .times) (v .bytes) (runIn l₁) (runIn l₂)
-            (a .run .machine))
-            (λ h. stopped-alike (Run Halted))
+            (halts-alike (a .run)) (λ h. stopped-alike (Run Halted))
             (λ h.
             same-test-same-branch (SameAnswers secret) (lacksRoom (l₁ .log) (l₁ .words))
             (lacksRoom (l₂ .log) (l₂ .words))
@@ -263,20 +240,8 @@ module _ (secret : ℕ → Bool) (Invariant : Machine → List ℕ → Type 0) w
       logged-runs-alike : Invariant (s₁ .machine) (s₁ .memory) → (log : List ℕ) (n : ℕ)
           → SameAnswers secret (loggedRunOf s₁ log n) (loggedRunOf s₂ log n)
       unfolding loggedRunOf
-      logged-runs-alike i log zero = unfold beginLogged begin in record {
-        run = record {
-          machine = v .machine;
-          memory = v .memory;
-          output = v .output;
-          steps = refl;
-          keys = refl;
-          shown = refl;
-          ending = refl;
-        };
-        log = refl;
-        words = refl;
-        ending = refl;
-      }
+      logged-runs-alike i log zero = unfold beginLogged begin in
+          record { run = begin-alike v; log = refl; words = refl; ending = refl }
       logged-runs-alike i log (suc n) =
           one-more-alike (loggedRunOf s₁ log n) (loggedRunOf s₂ log n) (logged-runs-alike i log n)
           (logged-run-stands s₁ i log n .invariant)
@@ -300,20 +265,8 @@ module _ (secret : ℕ → Bool) (Invariant : Machine → List ℕ → Type 0) w
         where
           go : (a : Admission) → SameAnswers secret (loggedAdmitted a s₁ log n) (loggedAdmitted a s₂ log n)
           go Accepted = unfold loggedAdmitted in logged-runs-alike i log n
-          go (Rejected r) = unfold loggedAdmitted begin in record {
-            run = record {
-              machine = v .machine;
-              memory = v .memory;
-              output = v .output;
-              steps = refl;
-              keys = refl;
-              shown = refl;
-              ending = refl;
-            };
-            log = refl;
-            words = refl;
-            ending = refl;
-          }
+          go (Rejected r) = unfold loggedAdmitted begin endedBy in
+              record { run = ended-alike (begin-alike v) (Refused r); log = refl; words = refl; ending = refl }
 
       pub calls-alike : Invariant (s₁ .machine) (s₁ .memory) → (n : ℕ) → SameEnds secret (callOf s₁ n) (callOf s₂ n)
       calls-alike i n =

@@ -2,22 +2,17 @@
 -- in User mode, with what is hidden as it was: so `noninterference` speaks of the next call too.
 use Prim.Native.Nat.{ℕ, _+_}
 use mathlib.Core.Path.{_≡_, refl, sym, ap, _∙_}
-use mathlib.Core.Bool.{true, true≢false}
+use mathlib.Core.Bool.{true≢false}
 use mathlib.Core.Logic.{_⊎_, inl, inr}
 use mathlib.Core.List.{List, [], _∷_}
-use native.Mathlib.Omega.{arith}
-use Rattle.machine.specs.Psr.{inUserMode}
-use Rattle.machine.specs.Step.{stepOf}
-use Rattle.machine.specs.Visible.{SameVisible, hiddenOf}
+use Rattle.machine.specs.Visible.{hiddenOf}
 use Rattle.machine.specs.Causes.{meetsTrapOrException}
-use Rattle.run.specs.Run.{Start, runOf}
+use Rattle.run.specs.Run.{Start}
 use Rattle.run.specs.Call.{callOf}
 use Rattle.run.specs.Noninterference.{First, MeetsNone, Premises}
-use Rattle.run.proofs.Acceptance.{call-steps-are-run-steps}
-use Rattle.run.proofs.Noninterference.{MeetsSomeFirst, meets-none-or-a-first, Both, both, noninterference}
+use Rattle.run.proofs.Noninterference.{MeetsSomeFirst, meets-none-or-a-first, both-stop, noninterference}
 use Rattle.statements.specs.Continued.{Later, goingOn, EachPremises, CallAgreement, EachAgreement}
 use Rattle.statements.specs.Continued.{ContinuedNoninterference}
-use Rattle.statements.proofs.LastStep.{call-left}
 
 -- ---- one call to the next
 
@@ -36,29 +31,6 @@ none-met s₁ s₂ n f b = go (meets-none-or-a-first s₂ n)
     go (inl c) = c
     go (inr x) = absurd
         (met-is-not-none s₁ n (x .0, x .1, x .2, x .3, f (x .0) (x .1) (x .2) (x .3) (x .4)) b)
-
--- How two calls that meet no trap or exception leave the sittings.
-record Onward (s₁ s₂ : Start) (n : ℕ) : Type 0 where
-  user : inUserMode (callOf s₁ n .machine .psr) ≡ true
-  same : SameVisible (callOf s₁ n .machine) (callOf s₂ n .machine) (callOf s₁ n .memory) (callOf s₂ n .memory)
-  hidden₁ : hiddenOf (callOf s₁ n .machine) (callOf s₁ n .memory) ≡ hiddenOf (s₁ .machine) (s₁ .memory)
-  hidden₂ : hiddenOf (callOf s₂ n .machine) (callOf s₂ n .memory) ≡ hiddenOf (s₂ .machine) (s₂ .memory)
-
-module _ (s₁ s₂ : Start) (n : ℕ) (p : Premises s₁ s₂ n) where
-  onward : MeetsNone s₁ n → MeetsNone s₂ n → Onward s₁ s₂ n
-  onward b₁ b₂ =
-      let k : ℕ = runOf s₁ n .steps in
-      let z₁ : callOf s₁ n .steps ≡ k = call-steps-are-run-steps stepOf s₁ n (p .accepted₁) in
-      let z₂ : callOf s₂ n .steps ≡ runOf s₂ n .steps = call-steps-are-run-steps stepOf s₂ n (p .accepted₂) in
-      let e₁ = call-left s₁ n k (p .accepted₁) refl in
-      let e₂ = call-left s₂ n k (p .accepted₂) (sym z₂ ∙ (sym (noninterference s₁ s₂ n p .same-steps b₁ b₂) ∙ z₁)) in
-      let w : Both s₁ s₂ k = both s₁ s₂ n p k (omega arith) (rw z₁ at b₁) in
-      record {
-        user = rw (e₁ .machine) (w .user);
-        same = rw (e₁ .machine, e₁ .memory, e₂ .machine, e₂ .memory) (w .same);
-        hidden₁ = rw (e₁ .machine, e₁ .memory) (w .undisturbed₁ .hidden-kept);
-        hidden₂ = rw (e₂ .machine, e₂ .memory) (w .undisturbed₂ .hidden-kept);
-      }
 
 -- ---- every call
 
@@ -88,20 +60,20 @@ each-agrees first₁ first₂ made₁ made₂ s₁ s₂ n [] w p q = call-agrees
 each-agrees first₁ first₂ made₁ made₂ s₁ s₂ n (c ∷ calls) w p q = (
   call-agrees first₁ first₂ made₁ made₂ s₁ s₂ n w p,
   λ b₁ b₂.
-      let o = onward s₁ s₂ n p b₁ b₂ in
+      let o = both-stop s₁ s₂ n p b₁ in
       let l = q b₁ b₂ .0 in
       each-agrees first₁ first₂ (made₁ + callOf s₁ n .steps) (made₂ + callOf s₂ n .steps)
       (goingOn (callOf s₁ n) (c .lent₁)) (goingOn (callOf s₂ n) (c .lent₂)) (c .steps) calls
       (record {
-        same-steps = cc (w .same-steps, noninterference s₁ s₂ n p .same-steps b₁ b₂);
-        hidden₁ = o .hidden₁ ∙ w .hidden₁;
-        hidden₂ = o .hidden₂ ∙ w .hidden₂;
+        same-steps = cc (w .same-steps, o .steps);
+        hidden₁ = o .related .undisturbed₁ .hidden-kept ∙ w .hidden₁;
+        hidden₂ = o .related .undisturbed₂ .hidden-kept ∙ w .hidden₂;
       })
       (record {
         accepted₁ = l .accepted₁;
         accepted₂ = l .accepted₂;
-        user-mode = o .user;
-        same-visible = o .same;
+        user-mode = o .related .user;
+        same-visible = o .related .same;
         no-interrupt₁ = l .no-interrupt₁;
         no-interrupt₂ = l .no-interrupt₂;
       })

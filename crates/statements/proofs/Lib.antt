@@ -3,7 +3,6 @@ pub mod Entries
 pub mod NoOtherReads
 pub mod Excluded
 pub mod Calm
-pub mod LastStep
 pub mod Demand3
 pub mod Continued
 pub mod Plain

@@ -1,8 +1,8 @@
 -- `loader::save` meets its contract: the tests answer as the definition does, and an accepted range is a callee's.
 use mathlib.Core.Path.{_≡_, sym, _∙_}
-use Rattle.object.specs.Calls.{saveRefusal, saveBy, saveOf}
+use Rattle.object.specs.Calls.{saveRefusal, saveAccepted, saveOf}
 use Rattle.object.proofs.Acceptance.{accepted-is-writable}
-use Rattle.object.proofs.CallLaws.{saving-turned-away}
+use Rattle.object.proofs.CallLaws.{writing-turned-away}
 use borrow.Author.Needs.{needs}
 use Rattle.loader.proofs.save.Statement.{statement}
 use Rattle.loader.proofs.save.Tie as tie
@@ -12,8 +12,7 @@ unfolding saveOf
 returns c =
     let a = c .before .before .before .before .before .args in
     rw (← c .before .save-refusal .ensures)
-    (saving-turned-away (c .before .save-refusal .result) (a .memory .now) (a .origin) (a .words) (a .output .now)
-    (c .if1 .taken))
+    (writing-turned-away (c .before .save-refusal .result) _ (a .output .now) (c .if1 .taken))
 
 save-accepted-requires : tie.Need-save-accepted-requires
 save-accepted-requires c κs =
@@ -22,7 +21,7 @@ save-accepted-requires c κs =
     (sym (c .before .before .save-refusal .ensures) ∙ c .before .if1 .left)
 
 returns-2 : tie.Need-returns-2
-unfolding saveOf saveBy
+unfolding saveOf saveAccepted
 returns-2 c =
     let a = c .before .before .before .before .before .before .before .before .before .args in
     let accepted : saveRefusal (a .memory .now) (a .origin) (a .words) (a .output .now)

@@ -4,17 +4,18 @@ use native.Mathlib.Omega.{arith}
 use mathlib.Core.Path.{_≡_, sym, _∙_}
 use borrow.Author.Needs.{needs}
 use borrow.Author.Tests.{eq-eqb, ne-eqb, lt-ltb}
+use Rattle.lent.specs.Lent.{wrongSize}
 use Rattle.lines.specs.Page.{pageOf}
 use Rattle.lines.proofs.PageLaws.{in-memory}
 use Rattle.lines.proofs.page.page.Statement.{statement}
 use Rattle.lines.proofs.page.page.Tie as tie
 
 returns : tie.Need-returns
-unfolding pageOf
+unfolding pageOf wrongSize
 returns c = rw (ne-eqb _ _ (c .if1 .taken))
 
 returns-2 : tie.Need-returns-2
-unfolding pageOf
+unfolding pageOf wrongSize
 returns-2 c =
     let a = c .before .before .before .before .args in
     rw (eq-eqb _ _ (c .before .if1 .left), lt-ltb 65536 (a .first + a .count) (omega arith))

@@ -1,0 +1,2 @@
+-- Buffers that a caller lends.
+pub mod Lent
