@@ -1,0 +1,2 @@
+-- What is told of the step that a run would make next.
+pub mod Told
