@@ -47,8 +47,16 @@ fn nothing(ending: Ending) -> Told
 {
     let reads = lists::none();
     let writes = lists::none();
-    let touched = Touched { rule: Rule::Instruction, reads, writes };
-    Told { ending, word: 0, touched }
+    let touched = Touched {
+        rule: Rule::Instruction,
+        reads,
+        writes,
+    };
+    Told {
+        ending,
+        word: 0,
+        touched,
+    }
 }
 
 fn is_interrupt(rule: Rule) -> bool

@@ -38,7 +38,11 @@ fn untouched() -> Touched
 {
     let reads = none();
     let writes = none();
-    Touched { rule: Rule::Instruction, reads, writes }
+    Touched {
+        rule: Rule::Instruction,
+        reads,
+        writes,
+    }
 }
 
 // R6 when the pushes of an entry begin.
@@ -59,7 +63,11 @@ fn enter(c: Control, regs: &[u16; 8], vector: u16, rule: Rule) -> Touched
 {
     let reads = prepend(vector, none());
     let writes = below(stack_pointer_on_entry(c, regs));
-    Touched { rule, reads, writes }
+    Touched {
+        rule,
+        reads,
+        writes,
+    }
 }
 
 fn load_to(second: bool, c: Control, regs: &[u16; 8], a: u16) -> Touched
@@ -71,7 +79,11 @@ fn load_to(second: bool, c: Control, regs: &[u16; 8], a: u16) -> Touched
     }
     let reads = prepend_lent(second, a, none());
     let writes = none();
-    Touched { rule: Rule::Instruction, reads, writes }
+    Touched {
+        rule: Rule::Instruction,
+        reads,
+        writes,
+    }
 }
 
 fn store_at(second: bool, c: Control, regs: &[u16; 8], a: u16) -> Touched
@@ -83,7 +95,11 @@ fn store_at(second: bool, c: Control, regs: &[u16; 8], a: u16) -> Touched
     }
     let reads = none();
     let writes = prepend_lent(second, a, none());
-    Touched { rule: Rule::Instruction, reads, writes }
+    Touched {
+        rule: Rule::Instruction,
+        reads,
+        writes,
+    }
 }
 
 // The same with one word taken before.
@@ -93,7 +109,11 @@ fn after_pointer(second: bool, a: u16, t: Touched) -> Touched
     let reads = prepend_lent(second, a, t.reads);
     let writes = t.writes;
     let rule = t.rule;
-    Touched { rule, reads, writes }
+    Touched {
+        rule,
+        reads,
+        writes,
+    }
 }
 
 // LDI: the pointer is loaded, then the word that it points to.
@@ -130,7 +150,11 @@ fn trap(second: bool, c: Control, regs: &[u16; 8], vector: u16) -> Touched
     if second {
         let reads = prepend(vector, none());
         let writes = none();
-        return Touched { rule: Rule::Instruction, reads, writes };
+        return Touched {
+            rule: Rule::Instruction,
+            reads,
+            writes,
+        };
     }
     enter(c, regs, vector, Rule::Trap)
 }
@@ -144,7 +168,11 @@ fn return_from_interrupt(c: Control, regs: &[u16; 8]) -> Touched
         let sp = register(regs, 6);
         let reads = prepend(sp, prepend(next(sp), none()));
         let writes = none();
-        return Touched { rule: Rule::Instruction, reads, writes };
+        return Touched {
+            rule: Rule::Instruction,
+            reads,
+            writes,
+        };
     }
     enter(c, regs, 0x0100, Rule::Privilege)
 }
@@ -184,10 +212,20 @@ fn obey(second: bool, c: Control, regs: &[u16; 8], memory: &[u16]) -> Touched
     let reads = prepend(pc, t.reads);
     let writes = t.writes;
     let rule = t.rule;
-    Touched { rule, reads, writes }
+    Touched {
+        rule,
+        reads,
+        writes,
+    }
 }
 
-pub fn interrupt_or_obey(second: bool, c: Control, regs: &[u16; 8], memory: &[u16], pending: Pending) -> Touched
+pub fn interrupt_or_obey(
+    second: bool,
+    c: Control,
+    regs: &[u16; 8],
+    memory: &[u16],
+    pending: Pending,
+) -> Touched
     requires { ⌜ length (now memory) ≡ 65536 ⌝ }
     ensures { λ t. ⌜ ((clock : ℕ) → t ≡ touchedIn (interruptedOrObeyedBy (editionOf second) pending
         (whole (now (regs .entry)) clock c) (now (memory .entry)))) ⌝ }
