@@ -37,9 +37,10 @@ fn in_numbers(t: Told) -> Lc3Told
         shown: 0,
         ending,
     });
-    let rule = t.touched.rule;
-    let reads = t.touched.reads;
-    let writes = t.touched.writes;
+    let touched = t.touched;
+    let rule = touched.rule;
+    let reads = touched.reads;
+    let writes = touched.writes;
     Lc3Told {
         index: r.index,
         refusal: r.refusal,
