@@ -11,8 +11,8 @@
  *   lc3_step     runs one step and alters the host's own record
  *   lc3_run_second, lc3_step_second   the same by the rules of the book's second edition
  *   lc3_run_logged   runs as lc3_run does, and logs for each step what it did and by which rule
- *   lc3_next     tells what the next step of a run does, and makes none: by which rule, and which
- *                words of memory it takes and stores to; lc3_next_second the same by the rules of
+ *   lc3_tell     tells what the next step of a run does, and makes none: by which rule, and which
+ *                words of memory it takes and stores to; lc3_tell_second the same by the rules of
  *                the second edition
  *   lc3_read     reads a word as an instruction, and tells which fixed bits are wrong
  *   lc3_write    writes an instruction as a word
@@ -35,7 +35,7 @@
  *   lc3_step may not overlap.
  * - Several threads may call at once. What a call only reads they may share while nobody writes
  *   it: times and bytes of every run and step, file of a start, memory of lc3_page and lc3_save,
- *   all that lc3_next and lc3_certify are lent.
+ *   all that lc3_tell and lc3_certify are lent.
  *   What a call writes is that call's alone: memory of every run and step, of a start and of
  *   lc3_monitor, every output, the log, and the record lent to a step.
  * - Every call is answered. One that cannot be obeyed is refused with a number that says why, and
@@ -125,8 +125,8 @@ __extension__ typedef _Bool lc3_bool;
  *
  *   lc3_write           1, 2, 3
  *   lc3_run, lc3_step   11, 12, 13, 14, then 15 and 19 together, entry by entry; lc3_run_long,
- *                       lc3_run_logged, lc3_run_second, lc3_step_second, lc3_next and
- *                       lc3_next_second likewise
+ *                       lc3_run_logged, lc3_run_second, lc3_step_second, lc3_tell and
+ *                       lc3_tell_second likewise
  *   lc3_line            16
  *   lc3_page            11, 20, 16
  *   lc3_start           11, 17, 18; lc3_start_user 11, 17, 18, 21
@@ -238,7 +238,7 @@ typedef struct {
 } lc3_addresses;
 
 /*
- * What lc3_next answers. Where the call is refused, or the stop is LC3_HALTED, no step would be
+ * What lc3_tell answers. Where the call is refused, or the stop is LC3_HALTED, no step would be
  * made, and all that follows the stop is 0.
  */
 typedef struct {
@@ -496,10 +496,10 @@ lc3_report lc3_step_second(lc3_record *record, uint16_t *memory, size_t memory_l
  *
  * A word that the step does not read does not matter to it, and one that it does not write stays.
  */
-lc3_told lc3_next(lc3_record record, const uint16_t *memory, size_t memory_len,
+lc3_told lc3_tell(lc3_record record, const uint16_t *memory, size_t memory_len,
                   const uint64_t *times, size_t times_len, const uint8_t *bytes, size_t bytes_len);
 
-lc3_told lc3_next_second(lc3_record record, const uint16_t *memory, size_t memory_len,
+lc3_told lc3_tell_second(lc3_record record, const uint16_t *memory, size_t memory_len,
                          const uint64_t *times, size_t times_len, const uint8_t *bytes,
                          size_t bytes_len);
 

@@ -2,7 +2,7 @@
 use Rattle.machine.specs.Rules.{ruleNumber}
 use Rattle.run.specs.Refusals.{endingRefusal, endingIndex, endingStop}
 use Rattle.next_step.specs.declared.Told.{Told}
-use Rattle.lc3_next.specs.declared.Lc3Told.{Lc3Told}
+use Rattle.lc3_telling.specs.declared.Lc3Told.{Lc3Told}
 
 abbrev pub toldAnswer : Told → Lc3Told
 toldAnswer t = record {

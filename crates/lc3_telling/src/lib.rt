@@ -12,7 +12,7 @@ ghost use Prim.Native.Nat.{ℕ};
 ghost use Rattle.machine.specs.Edition.{third, second};
 ghost use Rattle.run.specs.Call.{startOf};
 ghost use Rattle.next_step.specs.Told.{toldBy};
-ghost use Rattle.lc3_next.specs.ToldAnswer.{toldAnswer};
+ghost use Rattle.lc3_telling.specs.ToldAnswer.{toldAnswer};
 
 // What is told, 40 bytes: `refusal` and `index` as a run of one step answers them; `stop` is done, 0, or halted, 1: then
 // no step would be made, and all that follows is 0. `reason` is the number of a log.
@@ -53,7 +53,7 @@ fn in_numbers(t: Told) -> Lc3Told
 }
 
 #[no_mangle]
-pub extern "C" fn lc3_next(m: Machine, memory: &[u16], times: &[u64], bytes: &[u8]) -> Lc3Told
+pub extern "C" fn lc3_tell(m: Machine, memory: &[u16], times: &[u64], bytes: &[u8]) -> Lc3Told
     ensures { λ r. ⌜ ((output : List ℕ) → r ≡ toldAnswer (toldBy third
         (startOf m (now (memory .entry)) (now (times .entry)) (now (bytes .entry)) output))) ⌝ }
 {
@@ -61,7 +61,7 @@ pub extern "C" fn lc3_next(m: Machine, memory: &[u16], times: &[u64], bytes: &[u
 }
 
 #[no_mangle]
-pub extern "C" fn lc3_next_second(
+pub extern "C" fn lc3_tell_second(
     m: Machine,
     memory: &[u16],
     times: &[u64],
