@@ -14,8 +14,8 @@ ghost use Rattle.run.specs.Call.{startOf};
 ghost use Rattle.next_step.specs.Told.{toldBy};
 ghost use Rattle.lc3_telling.specs.ToldAnswer.{toldAnswer};
 
-// What is told, 40 bytes: `refusal` and `index` as a run of one step answers them; `stop` is done, 0, or halted, 1: then
-// no step would be made, and all that follows is 0. `reason` is the number of a log.
+// What is told, 40 bytes: `refusal` and `index` as a run of one step answers them; `stop` is done, 0, or halted, 1.
+// Where no step would be made all that follows is 0. `reason` is the number of a log.
 #[repr(C)]
 pub struct Lc3Told {
     pub index: u64,

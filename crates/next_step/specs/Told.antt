@@ -1,5 +1,6 @@
--- What is told of the step that a run would make next, from that step's outcome: by which rule it is made, the word that
--- it fetches, and the addresses of the lent words that it takes and of those that it stores to, in the step's order.
+-- What is told of the step that a run would make next, from that step's outcome: by which rule it is made, the word
+-- that it fetches, and the addresses of the lent words that it takes and of those that it stores to, in the step's
+-- order.
 use Prim.Native.Nat.{ℕ, _+_}
 use mathlib.Core.Bool.{cond}
 use mathlib.Core.List.{List, [], _∷_}

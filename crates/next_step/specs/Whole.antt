@@ -1,5 +1,5 @@
--- Nothing is left out of what is told: the addresses are all those of the step's outcome, in its order; and the rule and
--- the word are those of a log.
+-- Nothing is left out of what is told: the addresses are all those of the step's outcome, in its order; and the rule
+-- and the word are those of a log.
 use Prim.Native.Nat.{ℕ}
 use mathlib.Core.Path.{_≡_}
 use mathlib.Core.List.{List, [], _∷_}

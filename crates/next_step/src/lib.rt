@@ -121,8 +121,8 @@ fn tell_accepted(second: bool, m: Machine, memory: &[u16], times: &[u64], bytes:
     tell_step(second, m, memory, times, bytes)
 }
 
-// What a run by the third edition's rules, or the second's, would do in its next step. It is turned down as a run of one
-// step is. There is no output, since the step is not made: whatever it is, the same is told.
+// What a run by the third edition's rules, or the second's, would do in its next step. It is turned down as a run of
+// one step is. There is no output, since the step is not made: whatever it is, the same is told.
 pub fn tell(second: bool, m: Machine, memory: &[u16], times: &[u64], bytes: &[u8]) -> Told
     ensures { λ r. ⌜ ((output : List ℕ) → r ≡ toldBy (editionOf second)
         (startOf m (now (memory .entry)) (now (times .entry)) (now (bytes .entry)) output)) ⌝ }

@@ -1,5 +1,5 @@
--- `next_step::tell` meets its contract: the tests answer as the definition does, and the rest is a callee's; an accepted
--- call has what the step requires.
+-- `next_step::tell` meets its contract: the tests answer as the definition does, and the rest is a callee's; an
+-- accepted call has what the step requires.
 use mathlib.Core.Path.{sym, _∙_}
 use mathlib.Core.List.{[]}
 use Rattle.run.specs.Call.{startOf}

@@ -1,5 +1,5 @@
--- `next_step::touching::load_to` meets its contract: the address is denied as the definition denies it, or its lent word
--- is taken.
+-- `next_step::touching::load_to` meets its contract: the address is denied as the definition denies it, or its lent
+-- word is taken.
 use mathlib.Core.Path.{refl, sym, _∙_}
 use Rattle.machine.specs.Edition.{editionOf}
 use Rattle.machine.specs.Outcome.{access}

@@ -1,5 +1,5 @@
--- `next_step::touching::store_by` meets its contract: the pointer is denied as the definition denies it, or taken before
--- the data access.
+-- `next_step::touching::store_by` meets its contract: the pointer is denied as the definition denies it, or taken
+-- before the data access.
 use mathlib.Core.Path.{_≡_, refl, sym, ap, _∙_}
 use Rattle.machine.specs.Edition.{editionOf}
 use Rattle.machine.specs.Record.{whole}
