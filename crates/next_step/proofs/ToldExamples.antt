@@ -1,7 +1,6 @@
 -- What is told of the next step in each of the rows: each is computed.
 use mathlib.Core.Path.{refl}
 use Rattle.machine.specs.Rules.{fetchedWordBy}
-use Rattle.run.specs.Run.{begin, arriving, nextStepBy, isHalted}
 use Rattle.run.proofs.Opened.{opened}
 use Rattle.next_step.specs.ToldExamples.{ToldExamplesHold}
 

@@ -14,21 +14,20 @@ use Rattle.machine.specs.declared.Plan.the-variants.{Move, Put, Jump, Load, Loa
 use Rattle.machine.specs.declared.Plan.the-variants.{Return}
 use Rattle.machine.specs.Edition.{Edition, third, second, linked, trapped}
 use Rattle.machine.specs.Psr.{inUserMode}
-use Rattle.machine.specs.Outcome.{Reason, trap, privilege, illegal, access, interrupt, Outcome, withReads}
+use Rattle.machine.specs.Outcome.{Reason, trap, privilege, illegal, access, Outcome, withReads}
 use Rattle.machine.specs.Interrupts.{pendingInterrupt}
 use Rattle.machine.specs.Protection.{deniedBy}
 use Rattle.machine.specs.Entry.{entry, raised, interrupted}
 use Rattle.machine.specs.Devices.{KBSR, KBDR, DSR, DDR, TSR, TIR, PSR, isDeviceBy, ddrStore, deviceStore, storedBy}
 use Rattle.machine.specs.Access.{checkedBy, loadToBy, storeAtBy, byPointerBy}
 use Rattle.machine.specs.Return.{popped, return}
-use Rattle.machine.specs.Rules.{fetchedWordBy}
 use Rattle.machine.specs.Step.{performBy, obeyedBy, interruptedOrObeyedBy, afterStart, ended, stepBy}
 use Rattle.machine.proofs.Tests.{either-branch}
 use Rattle.touched.proofs.TouchedWords.{step-reads-at-most-three}
 use Rattle.run.specs.Run.{begin}
 use Rattle.logging.specs.Log.{nextRule, entryOf}
 use Rattle.next_step.specs.Told.{addressesOf}
-use Rattle.next_step.specs.Whole.{wordsIn, ToldWhole, StepsToldWhole, ToldAsLogged}
+use Rattle.next_step.specs.Whole.{wordsIn, StepsToldWhole, ToldAsLogged}
 
 three-are-told : (l : List ℕ) → length l ≤ 3 → wordsIn (addressesOf l) ≡ l
 three-are-told [] few = refl

@@ -4,7 +4,7 @@ use parts::words::before;
 ghost use mathlib.Core.Path.{_≡_};
 ghost use mathlib.Core.Bool.{cond};
 ghost use mathlib.Core.List.{[], _∷_};
-ghost use Rattle.machine.specs.Edition.{editionOf, hasPsrAddress};
+ghost use Rattle.machine.specs.Edition.{editionOf};
 ghost use Rattle.machine.specs.Words.{before};
 ghost use Rattle.machine.specs.Devices.{isDeviceBy};
 ghost use Rattle.next_step.specs.Told.{prepended, addressesOf};

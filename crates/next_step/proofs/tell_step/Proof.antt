@@ -1,5 +1,5 @@
 -- `next_step::tell_step` meets its contract: arrival, the timer's count and the pending interrupt one after the other,
--- then what the step touches. A word fetched is the same before and after the start of the step.
+-- then what the step touches, and the word fetched from the record as it is handed in.
 use mathlib.Core.Path.{_≡_, ap, _∙_}
 use Rattle.machine.specs.declared.Machine.{Machine}
 use Rattle.machine.specs.declared.Pending.{Pending}

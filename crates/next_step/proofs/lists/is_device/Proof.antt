@@ -5,7 +5,6 @@ use mathlib.Core.Logic.{⊎-elim, inl, inr}
 use Rattle.machine.specs.Edition.{editionOf, hasPsrAddress}
 use Rattle.machine.specs.Devices.{isDeviceBy}
 use Rattle.machine.proofs.DeviceLaws.{no-device, psr-is-device}
-use borrow.Author.Needs.{needs}
 use Rattle.next_step.proofs.lists.is_device.Statement.{statement}
 use Rattle.next_step.proofs.lists.is_device.Tie as tie
 

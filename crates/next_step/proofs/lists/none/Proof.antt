@@ -1,6 +1,5 @@
 -- `next_step::lists::none` meets its contract: an empty list.
 use mathlib.Core.Path.{refl}
-use borrow.Author.Needs.{needs}
 use Rattle.next_step.proofs.lists.none.Statement.{statement}
 use Rattle.next_step.proofs.lists.none.Tie as tie
 
