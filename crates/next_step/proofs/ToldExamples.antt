@@ -7,6 +7,7 @@ use Rattle.next_step.specs.ToldExamples.{ToldExamplesHold}
 pub told-examples-hold : ToldExamplesHold
 unfolding opened fetchedWordBy
 told-examples-hold = record {
+  three-told = refl;
   fetched-alone = refl;
   pointer-then-datum = refl;
   pointer-then-store = refl;
@@ -23,4 +24,5 @@ told-examples-hold = record {
   halted = refl;
   refused-11 = refl;
   refused-13 = refl;
+  last-step = refl;
 }

@@ -14,7 +14,7 @@ use Rattle.machine.specs.Devices.{storedBy}
 use Rattle.machine.proofs.Tests.{either-branch}
 use Rattle.next_step.specs.declared.Addresses.{Addresses}
 use Rattle.next_step.specs.declared.Touched.{Touched}
-use Rattle.next_step.specs.Told.{prepended, addressesOf, touches, afterPointer, touchedIn}
+use Rattle.next_step.specs.Told.{prepended, addressesOf, untouched, afterPointer, touchedIn}
 
 -- The lent word behind an address, before others and by itself.
 lent-first : (e : Edition) (a : ℕ) (l : List ℕ)
@@ -43,7 +43,7 @@ pointer-touches e a o = rw (lent-first e a (o .reads)) refl
 
 -- A store to a device register touches no lent word.
 abbrev Nothing : Outcome → Type 0
-Nothing o = touchedIn o ≡ touches [] []
+Nothing o = touchedIn o ≡ untouched
 
 device-touches : (v a : ℕ) (m : Machine) (mem : List ℕ) → Nothing (deviceStore v a m mem)
 unfolding deviceStore ddrStore

@@ -1,10 +1,9 @@
 -- What is told of the step that a run would make next, from that step's outcome: by which rule it is made, the word
 -- that it fetches, and the addresses of the lent words that it takes and of those that it stores to, in the step's
 -- order.
-use Prim.Native.Nat.{ℕ, _+_}
+use Prim.Native.Nat.{ℕ, _+_, min}
 use mathlib.Core.Bool.{cond}
 use mathlib.Core.List.{List, [], _∷_}
-use lib.Dec.{ltb}
 use Rattle.machine.specs.declared.Machine.{Machine}
 use Rattle.machine.specs.declared.Rule.the-variants.{Instruction}
 use Rattle.machine.specs.Edition.{Edition}
@@ -25,7 +24,7 @@ use Rattle.next_step.specs.declared.Told.{Told}
 -- One address more, before the others. Of a longer list the first three are told; a step's is never longer.
 abbrev pub prepended : ℕ → Addresses → Addresses
 prepended a l = record {
-  count = cond (ltb (l .count) 3) (l .count + 1) 3;
+  count = min 3 (l .count + 1);
   first = a;
   second = l .first;
   third = l .second;
@@ -35,9 +34,9 @@ abbrev pub addressesOf : List ℕ → Addresses
 addressesOf [] = record { count = 0; first = 0; second = 0; third = 0 }
 addressesOf (a ∷ l) = prepended a (addressesOf l)
 
--- An instruction obeyed to its end that takes and stores to these words.
-abbrev pub touches : List ℕ → List ℕ → Touched
-touches reads writes = record { rule = Instruction; reads = addressesOf reads; writes = addressesOf writes }
+-- An instruction obeyed to its end that takes and stores to no word.
+abbrev pub untouched : Touched
+untouched = record { rule = Instruction; reads = addressesOf []; writes = addressesOf [] }
 
 -- The same with a pointer taken before: none behind a device register.
 abbrev pub afterPointer : Edition → ℕ → Touched → Touched
@@ -64,7 +63,7 @@ toldOf e m mem o = record {
 
 -- No step: the call is turned down, or the machine is halted.
 abbrev pub untold : Ending → Told
-untold w = record { ending = w; word = 0; touched = touches [] [] }
+untold w = record { ending = w; word = 0; touched = untouched }
 
 -- The step that the run would make first. Whether there is room for the byte that it may show is not asked.
 abbrev pub toldNext : Edition → Start → Told

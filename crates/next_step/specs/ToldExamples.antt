@@ -1,6 +1,6 @@
 -- What is told of the next step, with steps of which it would tell otherwise without its rule; the form is in Rows of
 -- crate machine.
-use Prim.Native.Nat.{ℕ, _^_}
+use Prim.Native.Nat.{ℕ, _-_, _^_}
 use mathlib.Core.Path.{_≡_}
 use mathlib.Core.List.{List, [], _∷_}
 use Rattle.machine.specs.Edition.{Edition, third, second}
@@ -11,7 +11,7 @@ use Rattle.run.specs.Refusals.{endingRefusal, endingIndex, endingStop}
 use Rattle.run.specs.Call.{startOf}
 use Rattle.next_step.specs.declared.Addresses.{Addresses}
 use Rattle.next_step.specs.declared.Told.{Told}
-use Rattle.next_step.specs.Told.{toldNext, toldBy}
+use Rattle.next_step.specs.Told.{addressesOf, toldNext, toldBy}
 
 -- In numbers: refusal, index and stop; the word and the reason; then how many words are read, and which, and written.
 abbrev pub listed : Addresses → List ℕ → List ℕ
@@ -39,6 +39,8 @@ called clock memory =
     inNumbers (toldBy third (startOf (recordOf (applied (number 19 clock ∷ []) userMode .numbers)) memory [] [] []))
 
 pub record ToldExamplesHold : Type 0 where
+  -- of a longer list the first three are told
+  pub three-told : listed (addressesOf (7 ∷ 8 ∷ 9 ∷ 10 ∷ [])) [] ≡ 3 ∷ 7 ∷ 8 ∷ 9 ∷ []
   -- an instruction takes the word at PC alone: ADD R5, R1, #15
   pub fetched-alone : supervisor third 0x1A6F [] ≡ 0 ∷ 0 ∷ 0 ∷ 0x1A6F ∷ 0 ∷ 1 ∷ 0x0400 ∷ 0 ∷ 0 ∷ 0 ∷ 0 ∷ 0 ∷ 0 ∷ []
   -- LDI R5, #5: fetch, pointer, datum; STI R5, #5 stores to the word pointed to
@@ -79,8 +81,13 @@ pub record ToldExamplesHold : Type 0 where
   pub key-waits :
       keyed third (42 ∷ []) (0x61 ∷ []) 0x1A6F (applied (PSR 0x0305 ∷ KBSR 0x4000 ∷ []) supervisorMode)
       ≡ 0 ∷ 0 ∷ 0 ∷ 0x1A6F ∷ 0 ∷ 1 ∷ 0x0400 ∷ 0 ∷ 0 ∷ 0 ∷ 0 ∷ 0 ∷ 0 ∷ []
-  -- no step: halted, and refused under 11; under 13 at the last clock, where a call of no step is accepted
+  -- no step: halted, and refused under 11; under 13 at the last clock, where a call of no step is accepted; and the
+  -- step before it
   pub halted : supervisor third 0x1A6F (MCR 0 ∷ []) ≡ 0 ∷ 0 ∷ 1 ∷ 0 ∷ 0 ∷ 0 ∷ 0 ∷ 0 ∷ 0 ∷ 0 ∷ 0 ∷ 0 ∷ 0 ∷ []
   pub refused-11 : called 41 [] ≡ 11 ∷ 0 ∷ 0 ∷ 0 ∷ 0 ∷ 0 ∷ 0 ∷ 0 ∷ 0 ∷ 0 ∷ 0 ∷ 0 ∷ 0 ∷ []
   pub refused-13 :
-      called (2 ^ 48) (memoryWith 0 []) ≡ 13 ∷ 0 ∷ 0 ∷ 0 ∷ 0 ∷ 0 ∷ 0 ∷ 0 ∷ 0 ∷ 0 ∷ 0 ∷ 0 ∷ 0 ∷ []
+      called (2 ^ 48) (memoryWith 0 [])
+      ≡ 13 ∷ 0 ∷ 0 ∷ 0 ∷ 0 ∷ 0 ∷ 0 ∷ 0 ∷ 0 ∷ 0 ∷ 0 ∷ 0 ∷ 0 ∷ []
+  pub last-step :
+      called (2 ^ 48 - 1) (memoryWith 0x1A6F [])
+      ≡ 0 ∷ 0 ∷ 0 ∷ 0x1A6F ∷ 0 ∷ 1 ∷ 0x3000 ∷ 0 ∷ 0 ∷ 0 ∷ 0 ∷ 0 ∷ 0 ∷ []

@@ -4,6 +4,7 @@ use parts::words::before;
 ghost use mathlib.Core.Path.{_≡_};
 ghost use mathlib.Core.Bool.{cond};
 ghost use mathlib.Core.List.{[], _∷_};
+ghost use Prim.Native.Nat.{_+_, min};
 ghost use Rattle.machine.specs.Edition.{editionOf};
 ghost use Rattle.machine.specs.Words.{before};
 ghost use Rattle.machine.specs.Devices.{isDeviceBy};
@@ -20,13 +21,19 @@ pub fn none() -> Addresses
     }
 }
 
+// Three are told.
+fn one_more(count: u16) -> u16
+    ensures { λ r. ⌜ r ≡ min 3 (count + 1) ⌝ }
+{
+    if count < 3 { count + 1 } else { 3 }
+}
+
 // One address more, before the others.
 pub fn prepend(a: u16, l: Addresses) -> Addresses
     ensures { λ r. ⌜ r ≡ prepended a l ⌝ }
 {
-    let count = if l.count < 3 { l.count + 1 } else { 3 };
     Addresses {
-        count,
+        count: one_more(l.count),
         first: a,
         second: l.first,
         third: l.second,

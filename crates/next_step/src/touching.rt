@@ -18,7 +18,7 @@ use parts::words::next;
 use parts::words::register;
 use step::planning::plan_for;
 ghost use mathlib.Core.Path.{_≡_};
-ghost use mathlib.Core.List.{List, []};
+ghost use mathlib.Core.List.{List};
 ghost use Prim.Native.Nat.{ℕ};
 ghost use lib.ListN.{length};
 ghost use Rattle.machine.specs.Record.{whole};
@@ -29,11 +29,11 @@ ghost use Rattle.machine.specs.Entry.{stackPointerOnEntry, entry};
 ghost use Rattle.machine.specs.Access.{loadToBy, storeAtBy, byPointerBy};
 ghost use Rattle.machine.specs.Return.{return};
 ghost use Rattle.machine.specs.Step.{performBy, obeyedBy, interruptedOrObeyedBy};
-ghost use Rattle.next_step.specs.Told.{afterPointer, touchedIn, touches};
+ghost use Rattle.next_step.specs.Told.{afterPointer, touchedIn, untouched};
 
 // An instruction that touches no lent word but the one fetched.
 fn untouched() -> Touched
-    ensures { λ r. ⌜ r ≡ touches [] [] ⌝ }
+    ensures { λ r. ⌜ r ≡ untouched ⌝ }
 {
     let reads = none();
     let writes = none();
