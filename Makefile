@@ -15,8 +15,8 @@
 # make mutants    alters the definitions one point at a time: would a wrong rule be noticed? (no part of make test)
 # make release-test   a release, made twice, and installed without the kit: wheel, packages in a fresh Debian, archive
 
-EXPORTS = lc3_machine lc3_step lc3_step_second lc3_logging lc3_long lc3_second lc3_words lc3_lines lc3_objects \
-    lc3_monitor lc3_certify lc3_version
+EXPORTS = lc3_machine lc3_step lc3_step_second lc3_logging lc3_telling lc3_long lc3_second lc3_words lc3_lines \
+    lc3_objects lc3_monitor lc3_certify lc3_version
 ARCHIVES = $(EXPORTS:%=target/staticlib/lib%.a)
 # How many crates rt proves at a time, or wrong programs it tries. It waits for all of them before it begins the next
 # ones, so that four keep two cores busier than two would, and six busier still; each takes up to 1.8 GB.

@@ -909,6 +909,44 @@ static void test_second_edition(void) {
     check_buffers();
 }
 
+/* ---- The next step ---- */
+
+/* At most two addresses; the places after them are 0. */
+static void check_addresses(const lc3_addresses *found, uint16_t count, uint16_t a, uint16_t b) {
+    CHECK(found->count, count);
+    CHECK(found->at[0], a);
+    CHECK(found->at[1], b);
+    CHECK(found->at[2], 0);
+}
+
+/* TRAP x25 in User mode by both editions, a halted machine, and a refused call. */
+static void test_next_step(void) {
+    part = "the next step";
+    clear_buffers();
+    memory[0x3000] = 0xF025;
+    keep_buffers();
+    arguments c = usual();
+    c.record.saved_ssp = 0x3000;
+    lc3_told t = lc3_tell(c.record, memory, WORDS, c.times, 0, c.bytes, 0);
+    CHECK(t.refusal, LC3_ACCEPTED);
+    CHECK(t.stop, LC3_DONE);
+    CHECK(t.word, 0xF025);
+    CHECK(t.reason, LC3_REASON_TRAP);
+    check_addresses(&t.reads, 2, 0x3000, 0x0025);
+    check_addresses(&t.writes, 2, 0x2FFF, 0x2FFE);
+    t = lc3_tell_second(c.record, memory, WORDS, c.times, 0, c.bytes, 0);
+    CHECK(t.reason, LC3_REASON_INSTRUCTION);
+    check_addresses(&t.reads, 2, 0x3000, 0x0025);
+    check_addresses(&t.writes, 0, 0, 0);
+    c.record.mcr = 0;
+    t = lc3_tell(c.record, memory, WORDS, c.times, 0, c.bytes, 0);
+    CHECK(t.stop, LC3_HALTED);
+    check_addresses(&t.reads, 0, 0, 0);
+    t = lc3_tell(c.record, memory, WORDS - 1, c.times, 0, c.bytes, 0);
+    CHECK(t.refusal, LC3_REFUSED_MEMORY);
+    check_buffers();
+}
+
 /* ---- Instruction words ---- */
 
 /* A format of Figure A.2: what tells it from others, its fixed bits, and where operands stand. */
@@ -1459,6 +1497,7 @@ int main(void) {
     test_logged_is_run();
     test_log_full();
     test_second_edition();
+    test_next_step();
     test_read();
     test_write();
     test_line();

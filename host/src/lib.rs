@@ -1,7 +1,6 @@
 //! The LC-3 with privilege, interrupts, a console and a timer.
 //!
-//! This crate is a safe wrapper of the static library `libfanthrig.a`. It has the library's
-//! eighteen calls:
+//! This crate is a safe wrapper of the static library `libfanthrig.a`. It has the library's calls:
 //!
 //! - [`version()`], the version of the interface;
 //! - [`start`] for an object file and a machine that is to run it, and [`start_user`] for a file
@@ -11,6 +10,7 @@
 //! - [`run_long`], which does what [`run`](run()) does, faster for long sittings;
 //! - [`run_second`] and [`step_second`], the same by the rules of the book's second edition;
 //! - [`run_logged`] for a run that logs each step, with [`logged_steps`] to read the log;
+//! - [`tell`] for what the next step of a run does, which is not made, and [`tell_second`];
 //! - [`read`] for a word as an instruction, [`write`](write()) for an instruction as a word;
 //! - [`line`](line()) for a word as a line of text, [`line_length`] for the bytes of that line, and
 //!   [`page`] for a range of memory as lines;
@@ -66,6 +66,7 @@ mod monitor;
 mod object;
 mod reach;
 mod run;
+mod telling;
 
 pub use error::Error;
 pub use fanthrig_sys as ffi;
@@ -80,6 +81,7 @@ pub use object::{save, start, start_user, Started};
 pub use reach::{reach, Fate, Reach, Replacing, Taking};
 pub use run::{run, run_long, run_second, step, step_second};
 pub use run::{Keys, Run, StepReport, Stop, CLOCK_LIMIT, STEP_LIMIT};
+pub use telling::{tell, tell_second, Addresses, Told};
 
 /// The version of the interface that the library was built for.
 ///

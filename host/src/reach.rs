@@ -1,12 +1,8 @@
 //! How far one altered word of memory can reach: what a run does first with the word.
 
-use crate::ffi::{
-    LC3_ADDRESS_DDR, LC3_ADDRESS_DSR, LC3_ADDRESS_KBDR, LC3_ADDRESS_KBSR, LC3_ADDRESS_MCR,
-    LC3_ADDRESS_PSR, LC3_ADDRESS_TIR, LC3_ADDRESS_TSR, LC3_MCR_CLOCK,
-};
+use crate::ffi::LC3_MCR_CLOCK;
 use crate::{
-    logged_steps, memory, read, run, run_logged, step, write, Error, Instruction, Keys, LoggedStep,
-    Memory, Mode, Reason, Record, Run, Stop, LOG_WORDS,
+    read, run, tell, Error, Instruction, Keys, LoggedStep, Memory, Reason, Record, Run, Stop, Told,
 };
 use std::fmt;
 
@@ -184,41 +180,6 @@ enum Use {
     Replace(Replacing),
 }
 
-const LOAD: Use = Use::Take(Taking::Load);
-const POINTER: Use = Use::Take(Taking::Pointer);
-const POP: Use = Use::Take(Taking::Pop);
-const STORE: Use = Use::Replace(Replacing::Store);
-const PUSH: Use = Use::Replace(Replacing::Push);
-
-fn is_device(at: u16) -> bool {
-    matches!(
-        at,
-        LC3_ADDRESS_KBSR
-            | LC3_ADDRESS_KBDR
-            | LC3_ADDRESS_DSR
-            | LC3_ADDRESS_DDR
-            | LC3_ADDRESS_TSR
-            | LC3_ADDRESS_TIR
-            | LC3_ADDRESS_PSR
-            | LC3_ADDRESS_MCR
-    )
-}
-
-fn is_privileged(at: u16) -> bool {
-    !(0x3000..=0xFDFF).contains(&at)
-}
-
-/// Whether a use of this kind finds the lent word at an address: loads and stores find a device's
-/// register in its place.
-fn is_of_lent_word(&(at, used): &(u16, Use)) -> bool {
-    match used {
-        Use::Take(Taking::Fetch | Taking::Pop | Taking::Vector) => true,
-        Use::Take(Taking::Pointer | Taking::Load) => !is_device(at),
-        Use::Replace(Replacing::Push) => true,
-        Use::Replace(Replacing::Store) => !is_device(at),
-    }
-}
-
 /// The run under way.
 struct Course<'a> {
     memory: &'a mut Memory,
@@ -247,15 +208,12 @@ impl<'a> Course<'a> {
         };
     }
 
-    /// Makes the next step and tells of it, or stops before it.
-    fn step(&mut self) -> Result<LoggedStep, Stop> {
-        let mut log = [0; LOG_WORDS];
+    /// Makes the next step, or says why it is not made.
+    fn step(&mut self) -> Stop {
         let (record, due, free) = (self.run.record, self.due(), &mut self.output[self.run.shown..]);
-        let answer = run_logged(record, self.memory, due, free, &mut log, 1)
-            .expect("a step of an accepted run is accepted");
-        self.join(answer.run);
-        let made = logged_steps(&log[..answer.logged]).next();
-        made.ok_or(answer.run.stop)
+        let one = run(record, self.memory, due, free, 1);
+        self.join(one.expect("a step of an accepted run is accepted"));
+        self.run.stop
     }
 
     /// Makes the steps that are left of `n`.
@@ -270,117 +228,48 @@ impl<'a> Course<'a> {
     /// Makes steps, at most `n`, until one takes or replaces the word.
     fn fate(&mut self, n: u64, address: u16) -> Fate {
         while self.run.steps < n {
-            let (before, number) = (self.run.record, self.run.steps);
-            // The step itself may alter a pointer, so what it accesses is told before it is made.
-            let accesses = self.accesses();
-            let fate = match self.step() {
-                Ok(step) => Fate::of_step(number, &uses(&before, &accesses, &step), address),
-                Err(Stop::OutputFull) => return self.pending(&accesses, address),
-                Err(_) => return Fate::Untouched,
+            let told = tell(self.run.record, self.memory, self.due());
+            let Some(told) = told.expect("a step of an accepted run is accepted") else {
+                return Fate::Untouched;
             };
-            if fate != Fate::Untouched {
-                return fate;
+            let fate = Fate::of_step(self.run.steps, &uses(&told), address);
+            match (self.step(), fate) {
+                (Stop::Done, Fate::Untouched) => {}
+                (Stop::OutputFull, Fate::Taken { step, by }) => return Fate::Pending { step, by },
+                _ => return fate,
             }
         }
         Fate::Untouched
     }
-
-    /// What the step comes to before which the output is full. Since it would show a byte, it is an
-    /// instruction that would be obeyed to its end.
-    fn pending(&self, accesses: &[(u16, Use)], address: u16) -> Fate {
-        let record = &self.run.record;
-        let word = Some(self.memory[usize::from(record.pc)]);
-        let step = LoggedStep { pc: record.pc, word, reason: Reason::Instruction };
-        match Fate::of_step(self.run.steps, &uses(record, accesses, &step), address) {
-            Fate::Taken { step, by } => Fate::Pending { step, by },
-            other => other,
-        }
-    }
-
-    /// What the instruction at PC accesses after its fetch, device registers too, where nothing
-    /// stops it.
-    fn accesses(&self) -> Vec<(u16, Use)> {
-        use Instruction::{Ld, Ldi, Ldr, Rti, St, Sti, Str};
-        let Record { regs, pc, .. } = self.run.record;
-        let near = |offset9| pc.wrapping_add(1).wrapping_add_signed(offset9);
-        let based = |base: u8, offset6| regs[usize::from(base)].wrapping_add_signed(offset6);
-        match read(self.memory[usize::from(pc)]).instruction {
-            Ld { offset9, .. } => vec![(near(offset9), LOAD)],
-            Ldr { base, offset6, .. } => vec![(based(base, offset6), LOAD)],
-            Ldi { offset9, .. } => {
-                let pointer = near(offset9);
-                vec![(pointer, POINTER), (self.followed(pointer, offset9), LOAD)]
-            }
-            St { offset9, .. } => vec![(near(offset9), STORE)],
-            Str { base, offset6, .. } => vec![(based(base, offset6), STORE)],
-            Sti { offset9, .. } => {
-                let pointer = near(offset9);
-                vec![(pointer, POINTER), (self.followed(pointer, offset9), STORE)]
-            }
-            Rti => vec![(regs[6], POP), (regs[6].wrapping_add(1), POP)],
-            _ => vec![],
-        }
-    }
-
-    /// The address that LDI or STI with this offset finds at its pointer.
-    fn followed(&self, pointer: u16, offset9: i16) -> u16 {
-        if !is_device(pointer) {
-            return self.memory[usize::from(pointer)];
-        }
-        // What a device's register holds depends on the keys and the timer of the step. An LD in
-        // the place of the instruction loads it in the same step, made on words of its own.
-        let load = Instruction::Ld { dr: 0, offset9 };
-        let mut words = memory();
-        let mut record = self.run.record;
-        words[usize::from(record.pc)] = write(&load).expect("the offset of an instruction");
-        step(&mut record, &mut words, self.due(), &mut [])
-            .expect("a step of an accepted run is accepted");
-        record.regs[0]
-    }
 }
 
-/// The lent words that a step uses, in order: from the record before it, the accesses of the
-/// instruction at PC, and what the log says that the step was.
-fn uses(record: &Record, accesses: &[(u16, Use)], step: &LoggedStep) -> Vec<(u16, Use)> {
-    let made = match (step.reason, step.word) {
-        (Reason::Instruction, _) => accesses.len(),
-        // What comes before the address whose check stopped the instruction.
-        (Reason::Access, Some(_)) => {
-            accesses.iter().take_while(|(at, _)| !is_privileged(*at)).count()
-        }
-        _ => 0,
+/// The lent words that a step uses, in order: those that it takes, and those that it replaces.
+fn uses(told: &Told) -> Vec<(u16, Use)> {
+    let entered = told.step.reason != Reason::Instruction;
+    let by = if entered { Replacing::Push } else { Replacing::Store };
+    let taken = (0..told.reads.len()).map(|i| (told.reads[i], Use::Take(taking(told, i))));
+    taken.chain(told.writes.iter().map(|&at| (at, Use::Replace(by)))).collect()
+}
+
+/// How a step takes one of its words: the fetch is the first, and the vector word of an entry the
+/// last; what is between them is of the instruction's kind.
+fn taking(told: &Told, i: usize) -> Taking {
+    let LoggedStep { pc, word, reason } = told.step;
+    let Some(word) = word.filter(|_| reason == Reason::Instruction || i + 1 < told.reads.len())
+    else {
+        return Taking::Vector;
     };
-    let fetch = step.word.map(|_| (step.pc, Use::Take(Taking::Fetch)));
-    let all = fetch.into_iter().chain(accesses[..made].iter().copied()).chain(entry(record, step));
-    all.filter(is_of_lent_word).collect()
-}
-
-/// What an entry uses, if the step made one: two words of the supervisor's stack, and the vector
-/// word.
-fn entry(record: &Record, step: &LoggedStep) -> impl Iterator<Item = (u16, Use)> {
-    let stack = match record.mode() {
-        Mode::User => record.saved_ssp,
-        Mode::Supervisor => record.regs[6],
-    };
-    let pushes = [1, 2].map(|below| (stack.wrapping_sub(below), PUSH));
-    vector(step)
-        .into_iter()
-        .flat_map(move |at| pushes.into_iter().chain([(at, Use::Take(Taking::Vector))]))
-}
-
-/// The address of the vector word, if the step made an entry.
-fn vector(step: &LoggedStep) -> Option<u16> {
-    match step.reason {
-        Reason::Instruction => None,
-        Reason::Trap => match read(step.word?).instruction {
-            Instruction::Trap { vector } => Some(vector),
-            other => unreachable!("{other:?} was logged as a trap"),
-        },
-        Reason::Privilege => Some(0x0100),
-        Reason::Illegal => Some(0x0101),
-        Reason::Access => Some(0x0102),
-        Reason::Keyboard => Some(0x0180),
-        Reason::Timer => Some(0x0181),
+    match read(word).instruction {
+        _ if i == 0 => Taking::Fetch,
+        Instruction::Rti => Taking::Pop,
+        Instruction::Sti { .. } => Taking::Pointer,
+        // A pointer out of a device register is no word of memory.
+        Instruction::Ldi { offset9, .. }
+            if i == 1 && told.reads[1] == pc.wrapping_add(1).wrapping_add_signed(offset9) =>
+        {
+            Taking::Pointer
+        }
+        _ => Taking::Load,
     }
 }
 

@@ -11,6 +11,9 @@
  *   lc3_step     runs one step and alters the host's own record
  *   lc3_run_second, lc3_step_second   the same by the rules of the book's second edition
  *   lc3_run_logged   runs as lc3_run does, and logs for each step what it did and by which rule
+ *   lc3_tell     tells what the next step of a run does, and makes none: by which rule, and which
+ *                words of memory it takes and stores to; lc3_tell_second the same by the rules of
+ *                the second edition
  *   lc3_read     reads a word as an instruction, and tells which fixed bits are wrong
  *   lc3_write    writes an instruction as a word
  *   lc3_line     writes a word as a line of text; lc3_line_length counts its bytes
@@ -32,7 +35,7 @@
  *   lc3_step may not overlap.
  * - Several threads may call at once. What a call only reads they may share while nobody writes
  *   it: times and bytes of every run and step, file of a start, memory of lc3_page and lc3_save,
- *   all that lc3_certify is lent.
+ *   all that lc3_tell and lc3_certify are lent.
  *   What a call writes is that call's alone: memory of every run and step, of a start and of
  *   lc3_monitor, every output, the log, and the record lent to a step.
  * - Every call is answered. One that cannot be obeyed is refused with a number that says why, and
@@ -122,7 +125,8 @@ __extension__ typedef _Bool lc3_bool;
  *
  *   lc3_write           1, 2, 3
  *   lc3_run, lc3_step   11, 12, 13, 14, then 15 and 19 together, entry by entry; lc3_run_long,
- *                       lc3_run_logged, lc3_run_second and lc3_step_second likewise
+ *                       lc3_run_logged, lc3_run_second, lc3_step_second, lc3_tell and
+ *                       lc3_tell_second likewise
  *   lc3_line            16
  *   lc3_page            11, 20, 16
  *   lc3_start           11, 17, 18; lc3_start_user 11, 17, 18, 21
@@ -226,6 +230,26 @@ typedef struct {
     uint64_t index;
     uint32_t refusal, stop; /* the stop may be LC3_LOG_FULL */
 } lc3_logged_answer;
+
+/* Addresses of words of memory: the first count of at, in the order of the step; the rest is 0. */
+typedef struct {
+    uint16_t count; /* 0 to 3 */
+    uint16_t at[3];
+} lc3_addresses;
+
+/*
+ * What lc3_tell answers. Where the call is refused, or the stop is LC3_HALTED, no step would be
+ * made, and all that follows the stop is 0.
+ */
+typedef struct {
+    uint64_t index;
+    uint32_t refusal;     /* with index, as lc3_run answers them for n = 1 */
+    uint32_t stop;        /* LC3_DONE, or LC3_HALTED */
+    uint16_t word;        /* the word fetched, and the reason: as in a log */
+    uint16_t reason;
+    lc3_addresses reads;  /* the words that the step takes */
+    lc3_addresses writes; /* the words that it stores to: at most two; padding follows */
+} lc3_told;
 
 /*
  * An instruction as numbers. First its kind, then registers a, b, c in the order in which the
@@ -458,6 +482,28 @@ lc3_report lc3_step_second(lc3_record *record, uint16_t *memory, size_t memory_l
                            size_t bytes_len, uint8_t *output, size_t output_len);
 
 /*
+ * Tells what the next step of a run does, and makes none: nothing that is lent is altered. The step
+ * is the one that lc3_run, or lc3_run_second, would make first if it were handed the same and the
+ * output had room: the keys of its time arrive in it and the timer's count falls.
+ *
+ * Told are words of memory, and not the device registers that loads and stores find in their place.
+ *
+ *   reads    first the word at PC, unless nothing is fetched (word is 0 then: an interrupt, or a
+ *            fetch that is denied); then the pointer of LDI and STI, what LD, LDR and LDI load, or
+ *            the two words that RTI pops; last the vector word of a trap, exception or interrupt,
+ *            also where a push of the same step has just replaced it
+ *   writes   the word that ST, STR or STI replaces; or the two that an entry pushes, PSR's first
+ *
+ * A word that the step does not read does not matter to it, and one that it does not write stays.
+ */
+lc3_told lc3_tell(lc3_record record, const uint16_t *memory, size_t memory_len,
+                  const uint64_t *times, size_t times_len, const uint8_t *bytes, size_t bytes_len);
+
+lc3_told lc3_tell_second(lc3_record record, const uint16_t *memory, size_t memory_len,
+                         const uint64_t *times, size_t times_len, const uint8_t *bytes,
+                         size_t bytes_len);
+
+/*
  * Reads a word as an instruction, with a mask of its wrong bits. Every word is an instruction; bits
  * that its format fixes are ignored, and those of them that are wrong in the word are set in the
  * mask, which is 0 for a proper word. What lc3_write makes of the instruction differs from the word
@@ -609,6 +655,19 @@ LC3_LAYOUT(offsetof(lc3_logged_answer, logged) == 72);
 LC3_LAYOUT(offsetof(lc3_logged_answer, index) == 80);
 LC3_LAYOUT(offsetof(lc3_logged_answer, refusal) == 88);
 LC3_LAYOUT(offsetof(lc3_logged_answer, stop) == 92);
+
+LC3_LAYOUT(sizeof(lc3_addresses) == 8);
+LC3_LAYOUT(offsetof(lc3_addresses, count) == 0);
+LC3_LAYOUT(offsetof(lc3_addresses, at) == 2);
+
+LC3_LAYOUT(sizeof(lc3_told) == 40);
+LC3_LAYOUT(offsetof(lc3_told, index) == 0);
+LC3_LAYOUT(offsetof(lc3_told, refusal) == 8);
+LC3_LAYOUT(offsetof(lc3_told, stop) == 12);
+LC3_LAYOUT(offsetof(lc3_told, word) == 16);
+LC3_LAYOUT(offsetof(lc3_told, reason) == 18);
+LC3_LAYOUT(offsetof(lc3_told, reads) == 20);
+LC3_LAYOUT(offsetof(lc3_told, writes) == 28);
 
 LC3_LAYOUT(sizeof(lc3_instruction) == 8);
 LC3_LAYOUT(offsetof(lc3_instruction, kind) == 0);

@@ -25,6 +25,7 @@ export class Library {
         if (this.version() !== VERSION) throw new Error("fanthrig.wasm is of another version than this module");
         this.answer = this.lend(ANSWER_BYTES);
         this.routines = this.lend(ROUTINES_BYTES);
+        this.copy = this.lend(RECORD_BYTES);
     }
 
     // Lends so many bytes, aligned for any element, for good.
@@ -107,6 +108,20 @@ export class Library {
     stepBy(name, record, lent) {
         this.calls[name](this.answer, record, ...buffers(lent));
         return { ...this.counts(0), index: this.long(24), refusal: this.short(32), stop: this.short(36) };
+    }
+
+    // What the next step does, which is not made. The record stays as it is: the call has a copy of its own to alter.
+
+    tell(record, lent) { return this.tellBy("lc3_tell", record, lent); }
+    tellSecond(record, lent) { return this.tellBy("lc3_tell_second", record, lent); }
+
+    tellBy(name, record, lent) {
+        this.bytes(0).copyWithin(this.copy, record, record + RECORD_BYTES);
+        this.calls[name](this.answer, this.copy, ...buffers(lent).slice(0, 6));
+        const words = this.words(this.answer, 20);
+        const addresses = (at) => [...words.subarray(at + 1, at + 1 + words[at])];
+        const step = { word: words[8], reason: words[9], reads: addresses(10), writes: addresses(14) };
+        return { ...step, index: this.long(0), refusal: this.short(8), stop: this.short(12) };
     }
 
     counts(at) { return { steps: this.long(at), keys: this.long(at + 8), shown: this.long(at + 16) }; }

@@ -3,7 +3,7 @@ import {
     KBDR_BYTE, KBSR_READY, LOG_WORDS, MAX_STEPS, MEMORY_WORDS, PLACES, Refused, Stop,
 } from "./constants.mjs";
 import { RECORD_BYTES, accepted } from "./library.mjs";
-import { changesOf, loggedStep, mayReplace, reasonBySecond, wordsAt } from "./steps.mjs";
+import { changesOf, loggedStep, wordsAt } from "./steps.mjs";
 
 export const LOGGED_AT_ONCE = 65536; // the steps of a logged run in one call
 const ROOM = 4096; // bytes of the display that are lent at once
@@ -76,15 +76,26 @@ export class Machine {
         return [count, end < times.length ? Number(times[end]) : Infinity];
     }
 
-    // Makes one call of at most n steps, with all that is lent, and books what it answers.
-    call(n, make) {
-        const [keysLength, until] = this.lendKeys(), { shared } = this.library;
-        const lent = {
+    // All that is lent to a call, with so many keys.
+    lent(keysLength) {
+        const { shared } = this.library;
+        return {
             memory: this.memoryAt, memoryLength: MEMORY_WORDS, times: shared.times, timesLength: keysLength,
             keys: shared.keys, keysLength, output: shared.output,
             outputLength: Math.max(Math.min(ROOM, this.limit - this.shown), 0),
         };
-        const answer = accepted(make(lent, Math.min(n, MAX_STEPS, until - this.clock)));
+    }
+
+    // What the next step does, which is not made.
+    told() {
+        const tell = this.edition === 2 ? "tellSecond" : "tell", [count] = this.lendKeys();
+        return accepted(this.library[tell](this.recordAt, this.lent(count)));
+    }
+
+    // Makes one call of at most n steps, with all that is lent, and books what it answers.
+    call(n, make) {
+        const [count, until] = this.lendKeys();
+        const answer = accepted(make(this.lent(count), Math.min(n, MAX_STEPS, until - this.clock)));
         this.arrived += answer.keys;
         this.take(answer.shown);
         return answer;
@@ -154,11 +165,9 @@ export class Machine {
     advanceSecond(n) {
         const log = [];
         for (let made = 0; made < Math.min(n, LOGGED_AT_ONCE); made++) {
-            const before = this.shorts.slice(), pc = before[PLACES.PC], word = this.words[pc], { arrived } = this;
-            const stop = this.advance(1);
+            const pc = this.shorts[PLACES.PC], { word, reason } = this.told(), stop = this.advance(1);
             if (stop !== Stop.DONE) return [stop, Uint16Array.from(log)];
-            const reason = reasonBySecond(before, word, this.arrived > arrived);
-            log.push(pc, reason >= 5 ? 0 : word, reason);
+            log.push(pc, word, reason);
         }
         return [Stop.DONE, Uint16Array.from(log)];
     }
@@ -177,11 +186,11 @@ export class Machine {
 
     // Makes one step and tells all that it did; or null where none is made.
     traced() {
-        const { clock, arrived, shown, words } = this, was = this.shorts.slice();
-        const old = wordsAt(words, mayReplace(this.library, was, words)), [, log] = this.advanceLogged(1);
-        if (!log.length) return null;
+        const { word, reason, writes } = this.told(), { clock, arrived, shown } = this;
+        const was = this.shorts.slice(), old = wordsAt(this.words, writes);
+        if (this.advance(1) !== Stop.DONE) return null;
         return {
-            ...loggedStep(...log), clock, changes: changesOf(was, this.shorts, old, this.words),
+            ...loggedStep(was[PLACES.PC], word, reason), clock, changes: changesOf(was, this.shorts, old, this.words),
             keys: this.keys.slice(arrived, this.arrived), shown: [...this.displayed(shown)],
         };
     }

@@ -143,10 +143,13 @@ class Run {
         met.calls++;
     }
 
+    // What is told of each step before it is made is what the log has of it.
     bySteps(call) {
-        const lent = this.lend();
+        const lent = this.lend(), tell = call.replace("step", "tell");
         let came = 0, shown = 0;
         for (let made = 0; made < this.steps; made++) {
+            const { word, reason } = library[tell](record.at, lent), [, fetched, by] = this.log.subarray(3 * made);
+            if (word !== fetched || reason !== by) assert.fail(`step ${made}: ${[word, reason]} was told`);
             const { steps, refusal, index, stop, ...counts } = library[call](record.at, lent);
             if (steps !== 1 || refusal || index || stop) assert.fail(`step ${made}: ${[steps, refusal, index, stop]}`);
             came += counts.keys;
@@ -168,6 +171,8 @@ class Run {
         const full = new DataView(this.before.buffer).getBigUint64(40, true) >= 1n << 48n && this.refusal > 13;
         assert.deepEqual([report.steps, report.keys, report.shown, report.stop], [0, 0, 0, 0]);
         assert.deepEqual([report.refusal, report.index], full ? [13, 0] : [this.refusal, this.answer[1]]);
+        const { refusal, index, reads } = library[call.replace("step", "tell")](record.at, this.lend());
+        assert.deepEqual([refusal, index, reads], [report.refusal, report.index, []]);
         this.compare();
     }
 

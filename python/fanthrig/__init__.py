@@ -20,9 +20,9 @@ cases, and ``fanthrig.certifying`` certifies a class's own monitor.
 
 The calls of lc3.h are here one to one, for hosts that lend buffers of their own: ``version``,
 ``start``, ``start_user``, ``run``, ``run_long``, ``step``, ``run_logged``, ``run_second``,
-``step_second``, ``read``, ``write``, ``line``, ``line_length``, ``page``, ``save``, ``monitor``,
-``monitor_routines``, ``vectors``, ``certify``; with ``logged_steps`` to read a log. A call that is
-refused raises ``Refused`` and alters nothing.
+``step_second``, ``tell``, ``tell_second``, ``read``, ``write``, ``line``, ``line_length``,
+``page``, ``save``, ``monitor``, ``monitor_routines``, ``vectors``, ``certify``; with
+``logged_steps`` to read a log. A call that is refused raises ``Refused`` and alters nothing.
 
 ``__version__`` is the version of the product, and ``VERSION`` that of the interface. The library is
 looked for when it is first needed, as ``fanthrig._library`` says. docs/MACHINE.md has the rules of
@@ -52,6 +52,8 @@ from .calls import (
     start_user,
     step,
     step_second,
+    tell,
+    tell_second,
     vectors,
     version,
     write,
@@ -102,6 +104,7 @@ from .records import (
     Run,
     Started,
     Stop,
+    Told,
 )
 from .sitting import Key, Sitting
 from .steps import Change, TracedStep
@@ -163,6 +166,7 @@ __all__ = [
     "SittingReport",
     "Started",
     "Stop",
+    "Told",
     "TracedStep",
     "USER_ORIGIN",
     "USER_STACK",
@@ -188,6 +192,8 @@ __all__ = [
     "start_user",
     "step",
     "step_second",
+    "tell",
+    "tell_second",
     "vectors",
     "version",
     "word",

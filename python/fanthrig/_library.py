@@ -98,6 +98,26 @@ class LoggedAnswerStruct(Structure):
     ]
 
 
+class AddressesStruct(Structure):
+    """``lc3_addresses``."""
+
+    _fields_ = [("count", c_uint16), ("at", c_uint16 * 3)]
+
+
+class ToldStruct(Structure):
+    """``lc3_told``."""
+
+    _fields_ = [
+        ("index", c_uint64),
+        ("refusal", c_uint32),
+        ("stop", c_uint32),
+        ("word", c_uint16),
+        ("reason", c_uint16),
+        ("reads", AddressesStruct),
+        ("writes", AddressesStruct),
+    ]
+
+
 class InstructionStruct(Structure):
     """``lc3_instruction``."""
 
@@ -165,6 +185,8 @@ SIZES = {
     AnswerStruct: 88,
     ReportStruct: 40,
     LoggedAnswerStruct: 96,
+    AddressesStruct: 8,
+    ToldStruct: 40,
     InstructionStruct: 8,
     ReadingStruct: 12,
     WrittenStruct: 8,
@@ -178,6 +200,7 @@ SIZES = {
 _LENT: tuple[Any, ...] = (c_void_p, c_size_t)
 _RUN: tuple[Any, ...] = (RecordStruct, *_LENT * 4, c_uint64)
 _STEP: tuple[Any, ...] = (c_void_p, *_LENT * 4)
+_TELL: tuple[Any, ...] = (RecordStruct, *_LENT * 3)
 
 FUNCTIONS: dict[str, tuple[Any, tuple[Any, ...]]] = {
     "lc3_version": (c_uint32, ()),
@@ -189,6 +212,8 @@ FUNCTIONS: dict[str, tuple[Any, tuple[Any, ...]]] = {
     "lc3_run_logged": (LoggedAnswerStruct, (RecordStruct, *_LENT * 5, c_uint64)),
     "lc3_run_second": (AnswerStruct, _RUN),
     "lc3_step_second": (ReportStruct, _STEP),
+    "lc3_tell": (ToldStruct, _TELL),
+    "lc3_tell_second": (ToldStruct, _TELL),
     "lc3_read": (ReadingStruct, (c_uint16,)),
     "lc3_write": (WrittenStruct, (InstructionStruct,)),
     "lc3_line": (CountedStruct, (c_uint16, *_LENT)),

@@ -25,7 +25,7 @@ from .buffers import BYTE, NUMBER, TIME, WORD, Lending
 from .constants import MAX_LINE, MEMORY_WORDS, VECTOR_WORDS
 from .exclusive import Exclusive
 from .records import LONG_LIMIT, WORD_LIMIT, Certified, Finding, Instruction, LoggedRun, Reading
-from .records import Record, Refused, Report, Routines, Run, Started, Stop, whole
+from .records import Reason, Record, Refused, Report, Routines, Run, Started, Stop, Told, whole
 
 if TYPE_CHECKING:
     from _typeshed import ReadableBuffer, WriteableBuffer
@@ -266,6 +266,53 @@ def run_logged(
     _accepted(answer.refusal, answer.index)
     after, stop = Record.from_c(answer.record), Stop(answer.stop)
     return LoggedRun(answer.steps, answer.keys, answer.shown, stop, after, answer.logged)
+
+
+def _tell_by(
+    call: Callable[..., Any], record: Record, memory: Any, times: Any, keys: Any
+) -> Told:
+    """Tells of the next step by the call of one of the editions."""
+    struct = record.to_c()
+    with Lending() as lending:
+        step = call(
+            struct,
+            *lending.read(memory, WORD, "memory"),
+            *lending.read(times, TIME, "times"),
+            *lending.read(keys, BYTE, "keys"),
+        )
+    _accepted(step.refusal, step.index)
+    reads, writes = (tuple(words.at[: words.count]) for words in (step.reads, step.writes))
+    return Told(Stop(step.stop), step.word, Reason(step.reason), reads, writes)
+
+
+def tell(
+    record: Record, memory: ReadableBuffer, times: ReadableBuffer, keys: ReadableBuffer
+) -> Told:
+    """Tells what the next step of ``run`` does, and makes none: nothing is altered.
+
+    Refused as a run of one step is.
+
+    >>> memory = array("H", bytes(2 * MEMORY_WORDS))
+    >>> memory[0x3000], memory[0x3002] = 0xB001, 0x4000
+    >>> told = tell(Record(pc=0x3000, psr=0x8002, mcr=0x8000), memory, array("Q"), b"")
+    >>> [f"x{address:04X}" for address in told.reads], told.writes == (0x4000,)
+    (['x3000', 'x3002'], True)
+    """
+    return _tell_by(LIBRARY.lc3_tell, record, memory, times, keys)
+
+
+def tell_second(
+    record: Record, memory: ReadableBuffer, times: ReadableBuffer, keys: ReadableBuffer
+) -> Told:
+    """Tells what the next step of ``run_second`` does, as ``tell`` does.
+
+    >>> memory = array("H", bytes(2 * MEMORY_WORDS))
+    >>> memory[0x3000] = 0xF025
+    >>> record = Record(pc=0x3000, psr=0x8002, saved_ssp=0x3000, mcr=0x8000)
+    >>> [f(record, memory, array("Q"), b"").writes for f in (tell, tell_second)]
+    [(12287, 12286), ()]
+    """
+    return _tell_by(LIBRARY.lc3_tell_second, record, memory, times, keys)
 
 
 def read(word: int) -> Reading:

@@ -12,12 +12,12 @@ from copy import copy
 from hashlib import sha256
 from typing import Any, Callable, NamedTuple, Sequence
 
-from ._library import LIBRARY, RecordStruct
+from ._library import LIBRARY, RecordStruct, ToldStruct
 from .buffers import NOWHERE
 from .constants import KBDR_BYTE, KBSR_READY, LOG_WORDS, MEMORY_WORDS, PSR_USER
 from .log import LoggedStep, logged_steps, told
 from .records import Edition, Mode, Record, Refused, Stop
-from .steps import SHORT_BYTES, TracedStep, changes, logged_by_second, may_replace
+from .steps import SHORT_BYTES, TracedStep, changes
 
 MEMORY_BYTES = 2 * MEMORY_WORDS
 
@@ -29,6 +29,9 @@ LOGGED_AT_ONCE = 65536
 
 # The call by which a machine of each edition runs, and so every sitting and every marking.
 RUNS_BY = {Edition.THIRD: "lc3_run_long", Edition.SECOND: "lc3_run_second"}
+
+# The call that tells what its next step does.
+TELLS_BY = {Edition.THIRD: "lc3_tell", Edition.SECOND: "lc3_tell_second"}
 
 # The stops that a call answers, by their numbers.
 STOPS = (Stop.DONE, Stop.HALTED, Stop.OUTPUT_FULL, Stop.LOG_FULL)
@@ -99,8 +102,9 @@ class Machine:
         self._bind()
 
     def _bind(self) -> None:
-        """Fetches the call by which the machine runs, and the address of its memory."""
+        """Fetches the calls of the machine's edition, and the address of its memory."""
         self._run = getattr(LIBRARY, RUNS_BY[self.edition])
+        self._tell = getattr(LIBRARY, TELLS_BY[self.edition])
         # An array that is viewed can't be resized, and so its address stays.
         self._view = memoryview(self.words)
         self._memory = self.words.buffer_info()[0]
@@ -111,7 +115,7 @@ class Machine:
         for name in ("words", "times", "keys", "output"):
             state[name] = state[name][:]
         state["_digest"] = copy(self._digest)
-        for name in ("_run", "_view", "_memory"):
+        for name in ("_run", "_tell", "_view", "_memory"):
             del state[name]
         return state
 
@@ -206,13 +210,19 @@ class Machine:
         """The same by single steps: the library has no logged run for the second edition."""
         log: array[int] = array("H")
         while n:
-            before, word, arrived = self.record, self.words[self.record.pc], self.arrived
+            pc, step = self.record.pc, self._next()
             stop = self.advance(1)
             if stop is not Stop.DONE:
                 return stop, log
-            log.extend(logged_by_second(before, word, self.arrived > arrived))
+            log.extend((pc, step.word, step.reason))
             n -= 1
         return Stop.DONE, log
+
+    def _next(self) -> ToldStruct:
+        """What the next step does, which is not made; all zero where none would be."""
+        *lent, _output, _free = self._lent()
+        step: ToldStruct = self._tell(self.record, *lent)
+        return step
 
     def advance_to(self, n: int, addresses: Sequence[int]) -> Stop:
         """Makes up to n steps, but stops before a step whose PC is one of the addresses. The first
@@ -246,12 +256,13 @@ class Machine:
     def step_traced(self) -> TracedStep | Stop:
         """Makes one step and tells all that it did; or why it was not made."""
         before, arrived, shown = self.record, self.arrived, self.shown
-        old = {address: self.words[address] for address in may_replace(before, self.words)}
-        stop, log = self.advance_logged(1)
-        if not log:
+        step = self._next()
+        old = {address: self.words[address] for address in step.writes.at[: step.writes.count]}
+        stop = self.advance(1)
+        if stop is not Stop.DONE:
             return stop
         return TracedStep(
-            *told(*log),
+            *told(before.pc, step.word, step.reason),
             before.clock,
             changes(before, self.record, old, self.words),
             self.keys[arrived : self.arrived].tobytes() if self.arrived > arrived else b"",

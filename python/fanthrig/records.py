@@ -456,6 +456,19 @@ class LoggedRun(Run):
 
 
 @dataclass(frozen=True)
+class Told:
+    """What the next step of a run does: the word fetched and the reason, as in a log, and the
+    addresses of the words of memory that it takes and stores to, in the step's order. Where
+    ``stop`` is ``Stop.HALTED`` no step would be made, and nothing is told."""
+
+    stop: Stop
+    word: int
+    reason: Reason
+    reads: tuple[int, ...]
+    writes: tuple[int, ...]
+
+
+@dataclass(frozen=True)
 class Routines:
     """The addresses of a monitor's routines: what the words x0000 to x01FF of memory hold.
 

@@ -4,17 +4,13 @@ from __future__ import annotations
 
 from array import array
 from dataclasses import dataclass
-from functools import lru_cache
 from struct import Struct
-from typing import Iterable, Sequence
 
 from ._library import RecordStruct
-from .calls import read
 from .constants import ADDRESS_DDR, ADDRESS_DSR, ADDRESS_KBDR, ADDRESS_KBSR, ADDRESS_MCR
-from .constants import ADDRESS_PSR, ADDRESS_TIR, ADDRESS_TSR, KBSR_READY, MEMORY_WORDS
-from .constants import PSR_PRIORITY, PSR_USER, TSR_READY
+from .constants import ADDRESS_PSR, ADDRESS_TIR, ADDRESS_TSR
 from .log import LoggedStep
-from .records import Kind, Mode, Reason
+from .records import Mode
 
 # The registers of the record under the names of the book. What only counts steps is left out.
 NAMES: dict[str, int | str] = {
@@ -63,32 +59,6 @@ def value_of(record: RecordStruct, name: str) -> int:
     return int(record.regs[place] if isinstance(place, int) else getattr(record, place))
 
 
-def reason_by_second(record: RecordStruct, word: int, key_arrived: bool) -> Reason:
-    """The reason of a step by the second edition's rules: from the record before it, the word at
-    PC, and whether a key arrived in it. They know no access exception, and a TRAP is no entry but
-    an instruction, obeyed to its end.
-
-    The keys of its time arrive and the timer counts before a step asks for interrupts (M5, M24).
-    """
-    priority = (record.psr & PSR_PRIORITY) >> 8
-    passed = TSR_READY if record.timer_interval and record.timer_count == 1 else 0
-    if record.timer_status | passed >= 0xC000 and priority < 6:
-        return Reason.TIMER
-    if record.kbsr | (KBSR_READY if key_arrived else 0) >= 0xC000 and priority < 4:
-        return Reason.KEYBOARD
-    opcode = word >> 12
-    if opcode == 8 and record.psr & PSR_USER:
-        return Reason.PRIVILEGE
-    return Reason.ILLEGAL if opcode == 13 else Reason.INSTRUCTION
-
-
-def logged_by_second(record: RecordStruct, word: int, key_arrived: bool) -> tuple[int, int, int]:
-    """The three words of a log for a step by the second edition's rules."""
-    reason = reason_by_second(record, word, key_arrived)
-    fetched = reason not in (Reason.KEYBOARD, Reason.TIMER)
-    return record.pc, word if fetched else 0, reason
-
-
 @dataclass(frozen=True)
 class Change:
     """A register or a word of memory that a step changed, as ``R0`` or ``x3000``."""
@@ -124,6 +94,7 @@ class TracedStep(LoggedStep):
     def __str__(self) -> str:
         """The step as one line of a log.
 
+        >>> from fanthrig import Reason
         >>> print(TracedStep(0x3000, 0xF021, Reason.TRAP, 7, (Change("R6", 0, 1),), b"a", b""))
              7  x3000  xF021  TRAP x21          trap  R6 x0000 -> x0001, key 'a'
         """
@@ -133,35 +104,11 @@ class TracedStep(LoggedStep):
         return f"{self.clock:>6}  {super().__str__()}  {', '.join(did)}".rstrip()
 
 
-# A program obeys few words many times.
-_read = lru_cache(maxsize=4096)(read)
-
-
-def may_replace(record: RecordStruct, words: Sequence[int]) -> Iterable[int]:
-    """Addresses among which are all those whose words the next step may replace.
-
-    An entry pushes two words on the supervisor's stack; a store replaces one word.
-    """
-    stack = record.saved_ssp if record.psr & PSR_USER else record.regs[6]
-    pushed = {(stack - 1) & 0xFFFF, (stack - 2) & 0xFFFF}
-    word = words[record.pc]
-    if word >> 12 not in STORES:
-        return pushed
-    instruction = _read(word).instruction
-    near = (record.pc + 1 + instruction.value) & 0xFFFF
-    if instruction.kind is Kind.ST:
-        return pushed | {near}
-    if instruction.kind is Kind.STR:
-        return pushed | {(record.regs[instruction.b] + instruction.value) & 0xFFFF}
-    # A pointer out of a device register may be a key that arrives in this very step.
-    return range(MEMORY_WORDS) if near in DEVICES else pushed | {words[near]}
-
-
 def changes(
     before: RecordStruct, after: RecordStruct, old: dict[int, int], words: array[int]
 ) -> tuple[Change, ...]:
     """What is not as it was: registers in the order of ``NAMES``, then words by address. ``old``
-    are words that may have been replaced, as they were."""
+    are the words that the step stored to, as they were."""
     was, now = _SHORTS.unpack_from(before), _SHORTS.unpack_from(after)
     found = [
         Change(name, was[at], now[at])

@@ -90,6 +90,12 @@ CALLS = {
     fanthrig.Edition.SECOND: [fanthrig.run_second],
 }
 
+# The calls that make a step and tell of it.
+STEPS: dict[fanthrig.Edition, tuple[Any, Any]] = {
+    fanthrig.Edition.THIRD: (fanthrig.step, fanthrig.tell),
+    fanthrig.Edition.SECOND: (fanthrig.step_second, fanthrig.tell_second),
+}
+
 RUNS = [stored(line) for line in FILE.read_text(encoding="ascii").splitlines()]
 ACCEPTED = [run for run in RUNS if not run.refused]
 
@@ -138,13 +144,18 @@ class StoredRuns(unittest.TestCase):
 
     def test_single_steps(self) -> None:
         for number, run in enumerate(ACCEPTED):
-            step = fanthrig.step if run.edition is fanthrig.Edition.THIRD else fanthrig.step_second
+            step, tell = STEPS[run.edition]
             at, memory, output = run.record.copy(), run.memory[:], bytearray(run.output)
             arrived = shown = 0
-            for _ in range(run.answer[2]):
-                free = memoryview(output)[shown:]
-                report = step(at, memory, run.times[arrived:], run.keys[arrived:], free)
+            for made in range(run.answer[2]):
+                free, keys = memoryview(output)[shown:], (run.times[arrived:], run.keys[arrived:])
+                told, pc, before = tell(at, memory, *keys), at.pc, memory[:]
+                report = step(at, memory, *keys, free)
                 self.assertEqual(report.steps, 1, number)
+                self.assertEqual([pc, told.word, told.reason], run.log[3 * made : 3 * made + 3])
+                for address in told.writes:
+                    before[address] = memory[address]
+                self.assertTrue(before == memory, number)
                 arrived, shown = arrived + report.keys, shown + report.shown
             self.assertEqual((at, arrived, shown), (run.after, *run.answer[3:5]), number)
             self.assertTrue((memory, output) == (run.words, run.left), number)

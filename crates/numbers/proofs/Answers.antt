@@ -27,6 +27,7 @@ logged-runs-in-place m = record {
 others-in-place : (m : Machine) → OthersInPlace m
 unfolding flatOf
 others-in-place m = record {
+  told-to-c = refl;
   load = refl;
   bytes = refl;
   bytes-to-c = refl;

@@ -7,6 +7,7 @@ use lib.IntN.{pos}
 use Rattle.word.specs.declared.Instruction.the-variants.{Rti}
 use Rattle.lent.specs.Lent.{counted, hostCounted}
 use Rattle.machine.specs.declared.Machine.{Machine}
+use Rattle.machine.specs.declared.Rule.the-variants.{Access}
 use Rattle.run.specs.declared.Refusal.the-variants.{TimesOutOfOrder}
 use Rattle.run.specs.declared.Report.{Report}
 use Rattle.run.specs.declared.Ending.{Ending}
@@ -21,6 +22,8 @@ use Rattle.object.specs.Calls.{loading}
 use Rattle.start.specs.Start.{starting}
 use Rattle.answers.specs.Answer.{Answered, answerOf, reportOf, reported, answered}
 use Rattle.lc3_logging.specs.LoggedAnswer.{LoggedAnswered, loggedAnswerOf, loggedAnswered}
+use Rattle.next_step.specs.declared.Addresses.{Addresses}
+use Rattle.lc3_telling.specs.ToldAnswer.{toldAnswer}
 use Rattle.lc3_objects.specs.Answers.{hostStarting}
 use Rattle.lc3_words.specs.Flat.{flat, flatReadOf}
 use Rattle.lc3_words.specs.Writing.{hostAnswer}
@@ -119,9 +122,29 @@ pub record LoggedRunsInPlace (m : Machine) : Type 0 where
       (8 ∷ []) (9 ∷ []) (10 ∷ [])
       ≡ loggedWith m (Run Halted)
 
--- ---- object files, lines and words
+-- ---- the next step, object files, lines and words
+
+abbrev pub addresses : ℕ → ℕ → ℕ → ℕ → Addresses
+addresses count a b c = record { count = count; first = a; second = b; third = c }
 
 pub record OthersInPlace (m : Machine) : Type 0 where
+  -- the next step, told
+  pub told-to-c :
+      toldAnswer
+      (record {
+        ending = Refused (TimesOutOfOrder 4);
+        word = 1;
+        touched = record { rule = Access; reads = addresses 5 6 7 8; writes = addresses 9 10 11 12 };
+      })
+      ≡ record {
+        index = 4;
+        refusal = 19;
+        stop = 0;
+        word = 1;
+        reason = 4;
+        reads = addresses 5 6 7 8;
+        writes = addresses 9 10 11 12;
+      }
   pub load : loading (record { origin = 1; words = 2; refusal = 3 }) (4 ∷ [])
       ≡ record { origin = 1; words = 2; refusal = 3; memory = 4 ∷ [] }
   pub bytes : counted (record { count = 1; refusal = 2 }) (3 ∷ []) ≡ record { count = 1; refusal = 2; output = 3 ∷ [] }

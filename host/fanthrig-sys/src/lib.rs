@@ -74,6 +74,36 @@ pub struct LoggedAnswer {
     pub stop: u32,
 }
 
+/// Addresses of words of memory: `lc3_addresses`.
+#[repr(C)]
+#[derive(Clone, Copy, Debug, Default, PartialEq, Eq)]
+pub struct Addresses {
+    /// How many there are, 0 to 3.
+    pub count: u16,
+    /// The addresses in order; the rest is 0.
+    pub at: [u16; 3],
+}
+
+/// What is told of the next step: `lc3_told`.
+#[repr(C)]
+#[derive(Clone, Copy, Debug, PartialEq, Eq)]
+pub struct Told {
+    /// The first key time at fault, counted from 0, if refused under 15 or 19; else 0.
+    pub index: u64,
+    /// 0, or the number of the refusal: 11 to 15, or 19.
+    pub refusal: u32,
+    /// 0 done, 1 halted: no step would be made, and what follows is 0; 0 if refused.
+    pub stop: u32,
+    /// The word fetched, or 0 if none.
+    pub word: u16,
+    /// The reason, as in a log.
+    pub reason: u16,
+    /// The words that the step takes.
+    pub reads: Addresses,
+    /// The words that the step stores to.
+    pub writes: Addresses,
+}
+
 /// An instruction as the numbers of its fields: `lc3_instruction`.
 #[repr(C)]
 #[derive(Clone, Copy, Debug, PartialEq, Eq)]
@@ -210,6 +240,13 @@ const _: () = assert!(offset_of!(LoggedAnswer, logged) == 72);
 const _: () = assert!(offset_of!(LoggedAnswer, index) == 80);
 const _: () = assert!(offset_of!(LoggedAnswer, refusal) == 88);
 const _: () = assert!(offset_of!(LoggedAnswer, stop) == 92);
+const _: () = assert!(size_of::<Addresses>() == 8 && align_of::<Addresses>() == 2);
+const _: () = assert!(offset_of!(Addresses, count) == 0 && offset_of!(Addresses, at) == 2);
+const _: () = assert!(size_of::<Told>() == 40 && align_of::<Told>() == 8);
+const _: () = assert!(offset_of!(Told, index) == 0 && offset_of!(Told, refusal) == 8);
+const _: () = assert!(offset_of!(Told, stop) == 12 && offset_of!(Told, word) == 16);
+const _: () = assert!(offset_of!(Told, reason) == 18 && offset_of!(Told, reads) == 20);
+const _: () = assert!(offset_of!(Told, writes) == 28);
 const _: () = assert!(size_of::<Fields>() == 8 && align_of::<Fields>() == 4);
 const _: () = assert!(offset_of!(Fields, kind) == 0 && offset_of!(Fields, a) == 1);
 const _: () = assert!(offset_of!(Fields, b) == 2 && offset_of!(Fields, c) == 3);
@@ -256,6 +293,17 @@ pub type StepCall = unsafe extern "C" fn(
     output: *mut u8,
     output_len: usize,
 ) -> Report;
+
+/// The type of [`lc3_tell`] and of [`lc3_tell_second`].
+pub type TellCall = unsafe extern "C" fn(
+    record: Record,
+    memory: *const u16,
+    memory_len: usize,
+    times: *const u64,
+    times_len: usize,
+    bytes: *const u8,
+    bytes_len: usize,
+) -> Told;
 
 unsafe extern "C" {
     /// The version of the interface that the library was built for.
@@ -403,6 +451,36 @@ unsafe extern "C" {
         output: *mut u8,
         output_len: usize,
     ) -> Report;
+
+    /// Tells what the next step of [`lc3_run`] does, and makes none.
+    ///
+    /// # Safety
+    ///
+    /// Each pointer must be valid for reading its number of elements.
+    pub fn lc3_tell(
+        record: Record,
+        memory: *const u16,
+        memory_len: usize,
+        times: *const u64,
+        times_len: usize,
+        bytes: *const u8,
+        bytes_len: usize,
+    ) -> Told;
+
+    /// Tells what the next step of [`lc3_run_second`] does, and makes none.
+    ///
+    /// # Safety
+    ///
+    /// Each pointer must be valid for reading its number of elements.
+    pub fn lc3_tell_second(
+        record: Record,
+        memory: *const u16,
+        memory_len: usize,
+        times: *const u64,
+        times_len: usize,
+        bytes: *const u8,
+        bytes_len: usize,
+    ) -> Told;
 
     /// Loads an object file into memory, and makes a fresh record at its origin.
     ///

@@ -13,7 +13,7 @@ pub mod sittings;
 
 use crate::reference::machine;
 use cases::{Case, FAMILIES};
-use fanthrig::ffi::{self, Answer, LoggedAnswer, Report, RunCall, StepCall};
+use fanthrig::ffi::{self, Answer, LoggedAnswer, Report, RunCall, StepCall, TellCall, Told};
 use fanthrig::Record;
 use std::env;
 use std::time::{SystemTime, UNIX_EPOCH};
@@ -186,6 +186,23 @@ impl Buffers {
     /// Calls `lc3_step_second` likewise.
     pub fn step_second(&mut self, record: &mut Record) -> Report {
         self.step_by(ffi::lc3_step_second, record, 0, 0)
+    }
+
+    /// Calls `lc3_tell`, or `lc3_tell_second`, with all keys.
+    pub fn tell_by(&self, call: TellCall, record: Record) -> Told {
+        let (memory, times, bytes) = (self.memory.get(), self.times.get(), self.bytes.get());
+        // SAFETY: the pointers and lengths are those of three slices, which are only read.
+        unsafe {
+            call(
+                record,
+                memory.as_ptr(),
+                memory.len(),
+                times.as_ptr(),
+                times.len(),
+                bytes.as_ptr(),
+                bytes.len(),
+            )
+        }
     }
 
     fn run_by(

@@ -1,0 +1,2 @@
+-- What hosts are told of the next step.
+pub mod ToldAnswer
