@@ -92,6 +92,7 @@ test:
 format:
 	python3 docs/check.py
 	python3 tools/contracts.py
+	python3 tools/way.py 9 14
 	rt fmt --check
 	cargo fmt --all --check --manifest-path host/Cargo.toml
 
