@@ -39,21 +39,28 @@ returns-5 c =
 returns-6 : tie.Need-returns-6
 unfolding isDeviceBy
 returns-6 c =
-    let e : c .before .before .before .before .before .before .args .a ≡ 0xFE0A = omega arith in
+    let start : tie.Start = search in
+    let e : start .args .a ≡ 0xFE0A = omega arith in
     rw e refl
 
 returns-7 : tie.Need-returns-7
 unfolding isDeviceBy
 returns-7 c =
-    let e : c .before .before .before .before .before .before .before .args .a ≡ 0xFFFC = omega arith in
+    let start : tie.Start = search in
+    let e : start .args .a ≡ 0xFFFC = omega arith in
     rw e refl
 
 returns-8 : tie.Need-returns-8
 returns-8 c =
-    last-device (c .before .before .before .before .before .before .before .args .a)
-    (c .before .before .before .before .before .before .if1 .left)
-    (c .before .before .before .before .before .if2 .left) (c .before .before .before .before .if3 .left)
-    (c .before .before .before .if4 .left) (c .before .before .if5 .left) (c .before .if6 .left) (c .if7 .left)
+    let else4 : tie.Else4 = search in
+    let else3 : tie.Else3 = search in
+    let else2 : tie.Else2 = search in
+    let else1 : tie.Else1 = search in
+    let start : tie.Start = search in
+    last-device (start .args .a)
+    (else1 .if1 .left)
+    (else2 .if2 .left) (else3 .if3 .left)
+    (else4 .if4 .left) (c .before .before .if5 .left) (c .before .if6 .left) (c .if7 .left)
 
 pub is-device-spec : {M : Type 1} → statement M
 is-device-spec =

@@ -24,27 +24,33 @@ returns-2 c = λ watched rows.
 
 returns-3 : tie.Need-returns-3
 returns-3 c = λ watched rows.
-    let a = c .before .before .before .before .before .before .before .args in
+    let after-kind-at : tie.After-kind-at = search in
+    let start : tie.Start = search in
+    let a = start .args in
     c .is-device .ensures
     ∙ loadable-below (claimWith (a .memory .now) (a .kinds .now) (a .lowest) watched rows) (a .a)
-    (c .before .before .before .before .kind-at .result) (getD (a .memory .now) (a .a) 0)
-    (c .before .before .before .before .kind-at .ensures) (λ e. omega arith) (λ e. omega arith) (omega arith)
+    (after-kind-at .kind-at .result) (getD (a .memory .now) (a .a) 0)
+    (after-kind-at .kind-at .ensures) (λ e. omega arith) (λ e. omega arith) (omega arith)
 
 returns-4 : tie.Need-returns-4
 returns-4 c = λ watched rows.
-    let a = c .before .before .before .before .before .before .before .args in
+    let after-kind-at : tie.After-kind-at = search in
+    let start : tie.Start = search in
+    let a = start .args in
     loadable-stack (claimWith (a .memory .now) (a .kinds .now) (a .lowest) watched rows) (a .a)
-    (c .before .before .before .before .kind-at .result) (getD (a .memory .now) (a .a) 0)
-    (c .before .before .before .before .kind-at .ensures) (λ e. omega arith) (λ e. omega arith) (omega arith)
+    (after-kind-at .kind-at .result) (getD (a .memory .now) (a .a) 0)
+    (after-kind-at .kind-at .ensures) (λ e. omega arith) (λ e. omega arith) (omega arith)
     (omega arith)
 
 returns-5 : tie.Need-returns-5
 returns-5 c = λ watched rows.
-    let a = c .before .before .before .before .before .before .before .before .args in
+    let after-kind-at : tie.After-kind-at = search in
+    let start : tie.Start = search in
+    let a = start .args in
     c .is-device2 .ensures
     ∙ loadable-above (claimWith (a .memory .now) (a .kinds .now) (a .lowest) watched rows) (a .a)
-    (c .before .before .before .before .before .kind-at .result) (getD (a .memory .now) (a .a) 0)
-    (c .before .before .before .before .before .kind-at .ensures) (λ e. omega arith) (λ e. omega arith)
+    (after-kind-at .kind-at .result) (getD (a .memory .now) (a .a) 0)
+    (after-kind-at .kind-at .ensures) (λ e. omega arith) (λ e. omega arith)
     (omega arith) (omega arith)
 
 pub is-loadable-spec : {M : Type 1} → statement M

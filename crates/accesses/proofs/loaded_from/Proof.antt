@@ -10,46 +10,60 @@ use Rattle.accesses.proofs.loaded_from.Tie as tie
 
 returns : tie.Need-returns
 returns c = λ lowest rows.
-    let a = c .before .before .before .before .before .before .args in
+    let start : tie.Start = search in
+    let a = start .args in
     load-device (claimWith (a .memory .now) (a .kinds .now) lowest (a .watched .now) rows) (stateOf (a .t .now))
     (a .a) (sym (c .before .is-device .ensures) ∙ c .if1 .taken)
 
 returns-2 : tie.Need-returns-2
 returns-2 c = λ lowest rows.
-    let a = c .before .before .before .before .before .before .before .before .before .before .args in
+    let after-kind-at : tie.After-kind-at = search in
+    let else1 : tie.Else1 = search in
+    let after-is-device : tie.After-is-device = search in
+    let start : tie.Start = search in
+    let a = start .args in
     let e : c .wide .result ≡ (getD (a .memory .now) (a .a) 0) = omega arith in
     rw e (load-fixed (claimWith (a .memory .now) (a .kinds .now) lowest (a .watched .now) rows) (stateOf
-    (a .t .now)) (a .a) 0 (c .before .before .before .kind-at .result) (getD (a .memory .now) (a .a) 0)
-    (c .before .before .before .kind-at .ensures)
-    (sym (c .before .before .before .before .before .is-device .ensures) ∙ c .before .before .before .before .if1
-    .left) (omega arith) (omega arith))
+    (a .t .now)) (a .a) 0 (after-kind-at .kind-at .result) (getD (a .memory .now) (a .a) 0)
+    (after-kind-at .kind-at .ensures)
+    (sym (after-is-device .is-device .ensures) ∙ else1 .if1 .left) (omega arith) (omega arith))
 
 returns-3 : tie.Need-returns-3
 returns-3 c = λ lowest rows.
-    let a = c .before .before .before .before .before .before .before .before .before .before .args in
+    let after-kind-at : tie.After-kind-at = search in
+    let else1 : tie.Else1 = search in
+    let after-is-device : tie.After-is-device = search in
+    let start : tie.Start = search in
+    let a = start .args in
     load-own (claimWith (a .memory .now) (a .kinds .now) lowest (a .watched .now) rows) (stateOf (a .t .now))
-    (a .a) (c .watched-at .result) (c .before .before .before .kind-at .result) (getD (a .memory .now) (a .a) 0)
-    (c .before .before .before .kind-at .ensures)
-    (sym (c .before .before .before .before .before .is-device .ensures) ∙ c .before .before .before .before .if1
-    .left) (omega arith) (c .watched-at .ensures)
+    (a .a) (c .watched-at .result) (after-kind-at .kind-at .result) (getD (a .memory .now) (a .a) 0)
+    (after-kind-at .kind-at .ensures)
+    (sym (after-is-device .is-device .ensures) ∙ else1 .if1 .left) (omega arith) (c .watched-at .ensures)
 
 returns-4 : tie.Need-returns-4
 returns-4 c = λ lowest rows.
-    let a = c .before .before .before .before .before .before .before .before .before .before .args in
+    let after-kind-at : tie.After-kind-at = search in
+    let else1 : tie.Else1 = search in
+    let after-is-device : tie.After-is-device = search in
+    let start : tie.Start = search in
+    let a = start .args in
     load-top (claimWith (a .memory .now) (a .kinds .now) lowest (a .watched .now) rows) (stateOf (a .t .now))
-    (a .a) 0 (c .before .before .before .kind-at .result) (getD (a .memory .now) (a .a) 0)
-    (c .before .before .before .kind-at .ensures)
-    (sym (c .before .before .before .before .before .is-device .ensures) ∙ c .before .before .before .before .if1
-    .left) (λ e. omega arith) (λ e. omega arith) (omega arith)
+    (a .a) 0 (after-kind-at .kind-at .result) (getD (a .memory .now) (a .a) 0)
+    (after-kind-at .kind-at .ensures)
+    (sym (after-is-device .is-device .ensures) ∙ else1 .if1 .left) (λ e. omega arith) (λ e. omega arith) (omega arith)
 
 returns-5 : tie.Need-returns-5
 returns-5 c = λ lowest rows.
-    let a = c .before .before .before .before .before .before .before .before .before .before .before .args in
+    let after-kind-at : tie.After-kind-at = search in
+    let else1 : tie.Else1 = search in
+    let after-is-device : tie.After-is-device = search in
+    let start : tie.Start = search in
+    let a = start .args in
     load-stack (claimWith (a .memory .now) (a .kinds .now) lowest (a .watched .now) rows) (stateOf (a .t .now))
-    (a .a) (c .watched-at2 .result) (c .before .before .before .before .kind-at .result) (getD (a .memory .now)
-    (a .a) 0) (c .before .before .before .before .kind-at .ensures)
-    (sym (c .before .before .before .before .before .before .is-device .ensures) ∙ c .before .before .before
-    .before .before .if1 .left) (λ e. omega arith) (λ e. omega arith) (λ e. omega arith) (c .watched-at2 .ensures)
+    (a .a) (c .watched-at2 .result) (after-kind-at .kind-at .result) (getD (a .memory .now)
+    (a .a) 0) (after-kind-at .kind-at .ensures)
+    (sym (after-is-device .is-device .ensures) ∙ else1 .if1 .left) (λ e. omega arith) (λ e. omega arith)
+    (λ e. omega arith) (c .watched-at2 .ensures)
 
 pub loaded-from-spec : {M : Type 1} → statement M
 loaded-from-spec =

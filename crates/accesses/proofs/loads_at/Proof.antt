@@ -9,7 +9,8 @@ use Rattle.accesses.proofs.loads_at.Tie as tie
 
 returns : tie.Need-returns
 returns c = λ rows.
-    let a = c .before .before .before .before .before .before .args in
+    let start : tie.Start = search in
+    let a = start .args in
     loads-not (claimWith (a .memory .now) (a .kinds .now) (a .lowest) (a .watched .now) rows) (a .pc) (a .r)
     (a .a) (stateOf (a .t .now))
     (sym (c .before .is-loadable .ensures (a .watched .now) rows) ∙ not-true (c .before .is-loadable .result)
@@ -17,19 +18,21 @@ returns c = λ rows.
 
 returns-2 : tie.Need-returns-2
 returns-2 c = λ rows.
-    let a = c .before .before .before .before .before .before .before .before .before .before .before .before
-    .before .args in
+    let after-move-to : tie.After-move-to = search in
+    let after-loaded-from : tie.After-loaded-from = search in
+    let else1 : tie.Else1 = search in
+    let after-is-loadable : tie.After-is-loadable = search in
+    let start : tie.Start = search in
+    let a = start .args in
     rw (
       c .next .ensures,
-      c .before .before .before .move-to .ensures,
-      c .before .before .before .before .before
-          .loaded-from .ensures (a .lowest) rows,
+      after-move-to .move-to .ensures,
+      after-loaded-from .loaded-from .ensures (a .lowest) rows,
     )
     (loads-of (claimWith (a .memory .now) (a .kinds .now) (a .lowest) (a .watched .now) rows) (a .pc) (a .r)
     (a .a) (stateOf (a .t .now))
-    (sym (c .before .before .before .before .before .before .before .before .is-loadable .ensures
-    (a .watched .now) rows) ∙ not-false (c .before .before .before .before .before .before .before .before
-    .is-loadable .result) (c .before .before .before .before .before .before .before .if1 .left)))
+    (sym (after-is-loadable .is-loadable .ensures
+    (a .watched .now) rows) ∙ not-false (after-is-loadable .is-loadable .result) (else1 .if1 .left)))
 
 pub loads-at-spec : {M : Type 1} → statement M
 loads-at-spec =

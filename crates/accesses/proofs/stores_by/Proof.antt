@@ -12,28 +12,32 @@ use Rattle.accesses.proofs.stores_by.Tie as tie
 
 returns : tie.Need-returns
 returns c = λ rows.
-    let a = c .before .before .before .before .before .before .before .before .before .before .before .args in
-    let known = c .before .before .before .before .before .before .before .before .before .before .before .fits .n in
+    let after-offset : tie.After-offset = search in
+    let after-low-word : tie.After-low-word = search in
+    let start : tie.Start = search in
+    let a = start .args in
+    let known = start .fits .n in
     let e : toZ w16 (ofZ w16 (a .n)) ≡ a .n = search needs in
     c .before .before .stores-at .ensures rows
     ∙ rw (
-      c .before .before .before .before .offset .ensures,
-      c .before .before .before .before .before .low-word
-          .ensures,
+      after-offset .offset .ensures,
+      after-low-word .low-word .ensures,
       e,
     ) (stores-by-is (claimWith (a .memory .now) (a .kinds .now) (a .lowest) (a .watched .now) rows)
     (a .pc) (valueOf (a .v)) (a .n) (stateOf (a .t .now)) (a .b) (omega arith))
 
 returns-2 : tie.Need-returns-2
 returns-2 c = λ rows.
-    let a = c .before .before .before .before .before .before .args in
+    let start : tie.Start = search in
+    let a = start .args in
     stores-by-no (claimWith (a .memory .now) (a .kinds .now) (a .lowest) (a .watched .now) rows) (a .pc) (valueOf
     (a .v)) (a .n) (stateOf (a .t .now)) (a .b) (λ e. omega arith) (omega arith)
 
 returns-3 : tie.Need-returns-3
 returns-3 c = λ rows.
-    let a = c .before .before .before .before .before .before .before .before .args in
-    let known = c .before .before .before .before .before .before .before .before .fits .n in
+    let start : tie.Start = search in
+    let a = start .args in
+    let known = start .fits .n in
     let e : toZ w16 (ofZ w16 (a .n)) ≡ a .n = search needs in
     let h : c .before .word-of .result ≡ bits 32768 (a .n) = rw e at (c .before .word-of .ensures) in
     stores-by-offset (claimWith (a .memory .now) (a .kinds .now) (a .lowest) (a .watched .now) rows) (a .pc)
@@ -41,8 +45,9 @@ returns-3 c = λ rows.
 
 returns-4 : tie.Need-returns-4
 returns-4 c = λ rows.
-    let a = c .before .before .before .before .before .before .before .before .before .args in
-    let known = c .before .before .before .before .before .before .before .before .before .fits .n in
+    let start : tie.Start = search in
+    let a = start .args in
+    let known = start .fits .n in
     let e : toZ w16 (ofZ w16 (a .n)) ≡ a .n = search needs in
     let h : c .before .before .word-of .result ≡ bits 32768 (a .n) = rw e at (c .before .before .word-of .ensures) in
     rw (c .next .ensures) (stores-by-user (claimWith (a .memory .now) (a .kinds .now) (a .lowest)

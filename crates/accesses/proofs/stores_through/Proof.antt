@@ -10,7 +10,8 @@ use Rattle.accesses.proofs.stores_through.Tie as tie
 
 returns : tie.Need-returns
 returns c = λ rows.
-    let a = c .before .before .before .before .before .before .args in
+    let start : tie.Start = search in
+    let a = start .args in
     stores-through-no (claimWith (a .memory .now) (a .kinds .now) (a .lowest) (a .watched .now) rows) (a .pc)
     (valueOf (a .v)) (stateOf (a .t .now)) _ (c .before .kind-at .result) (getD (a .memory .now) (a .a) 0)
     (c .before .kind-at .ensures)
@@ -18,12 +19,15 @@ returns c = λ rows.
 
 returns-2 : tie.Need-returns-2
 returns-2 c = λ rows.
-    let a = c .before .before .before .before .before .before .before .before .before .before .before .args in
+    let after-word-at : tie.After-word-at = search in
+    let after-kind-at : tie.After-kind-at = search in
+    let start : tie.Start = search in
+    let a = start .args in
     c .before .before .stores-at .ensures rows
-    ∙ rw (c .before .before .before .before .word-at .ensures) (stores-through-of (claimWith (a .memory .now)
+    ∙ rw (after-word-at .word-at .ensures) (stores-through-of (claimWith (a .memory .now)
     (a .kinds .now) (a .lowest) (a .watched .now) rows) (a .pc) (valueOf (a .v)) (stateOf (a .t .now)) _
-    (c .before .before .before .before .before .before .kind-at .result) (getD (a .memory .now) (a .a) 0)
-    (c .before .before .before .before .before .before .kind-at .ensures) (omega arith))
+    (after-kind-at .kind-at .result) (getD (a .memory .now) (a .a) 0)
+    (after-kind-at .kind-at .ensures) (omega arith))
 
 pub stores-through-spec : {M : Type 1} → statement M
 stores-through-spec =

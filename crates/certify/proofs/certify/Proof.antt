@@ -9,24 +9,31 @@ use Rattle.certify.proofs.certify.Statement.{statement}
 use Rattle.certify.proofs.certify.Tie as tie
 
 returns : tie.Need-returns
-returns c = let a = c .before .before .before .before .before .before .before .args in
-    c .wrong .ensures ∙ wrong-watched (a .memory .now) (a .kinds .now) (a .lowest) (a .watched .now) (a .ends .now) (a
-    .table .now) (λ e. omega arith)
+returns c =
+    let start : tie.Start = search in
+    let a = start .args in
+    c .wrong .ensures ∙ wrong-watched (a .memory .now) (a .kinds .now) (a .lowest) (a .watched .now) (a .ends .now)
+    (a .table .now) (λ e. omega arith)
 
 returns-2 : tie.Need-returns-2
-returns-2 c = let a = c .before .before .before .before .before .before .before .before .before .args in
+returns-2 c =
+    let start : tie.Start = search in
+    let a = start .args in
     c .wrong2 .ensures
-    ∙ wrong-room (a .memory .now) (a .kinds .now) (a .lowest) (a .watched .now) (a .ends .now) (a .table .now) (omega
-    arith)
+    ∙ wrong-room (a .memory .now) (a .kinds .now) (a .lowest) (a .watched .now) (a .ends .now) (a .table .now)
+    (omega arith)
     (sym (c .before .before .has-room .ensures .0 (a .watched .now) (rowsOf (a .table .now) 0 (a .ends .now))) ∙
     not-true (c .before .before .has-room .result) (c .before .if2 .taken))
 
 returns-3 : tie.Need-returns-3
-returns-3 c = let a = c .before .before .before .before .before .before .before .before .before .before .args in
-    vectors-wrong (a .memory .now) (a .kinds .now) (a .lowest) (a .watched .now) (a .ends .now) (a .table .now) (omega
-    arith)
-    (sym (c .before .before .before .has-room .ensures .0 (a .watched .now) (rowsOf (a .table .now) 0 (a .ends .now)))
-    ∙ not-false (c .before .before .before .has-room .result) (c .before .before .if2 .left))
+returns-3 c =
+    let after-has-room : tie.After-has-room = search in
+    let start : tie.Start = search in
+    let a = start .args in
+    vectors-wrong (a .memory .now) (a .kinds .now) (a .lowest) (a .watched .now) (a .ends .now) (a .table .now)
+    (omega arith)
+    (sym (after-has-room .has-room .ensures .0 (a .watched .now) (rowsOf (a .table .now) 0 (a .ends .now)))
+    ∙ not-false (after-has-room .has-room .result) (c .before .before .if2 .left))
     (c .before .wrong-vectors .result) (c .before .wrong-vectors .ensures (a .lowest) (a .watched .now) (omega arith))
     (λ e. omega arith)
 
@@ -38,14 +45,18 @@ wrong-in-rows-requires c κs = (
 )
 
 returns-4 : tie.Need-returns-4
-returns-4 c = let a = c .before .before .before .before .before .before .before .before .before .before .before .args in
+returns-4 c =
+    let else2 : tie.Else2 = search in
+    let after-has-room : tie.After-has-room = search in
+    let start : tie.Start = search in
+    let a = start .args in
     c .wrong-in-rows .ensures
-    ∙ rows-left (a .memory .now) (a .kinds .now) (a .lowest) (a .watched .now) (a .ends .now) (a .table .now) (omega
-    arith)
-    (sym (c .before .before .before .before .has-room .ensures .0 (a .watched .now) (rowsOf (a .table .now) 0 (a .ends
-    .now))) ∙ not-false (c .before .before .before .before .has-room .result) (c .before .before .before .if2 .left))
-    (c .before .before .wrong-vectors .result) (c .before .before .wrong-vectors .ensures (a .lowest) (a .watched
-    .now) (omega arith))
+    ∙ rows-left (a .memory .now) (a .kinds .now) (a .lowest) (a .watched .now) (a .ends .now) (a .table .now)
+    (omega arith)
+    (sym (after-has-room .has-room .ensures .0 (a .watched .now) (rowsOf (a .table .now) 0 (a .ends .now))) ∙ not-false
+    (after-has-room .has-room .result) (else2 .if2 .left))
+    (c .before .before .wrong-vectors .result) (c .before .before .wrong-vectors .ensures (a .lowest) (a .watched .now)
+    (omega arith))
     (omega arith)
 
 pub certify-spec : {M : Type 1} → statement M

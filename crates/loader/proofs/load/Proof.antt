@@ -16,17 +16,21 @@ returns c =
 
 load-accepted-requires : tie.Need-load-accepted-requires
 load-accepted-requires c κs =
-    let a = c .before .before .before .before .before .before .args in
+    let start : tie.Start = search in
+    let a = start .args in
     accepted-is-readable (a .file .now) (a .memory .now)
     (sym (c .before .before .load-refusal .ensures) ∙ c .before .if1 .left)
 
 returns-2 : tie.Need-returns-2
 unfolding loadOf loadBy
 returns-2 c =
-    let a = c .before .before .before .before .before .before .before .before .before .args in
+    let else1 : tie.Else1 = search in
+    let after-load-refusal : tie.After-load-refusal = search in
+    let start : tie.Start = search in
+    let a = start .args in
     let accepted : loadRefusal (a .file .now) (a .memory .now)
-    ≡ 0 = (sym (c .before .before .before .before .before .load-refusal .ensures)
-    ∙ c .before .before .before .before .if1 .left) in
+    ≡ 0 = (sym (after-load-refusal .load-refusal .ensures)
+    ∙ else1 .if1 .left) in
     rw accepted (c .before .before .load-accepted .ensures)
 
 pub load-spec : {M : Type 1} → statement M

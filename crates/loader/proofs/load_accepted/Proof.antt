@@ -7,9 +7,11 @@ use Rattle.loader.proofs.load_accepted.Tie as tie
 
 returns : tie.Need-returns
 returns c =
-    let a = c .before .before .before .before .before .before .before .before .before .before .args in
+    let after-word : tie.After-word = search in
+    let start : tie.Start = search in
+    let a = start .args in
     words-in-place (a .file .now) (a .memory .now) (c .before .before .read-words .last .1 .0)
-    (c .before .before .before .before .before .word .result) (c .before .before .before .before .before .word .ensures)
+    (after-word .word .result) (after-word .word .ensures)
     (c .before .before .read-words .ensures)
 
 pub load-accepted-spec : {M : Type 1} → statement M

@@ -16,17 +16,21 @@ returns c =
 
 save-accepted-requires : tie.Need-save-accepted-requires
 save-accepted-requires c κs =
-    let a = c .before .before .before .before .before .before .args in
+    let start : tie.Start = search in
+    let a = start .args in
     accepted-is-writable (a .memory .now) (a .origin) (a .words) (a .output .now)
     (sym (c .before .before .save-refusal .ensures) ∙ c .before .if1 .left)
 
 returns-2 : tie.Need-returns-2
 unfolding saveOf saveAccepted
 returns-2 c =
-    let a = c .before .before .before .before .before .before .before .before .before .args in
+    let else1 : tie.Else1 = search in
+    let after-save-refusal : tie.After-save-refusal = search in
+    let start : tie.Start = search in
+    let a = start .args in
     let accepted : saveRefusal (a .memory .now) (a .origin) (a .words) (a .output .now)
-    ≡ 0 = (sym (c .before .before .before .before .before .save-refusal .ensures)
-    ∙ c .before .before .before .before .if1 .left) in
+    ≡ 0 = (sym (after-save-refusal .save-refusal .ensures)
+    ∙ else1 .if1 .left) in
     rw accepted (c .before .before .save-accepted .ensures)
 
 pub save-spec : {M : Type 1} → statement M

@@ -12,24 +12,30 @@ slice-write-output-2 c =
 
 same-length : tie.Need-same-length
 same-length c =
-    let a = c .before .before .before .before .before .before .before .before .before .args in
+    let after-low : tie.After-low = search in
+    let after-high : tie.After-high = search in
+    let start : tie.Start = search in
+    let a = start .args in
     rw (
-      c .before .before .before .before .before .before .high .ensures,
-      c .before .before .before .before .before .low .ensures,
+      after-high .high .ensures,
+      after-low .low .ensures,
     )
     (same-length-out (a .memory .now) (a .output .now) (c .before .before .write-words .last .1 .0) (a .origin)
-    (a .words) (c .before .before .before .before .before .before .before .before .before .pre)
+    (a .words) (start .pre)
     (c .before .before .write-words .ensures))
 
 returns : tie.Need-returns
 returns c =
-    let a = c .before .before .before .before .before .before .before .before .before .args in
+    let after-low : tie.After-low = search in
+    let after-high : tie.After-high = search in
+    let start : tie.Start = search in
+    let a = start .args in
     rw (
-      c .before .before .before .before .before .before .high .ensures,
-      c .before .before .before .before .before .low .ensures,
+      after-high .high .ensures,
+      after-low .low .ensures,
     )
     (file-in-place (a .memory .now) (a .output .now) (c .before .before .write-words .last .1 .0) (a .origin) (a .words)
-    (c .before .before .before .before .before .before .before .before .before .pre)
+    (start .pre)
     (c .before .before .write-words .ensures))
 
 pub save-accepted-spec : {M : Type 1} → statement M

@@ -11,9 +11,12 @@ use Rattle.logger.proofs.run_logged.Tie as tie
 
 run-accepted-requires : tie.Need-run-accepted-requires
 run-accepted-requires c κs =
-    let enum-told = c .before .before .before .enum-told in
-    let admission = c .before .before .before .before .before .admission in
-    let a = c .before .before .before .before .before .before .before .before .before .before .before .before .args in
+    let after-enum-told : tie.After-enum-told = search in
+    let after-admission : tie.After-admission = search in
+    let start : tie.Start = search in
+    let enum-told = after-enum-told .enum-told in
+    let admission = after-admission .admission in
+    let a = start .args in
     let k = accepted-is-acceptable (startOf (a .m) (a .memory .now) (a .times .now) (a .bytes .now) (a .output .now))
     (a .n) (sym (admission .ensures (a .output .now)) ∙ enum-told .given .1) in
     (k .size, (k .equal, k .clock))
@@ -21,20 +24,24 @@ run-accepted-requires c κs =
 returns : tie.Need-returns
 unfolding loggedCallOf loggedAdmitted
 returns c =
-    let run-accepted = c .before .before .before .before .before .before .run-accepted in
-    let enum-told = c .before .before .before .before .before .before .before .before .before .before .enum-told in
-    let admission = c .before .before .before .before .before .before .before .before .before .before .before .before
-    .admission in
-    let a = c .before .before .before .before .before .before .before .before .before .before .before .before .before
-    .before .before .before .before .before .before .args in
+    let after-run-accepted : tie.After-run-accepted = search in
+    let after-enum-told : tie.After-enum-told = search in
+    let after-admission : tie.After-admission = search in
+    let start : tie.Start = search in
+    let run-accepted = after-run-accepted .run-accepted in
+    let enum-told = after-enum-told .enum-told in
+    let admission = after-admission .admission in
+    let a = start .args in
     rw (← admission .ensures (a .output .now), enum-told .given .1) (run-accepted .ensures)
 
 returns-2 : tie.Need-returns-2
 unfolding loggedCallOf loggedAdmitted begin
 returns-2 c =
+    let after-admission : tie.After-admission = search in
+    let start : tie.Start = search in
     let admission2 = c .before .before .admission2 in
-    let admission = c .before .before .before .before .admission in
-    let a = c .before .before .before .before .before .before .before .before .before .before .before .args in
+    let admission = after-admission .admission in
+    let a = start .args in
     rw (← admission .ensures (a .output .now), admission2 .given .1, c .refused .ensures) refl
 
 pub run-logged-spec : {M : Type 1} → statement M

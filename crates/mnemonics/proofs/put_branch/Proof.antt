@@ -41,45 +41,43 @@ same s = ap (λ (z : ℤ). length (signedNumber z ++ lineFeed ∷ [])) (toZ-ofZ 
 
 put-text-requires : tie.Need-put-text-requires
 put-text-requires c κs =
-    let s = c .before .before .before in
+    let s : tie.Start = search in
     let room = fits s in
     omega arith
 
 put-code-requires : tie.Need-put-code-requires
 put-code-requires c κs =
-    let s = c .before .before .before .before .before .before .before in
+    let s : tie.Start = search in
     let room = fits s in
     omega arith
 
 put-code-requires-2 : tie.Need-put-code-requires-2
 put-code-requires-2 c κs =
-    let s = c .before .before .before .before .before .before .before .before .before .before .before in
+    let s : tie.Start = search in
     let room = fits s in
     omega arith
 
 put-code-requires-3 : tie.Need-put-code-requires-3
 put-code-requires-3 c κs =
-    let s = c .before .before .before .before .before .before .before .before .before .before .before .before .before
-    .before .before in
+    let s : tie.Start = search in
     let room = fits s in
     omega arith
 
 put-last-number-requires : tie.Need-put-last-number-requires
 put-last-number-requires c κs =
-    let s = c .before .before .before .before .before .before .before .before .before .before .before .before .before
-    .before .before .before .before .before .before .before in
+    let s : tie.Start = search in
     let room = fits s in
     let passed = same s in
     omega arith
 
 returns : tie.Need-returns
 returns c =
-    let c5 = c .before .before in
-    let c4 = c5 .before .before .before .before .before in
-    let c3 = c4 .before .before .before .before in
-    let c2 = c3 .before .before .before .before in
-    let c1 = c2 .before .before .before .before in
-    let s = c1 .before .before .before .before in
+    let c5 : tie.After-put-last-number = search in
+    let c4 : tie.After-put-code3 = search in
+    let c3 : tie.After-put-code2 = search in
+    let c2 : tie.After-put-code = search in
+    let c1 : tie.After-put-text = search in
+    let s : tie.Start = search in
     let room = fits s in
     let passed = same s in
     then (c1 .put-text .ensures) (then

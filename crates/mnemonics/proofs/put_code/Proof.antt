@@ -11,8 +11,10 @@ put-requires c κs = rw (eq-eqb (c .before .before .before .args .bit) 1 (c .bef
 
 returns : tie.Need-returns
 returns c =
-    rw (eq-eqb (c .before .before .before .before .before .before .args .bit) 1
-    (c .before .before .before .before .if1 .taken))
+    let then1 : tie.Then1 = search in
+    let start : tie.Start = search in
+    rw (eq-eqb (start .args .bit) 1
+    (then1 .if1 .taken))
     (c .before .before .put .ensures)
 
 returns-2 : tie.Need-returns-2

@@ -7,10 +7,10 @@ use Rattle.mnemonics.proofs.put_fill.Tie as tie
 
 returns : tie.Need-returns
 returns c =
-    let c4 = c .before .before in
-    let c3 = c4 .before .before .before .before in
-    let c2 = c3 .before .before .before .before in
-    let c1 = c2 .before .before .before .before in
+    let c4 : tie.After-put = search in
+    let c3 : tie.After-put-hex2 = search in
+    let c2 : tie.After-put-hex = search in
+    let c1 : tie.After-put-text = search in
     then (c1 .put-text .ensures) (then (c2 .put-hex .ensures)
     (then (c3 .put-hex2 .ensures) (c4 .put .ensures) (omega arith)) (omega arith)) (omega arith)
 

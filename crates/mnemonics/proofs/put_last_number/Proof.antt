@@ -31,30 +31,30 @@ same s = ap (λ (z : ℤ). length (signedNumber z)) (toZ-ofZ (s .fits .n))
 
 put-text-requires : tie.Need-put-text-requires
 put-text-requires c κs =
-    let s = c .before .before .before in
+    let s : tie.Start = search in
     let room = fits s in
     omega arith
 
 put-number-requires : tie.Need-put-number-requires
 put-number-requires c κs =
-    let s = c .before .before .before .before .before .before .before in
+    let s : tie.Start = search in
     let room = fits s in
     let passed = same s in
     omega arith
 
 put-requires : tie.Need-put-requires
 put-requires c κs =
-    let s = c .before .before .before .before .before .before .before .before .before .before .before in
+    let s : tie.Start = search in
     let room = fits s in
     let passed = same s in
     omega arith
 
 returns : tie.Need-returns
 returns c =
-    let c3 = c .before .before in
-    let c2 = c3 .before .before .before .before in
-    let c1 = c2 .before .before .before .before in
-    let s = c1 .before .before .before .before in
+    let c3 : tie.After-put = search in
+    let c2 : tie.After-put-number = search in
+    let c1 : tie.After-put-text = search in
+    let s : tie.Start = search in
     let room = fits s in
     let passed = same s in
     then (c1 .put-text .ensures) (then (rw (toZ-ofZ (s .fits .n)) at (c2 .put-number .ensures)) (c3 .put .ensures)

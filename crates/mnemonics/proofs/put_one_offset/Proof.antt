@@ -34,29 +34,29 @@ same s = ap (λ (z : ℤ). length (signedNumber z ++ lineFeed ∷ [])) (toZ-ofZ 
 
 put-text-requires : tie.Need-put-text-requires
 put-text-requires c κs =
-    let s = c .before .before .before in
+    let s : tie.Start = search in
     let room = fits s in
     omega arith
 
 put-operand-requires : tie.Need-put-operand-requires
 put-operand-requires c κs =
-    let s = c .before .before .before .before .before .before .before .before in
+    let s : tie.Start = search in
     let room = fits s in
     (s .pre .0, omega arith)
 
 put-last-number-requires : tie.Need-put-last-number-requires
 put-last-number-requires c κs =
-    let s = c .before .before .before .before .before .before .before .before .before .before .before .before .before in
+    let s : tie.Start = search in
     let room = fits s in
     let passed = same s in
     omega arith
 
 returns : tie.Need-returns
 returns c =
-    let c3 = c .before .before in
-    let c2 = c3 .before .before .before .before .before in
-    let c1 = c2 .before .before .before .before .before in
-    let s = c1 .before .before .before .before in
+    let c3 : tie.After-put-last-number = search in
+    let c2 : tie.After-put-operand = search in
+    let c1 : tie.After-put-text = search in
+    let s : tie.Start = search in
     let room = fits s in
     let passed = same s in
     then (c1 .put-text .ensures) (then (c2 .put-operand .ensures)

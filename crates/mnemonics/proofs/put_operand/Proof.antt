@@ -15,21 +15,21 @@ fits s = omega (arith, s .pre .1, length-append (s .args .separator .now) (regis
 
 put-text-requires : tie.Need-put-text-requires
 put-text-requires c κs =
-    let s = c .before .before .before in
+    let s : tie.Start = search in
     let room = fits s in
     omega arith
 
 put-register-requires : tie.Need-put-register-requires
 put-register-requires c κs =
-    let s = c .before .before .before .before .before .before .before in
+    let s : tie.Start = search in
     let room = fits s in
     (s .pre .0, omega arith)
 
 returns : tie.Need-returns
 returns c =
-    let c2 = c .before .before in
-    let c1 = c2 .before .before .before .before in
-    let s = c1 .before .before .before .before in
+    let c2 : tie.After-put-register = search in
+    let c1 : tie.After-put-text = search in
+    let s : tie.Start = search in
     let room = fits s in
     then (c1 .put-text .ensures) (c2 .put-register .ensures) (omega arith)
 

@@ -25,44 +25,42 @@ fits s = omega (
 
 put-text-requires : tie.Need-put-text-requires
 put-text-requires c κs =
-    let s = c .before .before .before in
+    let s : tie.Start = search in
     let room = fits s in
     omega arith
 
 put-operand-requires : tie.Need-put-operand-requires
 put-operand-requires c κs =
-    let s = c .before .before .before .before .before .before .before .before in
+    let s : tie.Start = search in
     let room = fits s in
     (s .pre .0, omega arith)
 
 put-operand-requires-2 : tie.Need-put-operand-requires-2
 put-operand-requires-2 c κs =
-    let s = c .before .before .before .before .before .before .before .before .before .before .before .before .before in
+    let s : tie.Start = search in
     let room = fits s in
     (s .pre .1, omega arith)
 
 put-operand-requires-3 : tie.Need-put-operand-requires-3
 put-operand-requires-3 c κs =
-    let s = c .before .before .before .before .before .before .before .before .before .before .before .before .before
-    .before .before .before .before .before in
+    let s : tie.Start = search in
     let room = fits s in
     (s .pre .2, omega arith)
 
 put-requires : tie.Need-put-requires
 put-requires c κs =
-    let s = c .before .before .before .before .before .before .before .before .before .before .before .before .before
-    .before .before .before .before .before .before .before .before .before in
+    let s : tie.Start = search in
     let room = fits s in
     omega arith
 
 returns : tie.Need-returns
 returns c =
-    let c5 = c .before .before in
-    let c4 = c5 .before .before .before .before in
-    let c3 = c4 .before .before .before .before .before in
-    let c2 = c3 .before .before .before .before .before in
-    let c1 = c2 .before .before .before .before .before in
-    let s = c1 .before .before .before .before in
+    let c5 : tie.After-put = search in
+    let c4 : tie.After-put-operand3 = search in
+    let c3 : tie.After-put-operand2 = search in
+    let c2 : tie.After-put-operand = search in
+    let c1 : tie.After-put-text = search in
+    let s : tie.Start = search in
     let room = fits s in
     then (c1 .put-text .ensures)
     (then (c2 .put-operand .ensures)

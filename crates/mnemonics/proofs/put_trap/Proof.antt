@@ -7,9 +7,9 @@ use Rattle.mnemonics.proofs.put_trap.Tie as tie
 
 returns : tie.Need-returns
 returns c =
-    let c3 = c .before .before in
-    let c2 = c3 .before .before .before .before in
-    let c1 = c2 .before .before .before .before in
+    let c3 : tie.After-put = search in
+    let c2 : tie.After-put-hex = search in
+    let c1 : tie.After-put-text = search in
     then (c1 .put-text .ensures) (then (c2 .put-hex .ensures) (c3 .put .ensures) (omega arith)) (omega arith)
 
 pub put-trap-spec : {M : Type 1} → statement M

@@ -18,17 +18,20 @@ returns c =
 returns-2 : tie.Need-returns-2
 unfolding admissionOf wrongSize tooManySteps unequalLists
 returns-2 c =
+    let start : tie.Start = search in
     λ output.
-    let a = c .before .before .before .before .before .before .args in
+    let a = start .args in
     rw (eq-eqb _ _ (c .before .before .if1 .left), ← c .before .undefined-record .ensures, c .if2 .taken)
 
 returns-3 : tie.Need-returns-3
 unfolding admissionOf wrongSize tooManySteps unequalLists
 returns-3 c =
+    let else1 : tie.Else1 = search in
+    let start : tie.Start = search in
     λ output.
-    let a = c .before .before .before .before .before .before .before .args in
+    let a = start .args in
     rw (
-      eq-eqb _ _ (c .before .before .before .if1 .left),
+      eq-eqb _ _ (else1 .if1 .left),
       ← c .before .before .undefined-record .ensures,
       c .before .if2 .left,
       lt-ltb 1048576 (a .n) (c .if3 .taken),
@@ -37,12 +40,16 @@ returns-3 c =
 returns-4 : tie.Need-returns-4
 unfolding admissionOf wrongSize tooManySteps unequalLists
 returns-4 c =
+    let else2 : tie.Else2 = search in
+    let after-undefined-record : tie.After-undefined-record = search in
+    let else1 : tie.Else1 = search in
+    let start : tie.Start = search in
     λ output.
-    let a = c .before .before .before .before .before .before .before .before .before .args in
+    let a = start .args in
     rw (
-      eq-eqb _ _ (c .before .before .before .before .before .if1 .left),
-      ← c .before .before .before .before .undefined-record .ensures,
-      c .before .before .before .if2 .left,
+      eq-eqb _ _ (else1 .if1 .left),
+      ← after-undefined-record .undefined-record .ensures,
+      else2 .if2 .left,
       le-ltb 1048576
           (a .n) (c .before .before .if3 .left),
       lt-ltb (2 ^ 48) (a .m .clock + a .n)
@@ -52,15 +59,20 @@ returns-4 c =
 returns-5 : tie.Need-returns-5
 unfolding admissionOf wrongSize tooManySteps unequalLists
 returns-5 c =
+    let else3 : tie.Else3 = search in
+    let else2 : tie.Else2 = search in
+    let after-undefined-record : tie.After-undefined-record = search in
+    let else1 : tie.Else1 = search in
+    let start : tie.Start = search in
     λ output.
-    let a = c .before .before .before .before .before .before .before .before .before .before .args in
+    let a = start .args in
     rw (
-      eq-eqb _ _ (c .before .before .before .before .before .before .if1 .left),
-      ← c .before .before .before .before .before .undefined-record .ensures,
-      c .before .before .before .before .if2 .left,
-      le-ltb 1048576 (a .n) (c .before .before .before .if3 .left),
+      eq-eqb _ _ (else1 .if1 .left),
+      ← after-undefined-record .undefined-record .ensures,
+      else2 .if2 .left,
+      le-ltb 1048576 (a .n) (else3 .if3 .left),
       le-ltb
-          (2 ^ 48) (a .m .clock + a .n) (omega (arith, c .before .before .before .if3 .left, c .before .if4 .left)),
+          (2 ^ 48) (a .m .clock + a .n) (omega (arith, else3 .if3 .left, c .before .if4 .left)),
       ne-eqb _
           _ (c .if5 .taken),
     )

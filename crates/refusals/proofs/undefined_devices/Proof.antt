@@ -27,9 +27,11 @@ returns-3 c =
 returns-4 : tie.Need-returns-4
 unfolding undefinedDevices
 returns-4 c =
+    let else2 : tie.Else2 = search in
+    let else1 : tie.Else1 = search in
     rw (
-      eq-eqb _ _ (c .before .before .before .before .before .before .if1 .left),
-      lt-leb _ _ (c .before .before .before .before .if2 .left),
+      eq-eqb _ _ (else1 .if1 .left),
+      lt-leb _ _ (else2 .if2 .left),
       eq-eqb _ _ (c .before .before .if3 .left),
       lt-ltb _ _ (c .if4 .taken),
     )
@@ -37,10 +39,13 @@ returns-4 c =
 returns-5 : tie.Need-returns-5
 unfolding undefinedDevices
 returns-5 c =
+    let else3 : tie.Else3 = search in
+    let else2 : tie.Else2 = search in
+    let else1 : tie.Else1 = search in
     rw (
-      eq-eqb _ _ (c .before .before .before .before .before .before .before .if1 .left),
-      lt-leb _ _ (c .before .before .before .before .before .if2 .left),
-      eq-eqb _ _ (c .before .before .before .if3 .left),
+      eq-eqb _ _ (else1 .if1 .left),
+      lt-leb _ _ (else2 .if2 .left),
+      eq-eqb _ _ (else3 .if3 .left),
       le-ltb _ _ (c .before .if4 .left),
       c .undefined-timer .ensures,
     )

@@ -23,9 +23,10 @@ returns-2 c =
 returns-3 : tie.Need-returns-3
 unfolding undefinedRecord
 returns-3 c =
+    let else1 : tie.Else1 = search in
+    let after-defined-psr : tie.After-defined-psr = search in
     rw (
-      eq-eqb _ _ (rw (c .before .before .before .before .before .before .defined-psr .ensures) at
-          (c .before .before .before .before .if1 .left)),
+      eq-eqb _ _ (rw (after-defined-psr .defined-psr .ensures) at (else1 .if1 .left)),
       sym (c .before .before .undefined-devices .ensures) ∙ c .before .if2 .left,
     )
 

@@ -9,30 +9,37 @@ use Rattle.single.proofs.step.Tie as tie
 
 step-accepted-requires : tie.Need-step-accepted-requires
 step-accepted-requires c κs =
-    let a = c .before .before .before .before .before .before .before .before .before .before .args in
+    let after-admission : tie.After-admission = search in
+    let start : tie.Start = search in
+    let a = start .args in
     let k = accepted-is-acceptable (startOf (a .m) (a .memory .now) (a .times .now) (a .bytes .now) (a .output .now)) 1
-    (sym (c .before .before .before .before .admission .ensures (a .output .now))
+    (sym (after-admission .admission .ensures (a .output .now))
     ∙ c .before .before .enum-told .given .1) in
     (k .size, (k .equal, k .clock))
 
 returns : tie.Need-returns
 unfolding callBy admittedBy
 returns c =
-    let a = c .before .before .before .before .before .before .before .before .before .before .before .before .before
-    .before .before .args in
+    let after-step-accepted : tie.After-step-accepted = search in
+    let after-enum-told : tie.After-enum-told = search in
+    let after-admission : tie.After-admission = search in
+    let start : tie.Start = search in
+    let a = start .args in
     rw (
-      ← c .before .before .before .before .before .before .before .before .before .admission .ensures
+      ← after-admission .admission .ensures
           (a .output .now),
-      c .before .before .before .before .before .before .before .enum-told .given .1,
+      after-enum-told .enum-told .given .1,
     )
-    (c .before .before .before .before .step-accepted .ensures)
+    (after-step-accepted .step-accepted .ensures)
 
 returns-2 : tie.Need-returns-2
 unfolding callBy admittedBy
 returns-2 c =
-    let a = c .before .before .before .before .before .before .before .before .before .before .args in
+    let after-admission : tie.After-admission = search in
+    let start : tie.Start = search in
+    let a = start .args in
     rw (
-      ← c .before .before .before .before .admission .ensures (a .output .now),
+      ← after-admission .admission .ensures (a .output .now),
       c .before .before .admission2 .given .1,
     )
     (c .refused .ensures (a .memory .now) (a .times .now) (a .bytes .now) (a .output .now))

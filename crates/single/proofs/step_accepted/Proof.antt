@@ -16,10 +16,10 @@ use Rattle.single.proofs.step_accepted.Tie as tie
 -- ---- the places, by their types
 
 abbrev start-of : tie.After-advance → tie.Start
-start-of c = c .before .before .before .before .before .before .before .before .before .before .before .before
+start-of c = search
 
 abbrev advanced : tie.After-slice-known4 → tie.After-advance
-advanced c = c .before .before .before .before
+advanced c = search
 
 -- What the call is handed.
 abbrev handed : tie.Start → Start
@@ -28,7 +28,9 @@ handed c =
 
 -- The machine is not halted.
 clock-on : (c : tie.After-advance) → 0x8000 ≤ start-of c .args .m .devices .mcr
-clock-on c = c .before .before .before .before .before .before .if1 .left
+clock-on c =
+    let else1 : tie.Else1 = search in
+    else1 .if1 .left
 
 -- The step that was made is the one from the record as it was handed in.
 moved : (c : tie.After-advance)
@@ -44,14 +46,16 @@ moved c =
 
 advance-requires : tie.Need-advance-requires
 advance-requires c κs =
-    let pre = c .before .before .before .before .before .before .before .before .before .before .before .pre in
+    let start : tie.Start = search in
+    let pre = start .pre in
     (pre .0, (pre .1 .0, omega arith))
 
 returns : tie.Need-returns
 returns c =
-    let a = c .before .before .before .before .before .before .before .args in
+    let start : tie.Start = search in
+    let a = start .args in
     c .stopped .ensures (a .memory .now) (a .times .now) (a .bytes .now) (a .output .now)
-    ∙ single-halts (editionOf (a .second)) (handed (c .before .before .before .before .before .before .before))
+    ∙ single-halts (editionOf (a .second)) (handed start)
     (c .before .if1 .taken)
 
 returns-2 : tie.Need-returns-2

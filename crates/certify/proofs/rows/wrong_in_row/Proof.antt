@@ -25,28 +25,36 @@ loop-holds : tie.Need-loop-holds Inv-loop μ-loop
 loop-holds c = refl
 
 returns : tie.Need-returns Inv-loop μ-loop
-returns c = let a = c .before .before .before .before .before .before .before .before .before .args in
-    let l = c .before .before .before .loop in
+returns c =
+    let at-loop : tie.At-loop Inv-loop μ-loop = search in
+    let start : tie.Start Inv-loop μ-loop = search in
+    let a = start .args in
+    let l = at-loop .loop in
     rw (
       l .inv,
-      states-step (claimOf (a .memory .now) (a .kinds .now) (a .lowest) (a .watched .now) (a .ends .now) (a .table
-          .now)) (a .pc) (readOf (a .w)) (a .table .now) (l .k) (a .end) (omega arith),
+      states-step (claimOf (a .memory .now) (a .kinds .now) (a .lowest) (a .watched .now) (a .ends .now)
+      (a .table .now)) (a .pc) (readOf (a .w)) (a .table .now) (l .k) (a .end) (omega arith),
       ← c .before .wrong-in .ensures,
     ) (found-first (c .before .wrong-in .result) _ (λ e. omega arith))
 
 loop-again : tie.Need-loop-again Inv-loop μ-loop
-loop-again c = let a = c .before .before .before .before .before .before .before .before .before .args in
-    let l = c .before .before .before .loop in
-    l .inv ∙ (states-step (claimOf (a .memory .now) (a .kinds .now) (a .lowest) (a .watched .now) (a .ends .now) (a
-    .table .now)) (a .pc) (readOf (a .w)) (a .table .now) (l .k) (a .end) (omega arith)
+loop-again c =
+    let at-loop : tie.At-loop Inv-loop μ-loop = search in
+    let start : tie.Start Inv-loop μ-loop = search in
+    let a = start .args in
+    let l = at-loop .loop in
+    l .inv ∙ (states-step (claimOf (a .memory .now) (a .kinds .now) (a .lowest) (a .watched .now) (a .ends .now)
+    (a .table .now)) (a .pc) (readOf (a .w)) (a .table .now) (l .k) (a .end) (omega arith)
     ∙ rw (← c .before .wrong-in .ensures) (sym (found-second (c .before .wrong-in .result) _ (omega arith))))
 
 returns-2 : tie.Need-returns-2 Inv-loop μ-loop
-returns-2 c = let a = c .before .before .before .before .before .before .before .before .args in
+returns-2 c =
+    let start : tie.Start Inv-loop μ-loop = search in
+    let a = start .args in
     let l = c .before .before .loop in
     c .nothing-wrong .ensures
-    ∙ (states-end (claimOf (a .memory .now) (a .kinds .now) (a .lowest) (a .watched .now) (a .ends .now) (a .table
-    .now)) (a .pc) (readOf (a .w)) (a .table .now) (l .k) _ _ (omega arith) ∙ sym (l .inv))
+    ∙ (states-end (claimOf (a .memory .now) (a .kinds .now) (a .lowest) (a .watched .now) (a .ends .now)
+    (a .table .now)) (a .pc) (readOf (a .w)) (a .table .now) (l .k) _ _ (omega arith) ∙ sym (l .inv))
 
 pub wrong-in-row-spec : {M : Type 1} → statement M
 wrong-in-row-spec =

@@ -23,28 +23,36 @@ unfolding startOf
 loop-holds c = refl
 
 returns : tie.Need-returns Inv-loop μ-loop
-returns c = let a = c .before .before .before .before .before .before .before .before .before .args in
-    let l = c .before .before .before .loop in
+returns c =
+    let at-loop : tie.At-loop Inv-loop μ-loop = search in
+    let start : tie.Start Inv-loop μ-loop = search in
+    let a = start .args in
+    let l = at-loop .loop in
     rw (
       l .inv,
-      rows-step (claimOf (a .memory .now) (a .kinds .now) (a .lowest) (a .watched .now) (a .ends .now) (a .table
-          .now)) (a .table .now) (a .ends .now) (l .j) (omega arith),
+      rows-step (claimOf (a .memory .now) (a .kinds .now) (a .lowest) (a .watched .now) (a .ends .now) (a .table .now))
+      (a .table .now) (a .ends .now) (l .j) (omega arith),
       ← c .before .wrong-at .ensures,
     ) (found-first (c .before .wrong-at .result) _ (λ e. omega arith))
 
 loop-again : tie.Need-loop-again Inv-loop μ-loop
-loop-again c = let a = c .before .before .before .before .before .before .before .before .before .args in
-    let l = c .before .before .before .loop in
-    l .inv ∙ (rows-step (claimOf (a .memory .now) (a .kinds .now) (a .lowest) (a .watched .now) (a .ends .now) (a
-    .table .now)) (a .table .now) (a .ends .now) (l .j) (omega arith)
+loop-again c =
+    let at-loop : tie.At-loop Inv-loop μ-loop = search in
+    let start : tie.Start Inv-loop μ-loop = search in
+    let a = start .args in
+    let l = at-loop .loop in
+    l .inv ∙ (rows-step (claimOf (a .memory .now) (a .kinds .now) (a .lowest) (a .watched .now) (a .ends .now)
+    (a .table .now)) (a .table .now) (a .ends .now) (l .j) (omega arith)
     ∙ rw (← c .before .wrong-at .ensures) (sym (found-second (c .before .wrong-at .result) _ (omega arith))))
 
 returns-2 : tie.Need-returns-2 Inv-loop μ-loop
-returns-2 c = let a = c .before .before .before .before .before .before .before .before .args in
+returns-2 c =
+    let start : tie.Start Inv-loop μ-loop = search in
+    let a = start .args in
     let l = c .before .before .loop in
     c .nothing-wrong .ensures
-    ∙ (rows-end (claimOf (a .memory .now) (a .kinds .now) (a .lowest) (a .watched .now) (a .ends .now) (a .table
-    .now)) (a .table .now) (a .ends .now) _ _ (l .j) (omega arith) ∙ sym (l .inv))
+    ∙ (rows-end (claimOf (a .memory .now) (a .kinds .now) (a .lowest) (a .watched .now) (a .ends .now) (a .table .now))
+    (a .table .now) (a .ends .now) _ _ (l .j) (omega arith) ∙ sym (l .inv))
 
 pub wrong-in-rows-spec : {M : Type 1} → statement M
 wrong-in-rows-spec =

@@ -27,8 +27,10 @@ loop-holds c = (omega arith, λ lowest rows. refl)
 
 returns : tie.Need-returns Inv-loop μ-loop
 returns c = λ lowest rows.
-    let a = c .before .before .before .before .before .before .before .before .before .before .args in
-    let l = c .before .before .before .before .before .loop in
+    let at-loop : tie.At-loop Inv-loop μ-loop = search in
+    let start : tie.Start Inv-loop μ-loop = search in
+    let a = start .args in
+    let l = at-loop .loop in
     let e : c .before .is-kept .result ≡ false = not-true (c .before .is-kept .result) (c .if1 .taken) in
     sym (l .inv .1 lowest rows ∙ (kept-step (claimWith (a .memory .now) (a .kinds .now) lowest
     (a .watched .now) rows) (a .sp) (a .watched .now) (a .s .now) (l .j) (omega arith) (omega arith)
@@ -36,8 +38,11 @@ returns c = λ lowest rows.
     ∙ rw (← c .before .is-kept .ensures lowest (a .watched .now) rows, e) refl))
 
 loop-again : tie.Need-loop-again Inv-loop μ-loop
-loop-again c = let a = c .before .before .before .before .before .before .before .before .before .before .args in
-    let l = c .before .before .before .before .before .loop in
+loop-again c =
+    let at-loop : tie.At-loop Inv-loop μ-loop = search in
+    let start : tie.Start Inv-loop μ-loop = search in
+    let a = start .args in
+    let l = at-loop .loop in
     let e : c .before .is-kept .result ≡ true = not-false (c .before .is-kept .result) (c .if1 .left) in (
       omega arith,
       λ lowest rows. l .inv .1 lowest rows ∙ (kept-step (claimWith (a .memory .now)
@@ -49,7 +54,8 @@ loop-again c = let a = c .before .before .before .before .before .before .before
 
 returns-2 : tie.Need-returns-2 Inv-loop μ-loop
 returns-2 c = λ lowest rows.
-    let a = c .before .before .before .before .before .before .args in
+    let start : tie.Start Inv-loop μ-loop = search in
+    let a = start .args in
     let l = c .before .loop in
     sym (l .inv .1 lowest rows
     ∙ kept-end (claimWith (a .memory .now) (a .kinds .now) lowest (a .watched .now) rows) (a .sp)

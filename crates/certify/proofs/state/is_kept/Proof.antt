@@ -20,30 +20,38 @@ returns c = λ lowest watched rows.
 
 returns-2 : tie.Need-returns-2
 returns-2 c = λ lowest watched rows.
-    let a = c .before .before .before .before .before .before .args in
-    let s : c .before .before .before .says-all .result ≡ implies any (valueOf (a .v)) = rw value-any at
-    (c .before .before .before .says-all .ensures) in
+    let after-says-all : tie.After-says-all = search in
+    let start : tie.Start = search in
+    let a = start .args in
+    let s : after-says-all .says-all .result ≡ implies any (valueOf (a .v)) = rw value-any at (after-says-all .says-all
+    .ensures) in
     kept-own (claimWith (a .memory .now) (a .kinds .now) lowest watched rows) (a .sp) (a .w) (valueOf (a .v))
     (c .before .kind-at .result) (getD (a .memory .now) (a .w) 0) (c .before .kind-at .ensures)
     (sym s ∙ c .before .before .if1 .left) (omega arith)
 
 returns-3 : tie.Need-returns-3
 returns-3 c = λ lowest watched rows.
-    let a = c .before .before .before .before .before .before .before .args in
-    let s : c .before .before .before .before .says-all .result ≡ implies any (valueOf (a .v)) = rw value-any at
-    (c .before .before .before .before .says-all .ensures) in
+    let else1 : tie.Else1 = search in
+    let after-says-all : tie.After-says-all = search in
+    let start : tie.Start = search in
+    let a = start .args in
+    let s : after-says-all .says-all .result ≡ implies any (valueOf (a .v)) = rw value-any at (after-says-all .says-all
+    .ensures) in
     kept-below (claimWith (a .memory .now) (a .kinds .now) lowest watched rows) (a .sp) (a .w) (valueOf (a .v))
     (c .before .before .kind-at .result) (getD (a .memory .now) (a .w) 0) (c .before .before .kind-at .ensures)
-    (sym s ∙ c .before .before .before .if1 .left) (λ e. omega arith) (omega arith)
+    (sym s ∙ else1 .if1 .left) (λ e. omega arith) (omega arith)
 
 returns-4 : tie.Need-returns-4
 returns-4 c = λ lowest watched rows.
-    let a = c .before .before .before .before .before .before .before .args in
-    let s : c .before .before .before .before .says-all .result ≡ implies any (valueOf (a .v)) = rw value-any at
-    (c .before .before .before .before .says-all .ensures) in
+    let else1 : tie.Else1 = search in
+    let after-says-all : tie.After-says-all = search in
+    let start : tie.Start = search in
+    let a = start .args in
+    let s : after-says-all .says-all .result ≡ implies any (valueOf (a .v)) = rw value-any at (after-says-all .says-all
+    .ensures) in
     kept-stack (claimWith (a .memory .now) (a .kinds .now) lowest watched rows) (a .sp) (a .w) (valueOf (a .v))
     (c .before .before .kind-at .result) (getD (a .memory .now) (a .w) 0) (c .before .before .kind-at .ensures)
-    (sym s ∙ c .before .before .before .if1 .left) (λ e. omega arith) (omega arith)
+    (sym s ∙ else1 .if1 .left) (λ e. omega arith) (omega arith)
 
 pub is-kept-spec : {M : Type 1} → statement M
 is-kept-spec =

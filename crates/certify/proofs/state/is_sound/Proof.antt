@@ -10,31 +10,39 @@ use Rattle.certify.proofs.state.is_sound.Tie as tie
 
 returns : tie.Need-returns
 returns c = λ rows.
-    let a = c .before .before .before .before .before .before .args in
+    let start : tie.Start = search in
+    let a = start .args in
     rw (← c .before .register .ensures) (sound-no (claimWith (a .memory .now) (a .kinds .now) (a .lowest)
     (a .watched .now) rows) (c .before .register .result) _ (λ e. omega arith))
 
 returns-2 : tie.Need-returns-2
 returns-2 c = λ rows.
-    let a = c .before .before .before .before .before .before .before .before .args in
-    rw (← c .before .before .before .register .ensures)
+    let after-register : tie.After-register = search in
+    let start : tie.Start = search in
+    let a = start .args in
+    rw (← after-register .register .ensures)
     (sound-below (claimWith (a .memory .now) (a .kinds .now) (a .lowest) (a .watched .now) rows)
-    (c .before .before .before .register .result) _ (omega arith) (omega arith))
+    (after-register .register .result) _ (omega arith) (omega arith))
 
 returns-3 : tie.Need-returns-3
 returns-3 c = λ rows.
-    let a = c .before .before .before .before .before .before .before .before .before .args in
-    rw (← c .before .before .before .before .register .ensures)
+    let after-register : tie.After-register = search in
+    let start : tie.Start = search in
+    let a = start .args in
+    rw (← after-register .register .ensures)
     (sound-above (claimWith (a .memory .now) (a .kinds .now) (a .lowest) (a .watched .now) rows)
-    (c .before .before .before .before .register .result) _ (omega arith) (omega arith) (omega arith))
+    (after-register .register .result) _ (omega arith) (omega arith) (omega arith))
 
 returns-4 : tie.Need-returns-4
 returns-4 c = λ rows.
-    let a = c .before .before .before .before .before .before .before .before .before .before .args in
-    rw (← c .before .before .before .before .before .register .ensures, words-of (a .s .now))
-    (c .all-kept .ensures (a .lowest) rows ∙ rw (c .before .before .before .low-word .ensures)
+    let after-low-word : tie.After-low-word = search in
+    let after-register : tie.After-register = search in
+    let start : tie.Start = search in
+    let a = start .args in
+    rw (← after-register .register .ensures, words-of (a .s .now))
+    (c .all-kept .ensures (a .lowest) rows ∙ rw (after-low-word .low-word .ensures)
     (sound-kept (claimWith (a .memory .now) (a .kinds .now) (a .lowest) (a .watched .now) rows)
-    (c .before .before .before .before .before .register .result) (valuesOf (drop 9 (a .s .now)))
+    (after-register .register .result) (valuesOf (drop 9 (a .s .now)))
     (omega arith) (omega arith) (omega arith)))
 
 pub is-sound-spec : {M : Type 1} → statement M

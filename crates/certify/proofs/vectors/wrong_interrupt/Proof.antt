@@ -8,14 +8,16 @@ use Rattle.certify.proofs.vectors.wrong_interrupt.Tie as tie
 
 returns : tie.Need-returns
 returns c = λ lowest watched h.
-    let a = c .before .before .before .before .before .before .before .args in
+    let start : tie.Start = search in
+    let a = start .args in
     c .nothing-wrong .ensures
     ∙ interrupt-holds (claimOf (a .memory .now) (a .kinds .now) lowest watched (a .ends .now) (a .table .now)) (a .a)
     (sym (c .before .before .leads-back .ensures lowest watched h) ∙ c .before .if1 .taken)
 
 returns-2 : tie.Need-returns-2
 returns-2 c = λ lowest watched h.
-    let a = c .before .before .before .before .before .before .before .args in
+    let start : tie.Start = search in
+    let a = start .args in
     c .wrong .ensures
     ∙ interrupt-not (claimOf (a .memory .now) (a .kinds .now) lowest watched (a .ends .now) (a .table .now)) (a .a)
     (sym (c .before .before .leads-back .ensures lowest watched h) ∙ c .before .if1 .left)

@@ -26,20 +26,25 @@ loop-holds c = (omega arith, λ lowest watched h. refl)
 
 returns : tie.Need-returns Inv-loop μ-loop
 returns c = λ lowest watched h.
-    let a = c .before .before .before .before .before .before .before .before .before .args in
-    let l = c .before .before .before .before .loop in
+    let at-loop : tie.At-loop Inv-loop μ-loop = search in
+    let start : tie.Start Inv-loop μ-loop = search in
+    let a = start .args in
+    let l = at-loop .loop in
     c .wrong .ensures
     ∙ vectors-first (claimOf (a .memory .now) (a .kinds .now) lowest watched (a .ends .now) (a .table .now)) (l .a)
     0x0103 (omega arith) (l .inv .1 lowest watched h)
-    (sym (c .before .before .leads-in .ensures lowest watched h) ∙ not-true (c .before .before .leads-in .result) (c
-    .before .if1 .taken))
+    (sym (c .before .before .leads-in .ensures lowest watched h) ∙ not-true (c .before .before .leads-in .result)
+    (c .before .if1 .taken))
 
 loop-again : tie.Need-loop-again Inv-loop μ-loop
-loop-again c = let a = c .before .before .before .before .before .before .before .before .args in
-    let l = c .before .before .before .loop in (
+loop-again c =
+    let at-loop : tie.At-loop Inv-loop μ-loop = search in
+    let start : tie.Start Inv-loop μ-loop = search in
+    let a = start .args in
+    let l = at-loop .loop in (
       omega arith,
-      λ lowest watched h. vectors-more (claimOf (a .memory .now) (a .kinds .now) lowest watched (a .ends .now) (a
-          .table .now)) (l .a)
+      λ lowest watched h. vectors-more (claimOf (a .memory .now) (a .kinds .now) lowest watched (a .ends .now)
+      (a .table .now)) (l .a)
           (l .inv .1 lowest watched h) (sym (c .before .leads-in .ensures lowest watched h) ∙ not-false
           (c .before .leads-in .result) (c .if1 .left)),
     )

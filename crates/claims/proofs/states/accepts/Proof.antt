@@ -19,10 +19,12 @@ returns-2 c =
 
 returns-3 : tie.Need-returns-3
 returns-3 c =
-    let a = c .before .before .before .before .before .before .before .before .before .before .args in
+    let after-end-in : tie.After-end-in = search in
+    let start : tie.Start = search in
+    let a = start .args in
     c .row-covers .ensures
     ∙ accepted-of (stateOf (a .s .now)) (a .table .now) (a .ends .now) (a .pc) _ _ (omega arith) (omega arith)
-    (c .before .before .before .end-in .ensures) (omega arith)
+    (after-end-in .end-in .ensures) (omega arith)
 
 pub accepts-spec : {M : Type 1} → statement M
 accepts-spec =

@@ -34,8 +34,10 @@ loop-again c =
 
 returns : tie.Need-returns Inv-loop μ-loop
 returns c =
-    let a = c .before .before .before .before .before .before .before .before .args in
-    let l = c .before .before .before .before .before .loop in
+    let at-loop : tie.At-loop Inv-loop μ-loop = search in
+    let start : tie.Start Inv-loop μ-loop = search in
+    let a = start .args in
+    let l = at-loop .loop in
     let row = take 17 (drop (a .at) (a .table .now)) in
     let n : length (take 17 (drop (a .at) (a .table .now))) ≡ 17 = simp (length-take, length-drop) (omega arith) in
     let e : c .before .says-all .result ≡ false = not-true (c .before .says-all .result) (c .if1 .taken) in

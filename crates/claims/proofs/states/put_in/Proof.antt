@@ -7,8 +7,10 @@ use Rattle.claims.proofs.states.put_in.Tie as tie
 
 returns : tie.Need-returns
 returns c =
-    let a = c .before .before .before .before .before .before .before .args in
-    let f = c .before .before .before .forget-all in
+    let after-forget-all : tie.After-forget-all = search in
+    let start : tie.Start = search in
+    let a = start .args in
+    let f = after-forget-all .forget-all in
     put-first (a .t .now) (f .last .0) (a .r) (a .v) (c .forgotten .result) (omega (arith, f .kept .0))
     (f .ensures) (c .forgotten .ensures)
     (omega arith)

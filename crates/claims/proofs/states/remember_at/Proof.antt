@@ -18,12 +18,15 @@ loop-holds c = (omega arith, none-remembered _ _ _ _ (omega arith))
 
 loop-again : tie.Need-loop-again Inv-loop μ-loop
 loop-again c =
-    let a = c .before .before .before .before .before .before .before .before .before .args in
-    let l = c .before .before .before .before .before .before .loop in (
+    let after-wide-word : tie.After-wide-word Inv-loop μ-loop = search in
+    let at-loop : tie.At-loop Inv-loop μ-loop = search in
+    let start : tie.Start Inv-loop μ-loop = search in
+    let a = start .args in
+    let l = at-loop .loop in (
       omega arith,
       remembered-more (a .watched .now) (a .a) (a .v) (a .t .now) (l .t) (l .j) (c .pick .result) (l .inv .1)
           (omega arith)
-          (c .pick .ensures ∙ rw (c .before .before .before .wide-word .ensures, c .before .wide-word2 .ensures)
+          (c .pick .ensures ∙ rw (after-wide-word .wide-word .ensures, c .before .wide-word2 .ensures)
           refl),
     )
 

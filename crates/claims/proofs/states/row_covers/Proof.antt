@@ -24,16 +24,20 @@ loop-holds c = refl
 
 returns : tie.Need-returns Inv-loop μ-loop
 returns c =
-    let a = c .before .before .before .before .before .before .args in
-    let l = c .before .before .before .loop in
+    let at-loop : tie.At-loop Inv-loop μ-loop = search in
+    let start : tie.Start Inv-loop μ-loop = search in
+    let a = start .args in
+    let l = at-loop .loop in
     let e : c .before .covers-one .result ≡ true = c .if1 .taken in
     sym (l .inv ∙ (row-step (stateOf (a .s .now)) (a .table .now) (l .i) (a .end) (omega arith)
     ∙ rw (← c .before .covers-one .ensures, e) refl))
 
 loop-again : tie.Need-loop-again Inv-loop μ-loop
 loop-again c =
-    let a = c .before .before .before .before .before .before .args in
-    let l = c .before .before .before .loop in
+    let at-loop : tie.At-loop Inv-loop μ-loop = search in
+    let start : tie.Start Inv-loop μ-loop = search in
+    let a = start .args in
+    let l = at-loop .loop in
     let e : c .before .covers-one .result ≡ false = c .if1 .left in
     l .inv ∙ (row-step (stateOf (a .s .now)) (a .table .now) (l .i) (a .end) (omega arith)
     ∙ rw (← c .before .covers-one .ensures, e) refl)

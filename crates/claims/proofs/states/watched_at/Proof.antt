@@ -20,8 +20,10 @@ loop-holds c = (omega arith, λ k l. absurd (omega arith))
 
 returns : tie.Need-returns Inv-loop μ-loop
 returns c =
-    let a = c .before .before .before .before .before .before .before .before .args in
-    let l = c .before .before .before .before .before .loop in
+    let at-loop : tie.At-loop Inv-loop μ-loop = search in
+    let start : tie.Start Inv-loop μ-loop = search in
+    let a = start .args in
+    let l = at-loop .loop in
     watched-there (a .s .now) (a .watched .now) (a .a) (l .j) (omega arith) (omega arith) (omega arith) (l .inv .1)
     (omega arith)
 

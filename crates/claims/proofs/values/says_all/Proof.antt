@@ -23,7 +23,8 @@ returns-3 c =
 
 returns-4 : tie.Need-returns-4
 returns-4 c =
-    let a = c .before .before .before .before .before .before .before .args in
+    let start : tie.Start = search in
+    let a = start .args in
     rw (c .before .number-of .ensures, c .number-of2 .ensures)
     (implies-number (valueOf (a .v)) (valueOf (a .w)) (λ e. omega arith) (λ e. omega arith) (omega arith))
 

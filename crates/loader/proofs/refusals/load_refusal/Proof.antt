@@ -25,11 +25,14 @@ returns-3 c =
 returns-4 : tie.Need-returns-4
 unfolding loadRefusal wrongSize wrongLength beyondMemory
 returns-4 c =
+    let else3 : tie.Else3 = search in
+    let else2 : tie.Else2 = search in
+    let else1 : tie.Else1 = search in
     rw (
-      eq-eqb _ _ (c .before .before .before .before .before .before .if1 .left),
+      eq-eqb _ _ (else1 .if1 .left),
       eq-eqb _ _
-          (c .before .before .before .before .before .if2 .left),
-      le-ltb _ _ (c .before .before .before .before .if3 .left),
+          (else2 .if2 .left),
+      le-ltb _ _ (else3 .if3 .left),
       words-in,
       ← c .before .word .ensures,
     )
@@ -38,11 +41,14 @@ returns-4 c =
 returns-5 : tie.Need-returns-5
 unfolding loadRefusal wrongSize wrongLength beyondMemory
 returns-5 c =
+    let else3 : tie.Else3 = search in
+    let else2 : tie.Else2 = search in
+    let else1 : tie.Else1 = search in
     rw (
-      eq-eqb _ _ (c .before .before .before .before .before .before .if1 .left),
+      eq-eqb _ _ (else1 .if1 .left),
       eq-eqb _ _
-          (c .before .before .before .before .before .if2 .left),
-      le-ltb _ _ (c .before .before .before .before .if3 .left),
+          (else2 .if2 .left),
+      le-ltb _ _ (else3 .if3 .left),
       words-in,
       ← c .before .word .ensures,
     )

@@ -23,8 +23,10 @@ loop-holds c = (refl, refl)
 
 loop-again : tie.Need-loop-again Inv-loop μ-loop
 loop-again c =
-    let a = c .before .before .before .before .before .before .args in
-    let l = c .before .before .before .loop in
+    let at-loop : tie.At-loop Inv-loop μ-loop = search in
+    let start : tie.Start Inv-loop μ-loop = search in
+    let a = start .args in
+    let l = at-loop .loop in
     let p = c .before .pair .ensures in
     let x = c .exchanged .ensures in
     let w : c .exchanged .result ≡ word (getD (a .bytes .now) (2 * l .k) 0) (getD (a .bytes .now) (2 * l .k + 1) 0) =

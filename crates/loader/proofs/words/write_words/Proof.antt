@@ -22,13 +22,15 @@ loop-holds c = (refl, refl)
 
 loop-again : tie.Need-loop-again Inv-loop μ-loop
 loop-again c =
-    let l = c .before .before .before .before .before .before .before .loop in
-    let x = c .before .before .before .exchanged .ensures in
+    let after-exchanged : tie.After-exchanged Inv-loop μ-loop = search in
+    let at-loop : tie.At-loop Inv-loop μ-loop = search in
+    let start : tie.Start Inv-loop μ-loop = search in
+    let l = at-loop .loop in
+    let x = after-exchanged .exchanged .ensures in
     let e = c .before .before .put-pair .ensures in (
       rw (e, x .0, x .1)
           (one-word-written (l .bytes)
-          (c .before .before .before .before .before .before .before .before .before .before
-          .args .words .now) (l .k) (search needs) (search needs) ∙ l .inv .0),
+          (start .args .words .now) (l .k) (search needs) (search needs) ∙ l .inv .0),
       rw e (simp length-set (l .inv .1)),
     )
 

@@ -10,13 +10,18 @@ use Rattle.ways.proofs.branch.accepts_refined.Statement.{statement}
 use Rattle.ways.proofs.branch.accepts_refined.Tie as tie
 
 returns : tie.Need-returns
-returns c = let a = c .before .before .before .before .before .before .args in
+returns c =
+    let start : tie.Start = search in
+    let a = start .args in
     let e : a .b ≡ false = not-true (a .b) (c .before .before .if1 .taken) in
     (refl, rw (e, ← refined-false (stateOf (a .t .now))) (c .accepts .ensures))
 
 returns-2 : tie.Need-returns-2
-returns-2 c = let a = c .before .before .before .before .before .before .before .args in
-    let e : a .b ≡ true = not-false (a .b) (c .before .before .before .if1 .left) in
+returns-2 c =
+    let else1 : tie.Else1 = search in
+    let start : tie.Start = search in
+    let a = start .args in
+    let e : a .b ≡ true = not-false (a .b) (else1 .if1 .left) in
     (restored (a .t .now) 393216, rw (e, ← refined-true (a .t .now) (omega arith)) (c .accepts2 .ensures))
 
 pub accepts-refined-spec : {M : Type 1} → statement M

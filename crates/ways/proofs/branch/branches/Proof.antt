@@ -13,7 +13,8 @@ use Rattle.ways.proofs.branch.branches.Tie as tie
 
 returns : tie.Need-returns
 returns c = λ memory kinds lowest watched.
-    let a = c .before .before .before .before .before .before .before .before .args in
+    let start : tie.Start = search in
+    let a = start .args in
     by-codes (claimOf memory kinds lowest watched (a .ends .now) (a .table .now)) (a .mask) (a .there) (a .here)
     (a .t .now) _
     (br-unset-no (claimOf memory kinds lowest watched (a .ends .now) (a .table .now)) (a .mask) (a .there)
@@ -23,19 +24,24 @@ returns c = λ memory kinds lowest watched.
 
 returns-2 : tie.Need-returns-2
 returns-2 c = λ memory kinds lowest watched.
-    let a = c .before .before .before .before .before .before .before .before .before .before .args in
+    let after-accepts : tie.After-accepts = search in
+    let start : tie.Start = search in
+    let a = start .args in
     by-codes (claimOf memory kinds lowest watched (a .ends .now) (a .table .now)) (a .mask) (a .there) (a .here)
     (a .t .now) _
     (c .accepts2 .ensures ∙ (accepted-is (claimOf memory kinds lowest watched (a .ends .now) (a .table .now))
     (a .here) (stateOf (a .t .now)) ∙ br-unset-yes (claimOf memory kinds lowest watched (a .ends .now)
     (a .table .now)) (a .mask) (a .there) (a .here) (stateOf (a .t .now)) (getD (a .t .now) 8 0) (omega arith)
     (sym (accepted-is (claimOf memory kinds lowest watched (a .ends .now) (a .table .now)) (a .there) (stateOf
-    (a .t .now))) ∙ (sym (c .before .before .before .accepts .ensures) ∙ not-false
-    (c .before .before .before .accepts .result) (c .before .before .if2 .left)))))
+    (a .t .now))) ∙ (sym (after-accepts .accepts .ensures) ∙ not-false
+    (after-accepts .accepts .result) (c .before .before .if2 .left)))))
 
 returns-3 : tie.Need-returns-3
 returns-3 c = λ memory kinds lowest watched.
-    let a = c .before .before .before .before .before .before .before .before .before .before .before .args in
+    let after-is-taken : tie.After-is-taken = search in
+    let after-codes-of : tie.After-codes-of = search in
+    let start : tie.Start = search in
+    let a = start .args in
     by-codes (claimOf memory kinds lowest watched (a .ends .now) (a .table .now)) (a .mask) (a .there) (a .here)
     (a .t .now) _
     (c .accepts3 .ensures
@@ -43,27 +49,29 @@ returns-3 c = λ memory kinds lowest watched.
     (stateOf (a .t .now))
     ∙ rw (
       c .before .pick .ensures,
-      c .before .before .before .is-taken .ensures,
-      c .before .before .before .before
-          .codes-of .ensures,
+      after-is-taken .is-taken .ensures,
+      after-codes-of .codes-of .ensures,
     ) (br-is (claimOf memory kinds lowest watched (a .ends .now) (a .table .now)) (a .mask)
     (a .there) (a .here) (stateOf (a .t .now)) (getD (a .t .now) 8 0) (omega arith))))
 
 returns-4 : tie.Need-returns-4
 returns-4 c = λ memory kinds lowest watched.
-    let a = c .before .before .before .before .before .before .before .before .before .before .before .args in
+    let after-is-taken2 : tie.After-is-taken2 = search in
+    let start : tie.Start = search in
+    let a = start .args in
     by-codes (claimOf memory kinds lowest watched (a .ends .now) (a .table .now)) (a .mask) (a .there) (a .here)
     (a .t .now) _
     (c .accepts4 .ensures
     ∙ (accepted-is (claimOf memory kinds lowest watched (a .ends .now) (a .table .now)) (c .before .pick2 .result)
     (stateOf (a .t .now))
-    ∙ rw (c .before .pick2 .ensures, c .before .before .before .is-taken2 .ensures) (br-high
+    ∙ rw (c .before .pick2 .ensures, after-is-taken2 .is-taken2 .ensures) (br-high
     (claimOf memory kinds lowest watched (a .ends .now) (a .table .now)) (a .mask) (a .there) (a .here) (stateOf
     (a .t .now)) (getD (a .t .now) 8 0) (omega arith))))
 
 returns-5 : tie.Need-returns-5
 returns-5 c = λ memory kinds lowest watched.
-    let a = c .before .before .before .before .before .before .before .before .before .before .before .before .args in
+    let start : tie.Start = search in
+    let a = start .args in
     by-codes (claimOf memory kinds lowest watched (a .ends .now) (a .table .now)) (a .mask) (a .there) (a .here)
     (a .t .now) _
     (c .before .before .branches-on-sum .ensures ∙ br-sum (claimOf memory kinds lowest watched (a .ends .now)
@@ -71,7 +79,8 @@ returns-5 c = λ memory kinds lowest watched.
 
 returns-6 : tie.Need-returns-6
 returns-6 c = λ memory kinds lowest watched.
-    let a = c .before .before .before .before .before .before .before .before .before .before .before .args in
+    let start : tie.Start = search in
+    let a = start .args in
     by-codes (claimOf memory kinds lowest watched (a .ends .now) (a .table .now)) (a .mask) (a .there) (a .here)
     (a .t .now) _
     (c .branches-on-low .ensures memory kinds lowest watched ∙ br-low (claimOf memory kinds lowest watched
@@ -80,7 +89,8 @@ returns-6 c = λ memory kinds lowest watched.
 
 returns-7 : tie.Need-returns-7
 returns-7 c = λ memory kinds lowest watched.
-    let a = c .before .before .before .before .before .before .before .before .before .before .before .args in
+    let start : tie.Start = search in
+    let a = start .args in
     by-codes (claimOf memory kinds lowest watched (a .ends .now) (a .table .now)) (a .mask) (a .there) (a .here)
     (a .t .now) _
     (c .either-way .ensures memory kinds lowest watched

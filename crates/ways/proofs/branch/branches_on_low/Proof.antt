@@ -18,7 +18,8 @@ returns c = λ memory kinds lowest watched.
 
 returns-2 : tie.Need-returns-2
 returns-2 c = λ memory kinds lowest watched.
-    let a = c .before .before .before .before .before .before .args in
+    let start : tie.Start = search in
+    let a = start .args in
     c .accepts2 .ensures
     ∙ (accepted-is (claimOf memory kinds lowest watched (a .ends .now) (a .table .now)) (a .here) (stateOf
     (a .s .now))
@@ -27,7 +28,8 @@ returns-2 c = λ memory kinds lowest watched.
 
 returns-3 : tie.Need-returns-3
 returns-3 c = λ memory kinds lowest watched.
-    let a = c .before .before .before .before .before .before .args in
+    let start : tie.Start = search in
+    let a = start .args in
     c .either-way .ensures memory kinds lowest watched
     ∙ low-either (claimOf memory kinds lowest watched (a .ends .now) (a .table .now)) (a .mask) (a .there)
     (a .here) (stateOf (a .s .now)) (λ e. omega arith) (λ e. omega arith)

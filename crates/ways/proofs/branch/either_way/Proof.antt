@@ -18,7 +18,8 @@ returns c = λ memory kinds lowest watched.
 
 returns-2 : tie.Need-returns-2
 returns-2 c = λ memory kinds lowest watched.
-    let a = c .before .before .before .before .before .before .args in
+    let start : tie.Start = search in
+    let a = start .args in
     either-always (claimOf memory kinds lowest watched (a .ends .now) (a .table .now)) (a .mask) (a .there)
     (a .here) (stateOf (a .s .now))
     (sym (accepted-is (claimOf memory kinds lowest watched (a .ends .now) (a .table .now)) (a .there) (stateOf
@@ -28,15 +29,17 @@ returns-2 c = λ memory kinds lowest watched.
 
 returns-3 : tie.Need-returns-3
 returns-3 c = λ memory kinds lowest watched.
-    let a = c .before .before .before .before .before .before .before .args in
+    let after-accepts : tie.After-accepts = search in
+    let start : tie.Start = search in
+    let a = start .args in
     c .accepts2 .ensures
     ∙ (accepted-is (claimOf memory kinds lowest watched (a .ends .now) (a .table .now)) (a .here) (stateOf
     (a .s .now))
     ∙ either-here (claimOf memory kinds lowest watched (a .ends .now) (a .table .now)) (a .mask) (a .there)
     (a .here) (stateOf (a .s .now))
     (sym (accepted-is (claimOf memory kinds lowest watched (a .ends .now) (a .table .now)) (a .there) (stateOf
-    (a .s .now))) ∙ (sym (c .before .before .before .accepts .ensures) ∙ not-false
-    (c .before .before .before .accepts .result) (c .before .before .if1 .left)))
+    (a .s .now))) ∙ (sym (after-accepts .accepts .ensures) ∙ not-false
+    (after-accepts .accepts .result) (c .before .before .if1 .left)))
     (λ e. omega arith))
 
 pub either-way-spec : {M : Type 1} → statement M

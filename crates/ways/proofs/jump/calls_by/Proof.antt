@@ -9,48 +9,52 @@ use Rattle.ways.proofs.jump.calls_by.Tie as tie
 
 returns : tie.Need-returns
 returns c = λ rows.
-    let a = c .before .before .before .before .before .before .args in
+    let start : tie.Start = search in
+    let a = start .args in
     calls-no (claimWith (a .memory .now) (a .kinds .now) (a .lowest) (a .watched .now) rows) (a .pc) (stateOf
     (a .t .now)) _ (c .before .kind-at .result) (getD (a .memory .now) (a .vector) 0) (c .before .kind-at .ensures)
     (λ e. omega arith)
 
 returns-2 : tie.Need-returns-2
 returns-2 c = λ rows.
-    let a = c .before .before .before .before .before .before .before .before .before .args in
+    let after-kind-at : tie.After-kind-at = search in
+    let start : tie.Start = search in
+    let a = start .args in
     calls-unknown (claimWith (a .memory .now) (a .kinds .now) (a .lowest) (a .watched .now) rows) (a .pc) (stateOf
-    (a .t .now)) _ (c .before .before .before .before .kind-at .result) (getD (a .memory .now) (a .vector) 0)
-    (c .before .before .before .before .kind-at .ensures)
+    (a .t .now)) _ (after-kind-at .kind-at .result) (getD (a .memory .now) (a .vector) 0)
+    (after-kind-at .kind-at .ensures)
     (omega arith) (c .before .register .result) (c .before .register .ensures) (λ e. omega arith)
 
 returns-3 : tie.Need-returns-3
 returns-3 c = λ rows.
-    let a = c .before .before .before .before .before .before .before .before .before .before .before .before
-    .before .args in
+    let after-register : tie.After-register = search in
+    let after-kind-at : tie.After-kind-at = search in
+    let start : tie.Start = search in
+    let a = start .args in
     calls-low (claimWith (a .memory .now) (a .kinds .now) (a .lowest) (a .watched .now) rows) (a .pc) (stateOf
-    (a .t .now)) _ (c .before .before .before .before .before .before .before .before .kind-at .result) (getD
-    (a .memory .now) (a .vector) 0) (c .before .before .before .before .before .before .before .before .kind-at
-    .ensures)
-    (omega arith) (c .before .before .before .before .before .register .result)
-    (c .before .before .before .before .before .register .ensures) (omega arith) (omega arith)
+    (a .t .now)) _ (after-kind-at .kind-at .result) (getD
+    (a .memory .now) (a .vector) 0) (after-kind-at .kind-at .ensures)
+    (omega arith) (after-register .register .result)
+    (after-register .register .ensures) (omega arith) (omega arith)
 
 returns-4 : tie.Need-returns-4
 returns-4 c = λ rows.
-    let a = c .before .before .before .before .before .before .before .before .before .before .before .before
-    .before .before .before .before .before .before .args in
-    rw (
-      c .word-at .ensures,
-      c .before .before .before .push-two .ensures,
-      c .before .before .before .before
-          .before .before .before .before .low-word .ensures,
-    )
+    let after-push-two : tie.After-push-two = search in
+    let else3 : tie.Else3 = search in
+    let after-wide2 : tie.After-wide2 = search in
+    let after-wide : tie.After-wide = search in
+    let after-low-word : tie.After-low-word = search in
+    let after-register : tie.After-register = search in
+    let after-kind-at : tie.After-kind-at = search in
+    let start : tie.Start = search in
+    let a = start .args in
+    let low = after-low-word .low-word .ensures in
+    rw (c .word-at .ensures, after-push-two .push-two .ensures, low)
     (calls-of (claimWith (a .memory .now) (a .kinds .now) (a .lowest) (a .watched .now) rows) (a .pc) (stateOf
-    (a .t .now)) _ (c .before .before .before .before .before .before .before .before .before .before .before
-    .before .before .kind-at .result) (getD (a .memory .now) (a .vector) 0)
-    (c .before .before .before .before .before .before .before .before .before .before .before .before .before
-    .kind-at .ensures)
-    (omega arith) (c .before .before .before .before .before .before .before .before .before .before .register
-    .result) (c .before .before .before .before .before .before .before .before .before .before .register .ensures)
-    (omega arith) (omega arith))
+    (a .t .now)) _ (after-kind-at .kind-at .result) (getD (a .memory .now) (a .vector) 0)
+    (after-kind-at .kind-at .ensures)
+    (omega arith) (after-register .register .result) (after-register .register .ensures)
+    (omega arith) (omega (arith, else3 .if3 .left, after-wide .wide .ensures, after-wide2 .wide2 .ensures, low)))
 
 pub calls-by-spec : {M : Type 1} → statement M
 calls-by-spec =

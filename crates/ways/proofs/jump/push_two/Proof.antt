@@ -10,16 +10,21 @@ use Rattle.ways.proofs.jump.push_two.Statement.{statement}
 use Rattle.ways.proofs.jump.push_two.Tie as tie
 
 returns : tie.Need-returns
-returns c = let a = c .before .before .before .before .before .before .before .before .before .before .before
-    .before .before .before .before .before .before .args in
+returns c =
+    let after-wide2 : tie.After-wide2 = search in
+    let after-remember-at2 : tie.After-remember-at2 = search in
+    let after-wide : tie.After-wide = search in
+    let after-next : tie.After-next = search in
+    let after-remember-at : tie.After-remember-at = search in
+    let start : tie.Start = search in
+    let a = start .args in
     rw (
       c .before .before .put-in .ensures,
-      c .before .before .before .before .before .before .before .remember-at2 .ensures,
-      c .before .before .before .before .before .before .before .before .before .before .before .before .before
-          .remember-at .ensures,
-      c .before .before .before .wide2 .ensures .0,
-      c .before .before .before .before .before .before .before .before .wide .ensures .0,
-      c .before .before .before .before .before .before .before .before .before .next .ensures,
+      after-remember-at2 .remember-at2 .ensures,
+      after-remember-at .remember-at .ensures,
+      after-wide2 .wide2 .ensures .0,
+      after-wide .wide .ensures .0,
+      after-next .next .ensures,
       value-is (a .sp - 2) (omega arith),
       value-is (next (a .pc)) (omega arith),
       value-low,

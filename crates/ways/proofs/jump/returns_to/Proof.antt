@@ -30,7 +30,8 @@ returns-2 c = λ memory kinds lowest rows.
 returns-3 : tie.Need-returns-3
 unfolding wayHolds
 returns-3 c = λ memory kinds lowest rows.
-    let a = c .before .before .before .before .before .before .before .before .before .args in
+    let start : tie.Start = search in
+    let a = start .args in
     let h : c .before .kind-of .result ≡ kindOf (held (getD (a .t .now) 6 0 % 65536 + 1) (a .watched .now)
     (stateOf (a .t .now) .words)) =
     c .before .kind-of .ensures ∙ ap kindOf (c .before .before .watched-at .ensures) in
@@ -41,17 +42,21 @@ returns-3 c = λ memory kinds lowest rows.
 returns-4 : tie.Need-returns-4
 unfolding wayHolds
 returns-4 c = λ memory kinds lowest rows.
-    let a = c .before .before .before .before .before .before .before .before .before .before .before .before
-    .before .before .before .before .args in
-    let h : c .before .before .before .before .before .before .before .before .kind-of .result ≡ kindOf (held
+    let after-target-of : tie.After-target-of = search in
+    let after-watched-at2 : tie.After-watched-at2 = search in
+    let after-kind-of : tie.After-kind-of = search in
+    let after-watched-at : tie.After-watched-at = search in
+    let start : tie.Start = search in
+    let a = start .args in
+    let h : after-kind-of .kind-of .result ≡ kindOf (held
     (getD (a .t .now) 6 0 % 65536 + 1) (a .watched .now) (stateOf (a .t .now) .words)) =
-    c .before .before .before .before .before .before .before .before .kind-of .ensures ∙ ap kindOf
-    (c .before .before .before .before .before .before .before .before .before .watched-at .ensures) in
+    after-kind-of .kind-of .ensures ∙ ap kindOf
+    (after-watched-at .watched-at .ensures) in
     let u = c .before .before .put-in .last .0 in
-    c .before .before .before .before .target-of .ensures (claimWith memory kinds lowest (a .watched .now) rows)
+    after-target-of .target-of .ensures (claimWith memory kinds lowest (a .watched .now) rows)
     (stateOf (set u 8 0))
     ∙ rw (
-      c .before .before .before .before .before .watched-at2 .ensures,
+      after-watched-at2 .watched-at2 .ensures,
       returning-is (a .t .now) u (getD (a .t .now) 6 0) (omega (arith, c .before .before .put-in .kept .0))
           (omega arith) (omega arith)
           (c .before .before .put-in .ensures),
