@@ -12,8 +12,8 @@ use fanthrig::WORDS;
 use reference::bus::{DDR, DSR, KBDR, KBSR, REGISTERS};
 use reference::machine::{self, Event, CAUSES};
 use std::time::Instant;
-use support::cases::Case;
-use support::{assert_same_buffers, for_cases_by, pages, sittings, Buffers};
+use support::cases::{self, Case};
+use support::{assert_same_buffers, for_cases_by, pages, sittings, Buffers, Rng};
 
 /// The steps from which on a call of the long run has windows, and how many it has.
 const WINDOW_STEPS: u64 = 256;
@@ -40,6 +40,7 @@ struct Tally {
     keys: u64,
     shown: u64,
     stops: [u64; 3],
+    refused: u64,
 }
 
 impl Tally {
@@ -61,6 +62,7 @@ impl Tally {
     fn answer(&mut self, n: u64, answer: &Answer, fetched: &Fetched) {
         let windowed = u64::from(n >= WINDOW_STEPS);
         self.calls += 1;
+        self.refused += u64::from(answer.refusal != 0);
         self.steps += answer.steps;
         self.windowed += windowed;
         self.windowed_steps += windowed * answer.steps;
@@ -75,7 +77,7 @@ impl Tally {
     /// Panics unless the calls met everything, and what matters often.
     fn check(&self) {
         let Tally { causes, polls, taken, stored, keys, shown, stops, .. } = self;
-        let counts = [*taken, *stored, *keys, *shown];
+        let counts = [*taken, *stored, *keys, *shown, self.refused];
         let all = causes.iter().chain(polls).chain(stops).chain(&counts).all(|&count| count > 0);
         let often = 2 * self.windowed > self.calls
             && 5 * self.altering > self.windowed
@@ -169,11 +171,20 @@ impl Bench {
 /// Sittings from which on everything that is counted is to be met.
 const ENOUGH: u64 = 10_000;
 
+/// A sitting of one kind or the other; a first call in forty goes to the border of a refusal.
+fn make(rng: &mut Rng) -> Case {
+    let mut case = if rng.once_in(3) { sittings::sitting(rng) } else { pages::sitting(rng) };
+    if rng.once_in(40) {
+        cases::spoil(rng, &mut case);
+    }
+    case
+}
+
 fn compare_sittings(usual: u64) {
     let (start, mut bench) = (Instant::now(), Bench::new());
     for_cases_by(
         usual,
-        |rng, _| if rng.once_in(3) { sittings::sitting(rng) } else { pages::sitting(rng) },
+        |rng, _| make(rng),
         |rng, case, template| {
             let mut case = case.clone();
             bench.set(&case, template);
@@ -183,7 +194,11 @@ fn compare_sittings(usual: u64) {
                     pages::set_call(rng, &mut case);
                     bench.lend(&case);
                 }
-                case.record = bench.compare(&case).record;
+                let answer = bench.compare(&case);
+                if answer.refusal != 0 {
+                    break;
+                }
+                case.record = answer.record;
             }
         },
     );
