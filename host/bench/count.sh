@@ -149,8 +149,8 @@ count_call() {
 }
 
 status=0
-echo "instructions per step, limit $limit, for echo $echo_limit, for logged runs $log_limit; the long run's limits are" \
-    "beside it, and on count, copy and sieve also the expert's count"
+echo "instructions per step, limit $limit, for echo $echo_limit, for logged runs $log_limit; the long run's limits" \
+    "are beside it, and on count, copy and sieve also the expert's count"
 while read -r program; do
     # $program is a list of words.
     # shellcheck disable=SC2086
