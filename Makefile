@@ -24,6 +24,11 @@ export RT_JOBS ?= $(shell awk '/^MemTotal:/ { print ($$2 < 12000000) ? 4 : 6 }' 
 # The prover's allocator, mimalloc, is to keep the memory that it has freed, and not to give it back in the meantime: a
 # check takes less time by that, and little more memory.
 export MIMALLOC_PURGE_DELAY ?= -1
+# For each check the prover writes some thousand small files, 0.2 GB, and takes them away again: in memory, if there is
+# a folder there with room for them. Each check takes two seconds of processor time less by that.
+SCRATCH := $(shell [ -w /dev/shm ] && [ "$$(df -P -k /dev/shm | awk 'END { print $$4 }')" -gt 4000000 ] && \
+    echo TMPDIR=/dev/shm)
+PROGRESS = env $(SCRATCH) tools/progress
 # The product's version. The shared library has the name by which hosts ask for it, which ends in the version of the
 # header: that of the interface.
 RELEASE := $(shell cat VERSION)
@@ -70,7 +75,7 @@ told:
 # `make test` compares what it prints with crates/demo/stdout.
 demo:
 	@echo "The demonstration. It is proved before it runs: about 3 minutes on two cores the first time, then seconds."
-	@tools/progress build/demo.log rt check demo
+	@$(PROGRESS) build/demo.log rt check demo
 	@cd crates/demo/data && ../../../target/bin/demo
 
 # The archives are built from the crates that `rt ci` has just proved. Its verdict is repeated as the last line of all.
@@ -79,7 +84,7 @@ test:
 	@echo "That takes about 50 minutes on two cores."
 	@tools/prerequisites
 	@$(MAKE) --no-print-directory format lint
-	@tools/progress build/ci.log rt ci
+	@$(PROGRESS) build/ci.log rt ci
 	@$(MAKE) --no-print-directory lib page
 	@$(MAKE) --no-print-directory -j2 -O host page-test release-test
 	@tail -n 1 build/ci.log
@@ -128,7 +133,7 @@ lib: build/libfanthrig.so
 KIT = command -v rt >/dev/null || { cat tools/no-kit.txt >&2; exit 2; }
 build/proved: crates.txt $(shell find crates -name '*.rt' -o -name '*.antt')
 	@$(KIT)
-	@tools/progress build/proved.log tools/prove.py staticlib $(EXPORTS)
+	@$(PROGRESS) build/proved.log tools/prove.py staticlib $(EXPORTS)
 	@touch $@
 
 $(ARCHIVES): build/proved ;
@@ -154,7 +159,7 @@ page: build/page/lc3.html build/fanthrig.mjs
 BITCODE = $(EXPORTS:%=build/wasm/%.bc)
 $(BITCODE): build/wasm/%.bc: target/staticlib/lib%.a tools/bitcode
 	@$(KIT)
-	@tools/bitcode $*
+	@env $(SCRATCH) tools/bitcode $*
 
 # Two at a time, as the archives are.
 build/fanthrig.wasm: $(ARCHIVES) tools/bitcode tools/wasm include/$(HEADER)

@@ -1,6 +1,4 @@
 // Each form of instruction, by its mnemonic: what it leads to.
-use crate::Way;
-use crate::jump::target_of;
 use accesses::loads_at;
 use accesses::loads_by;
 use accesses::loads_through;
@@ -17,6 +15,8 @@ use claims::values::sum_of;
 use claims::values::sum_with;
 use claims::values::wide;
 use parts::words::next;
+use ways::Way;
+use ways::jump::target_of;
 use word::fields::offset;
 use word::fields::word_of;
 ghost use mathlib.Core.Path.{_≡_};
@@ -31,7 +31,7 @@ ghost use Rattle.sitting.specs.Values.{is};
 ghost use Rattle.sitting.specs.Test.{Claim, State, accepts, moved, put, harmless};
 ghost use Rattle.claims.specs.Encoding.{valueOf, stateOf, claimWith};
 ghost use Rattle.accesses.specs.Leads.{Leads};
-ghost use Rattle.following.specs.Ways.{wayHolds};
+ghost use Rattle.ways.specs.Ways.{wayHolds};
 
 // A register takes a value, with the codes set from it, and the next instruction follows.
 fn moves(t: &mut [u32], pc: u16, r: u8, v: u32) -> u16

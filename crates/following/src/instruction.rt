@@ -1,6 +1,4 @@
 // Each instruction: what it leads to, and whether the table knows no more there.
-use crate::Way;
-use crate::branch::branches;
 use crate::forms::add_immediate;
 use crate::forms::add_register;
 use crate::forms::and_immediate;
@@ -17,16 +15,18 @@ use crate::forms::not;
 use crate::forms::st;
 use crate::forms::sti;
 use crate::forms::str;
-use crate::jump::calls_by;
-use crate::jump::returns_to;
 use claims::states::accepts;
+use ways::Way;
+use ways::branch::branches;
+use ways::jump::calls_by;
+use ways::jump::returns_to;
 use word::Instruction;
 ghost use mathlib.Core.Path.{_≡_};
 ghost use Prim.Native.Nat.{_%_, _≤_};
 ghost use lib.ListN.{length, getD};
 ghost use Rattle.sitting.specs.Test.{harmless};
 ghost use Rattle.claims.specs.Encoding.{stateOf, claimWith, claimOf};
-ghost use Rattle.following.specs.Ways.{Goes};
+ghost use Rattle.ways.specs.Ways.{Goes};
 
 pub fn leads(
     t: &mut [u32],

@@ -1,13 +1,4 @@
 // What an instruction of a monitor leads to, from what is known before it (crates/sitting/specs/Test.antt). A function
 // that answers an address answers 0 where the instruction may not be obeyed: no table accepts anything there.
-pub mod branch;
 pub mod forms;
 pub mod instruction;
-pub mod jump;
-
-// To an address; to the first where a branch with this mask is taken, else to the second; out of the monitor.
-pub enum Way {
-    To(u16),
-    Fork(u8, u16, u16),
-    Out,
-}

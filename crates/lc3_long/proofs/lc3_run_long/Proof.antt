@@ -8,7 +8,7 @@ use Rattle.lc3_long.proofs.lc3_run_long.Tie as tie
 returns : tie.Need-returns
 returns c =
     let went = c .before .before .before .before .before .run in
-    c .answer-of .ensures (went .last .1 .0) (went .last .1 .1 .1 .1 .0) ∙ ap answerOf (went .ensures)
+    c .answer-of .ensures (went .last .1 .0) (went .last .1 .1 .1 .1 .0) ∙ ap answerOf (went .ensures .1)
 
 pub lc3-run-long-spec : {M : Type 1} → statement M
 lc3-run-long-spec =

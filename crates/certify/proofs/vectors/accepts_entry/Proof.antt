@@ -3,7 +3,7 @@ use borrow.Author.Needs.{needs}
 use mathlib.Core.Path.{_∙_}
 use Rattle.sitting.specs.Test.{onEntry}
 use Rattle.claims.specs.Encoding.{claimOf}
-use Rattle.following.proofs.BranchLaws.{accepted-is}
+use Rattle.ways.proofs.BranchLaws.{accepted-is}
 use Rattle.certify.proofs.Laws.{entry-is}
 use Rattle.certify.proofs.vectors.accepts_entry.Statement.{statement}
 use Rattle.certify.proofs.vectors.accepts_entry.Tie as tie

@@ -4,7 +4,7 @@ use mir.Syntax.{w16}
 use mir.Val.{toZ, ofZ}
 use mathlib.Core.Path.{_≡_, refl}
 use Rattle.sitting.specs.Test.{harmless}
-use Rattle.following.specs.Ways.{wayHolds}
+use Rattle.ways.specs.Ways.{wayHolds}
 use Rattle.following.proofs.forms.br.Statement.{statement}
 use Rattle.following.proofs.forms.br.Tie as tie
 

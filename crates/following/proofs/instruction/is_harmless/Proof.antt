@@ -2,8 +2,8 @@
 use borrow.Author.Needs.{needs}
 use mathlib.Core.Path.{_∙_}
 use Rattle.claims.specs.Encoding.{stateOf, rowsOf, claimOf}
-use Rattle.following.specs.Ways.{wayHolds}
-use Rattle.following.proofs.BranchLaws.{accepted-is}
+use Rattle.ways.specs.Ways.{wayHolds}
+use Rattle.ways.proofs.BranchLaws.{accepted-is}
 use Rattle.following.proofs.instruction.is_harmless.Statement.{statement}
 use Rattle.following.proofs.instruction.is_harmless.Tie as tie
 

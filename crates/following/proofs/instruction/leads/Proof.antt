@@ -5,7 +5,7 @@ use mir.Val.{toZ, ofZ}
 use mathlib.Core.Path.{_≡_, refl, _∙_}
 use Rattle.sitting.specs.Test.{harmless}
 use Rattle.claims.specs.Encoding.{stateOf, claimWith}
-use Rattle.following.specs.Ways.{wayHolds}
+use Rattle.ways.specs.Ways.{wayHolds}
 use Rattle.accesses.proofs.AccessLaws.{nothing-at-0}
 use Rattle.following.proofs.instruction.leads.Statement.{statement}
 use Rattle.following.proofs.instruction.leads.Tie as tie
