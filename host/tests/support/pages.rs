@@ -22,6 +22,9 @@ const SHOW: [u16; 6] = [0xA203, 0x07FE, 0xB002, 0x0E02, bus::DSR, bus::DDR];
 const TAKE: [u16; 6] = [0xA003, 0x07FE, 0xA002, 0x0E02, bus::KBSR, bus::KBDR];
 const RTI: u16 = 0x8000;
 
+/// The first and last addresses of the regions, with their neighbours.
+const BORDERS: [u16; 8] = [0x0000, 0x2FFE, 0x2FFF, 0x3000, 0xFDFF, 0xFE00, 0xFE01, 0xFFFF];
+
 /// A status of the keyboard or of the timer.
 const STATUS: [u16; 4] = [0x0000, 0x0000, 0x4000, 0x8000];
 
@@ -78,12 +81,12 @@ pub fn sitting(rng: &mut Rng) -> Case {
     case
 }
 
-/// The page of a piece of code: most often User mode's first or the monitor's, and seldom one of the
-/// last two, where device registers are.
+/// The page of a piece of code: most often one of User mode's first or the monitor's, and now and then
+/// one beside a border of User mode's memory, or one of the last two, where device registers are.
 fn page(rng: &mut Rng) -> u8 {
     match rng.below(50) {
-        0 => rng.pick(&[0xFE, 0xFF]),
-        1..=5 => 0xFD,
+        0..=2 => rng.pick(&[0xFE, 0xFF]),
+        3..=5 => rng.pick(&[0x2F, 0xFD]),
         6..=15 => 0x02,
         16..=20 => rng.below(3) as u8,
         21..=30 => rng.below(256) as u8,
@@ -159,9 +162,10 @@ impl Planter<'_> {
             10..=13 => self.rng.pick(&bus::REGISTERS[..7]),
             14 => self.rng.pick(&bus::REGISTERS),
             15 => 0xFE00 + self.rng.below(0x0200) as u16,
-            16 | 17 => 0x3000 + self.rng.below(0x0400) as u16,
-            18 => self.rng.below(0x0300) as u16,
-            _ => self.rng.word(),
+            16 => 0x3000 + self.rng.below(0x0400) as u16,
+            17 => self.rng.below(0x0300) as u16,
+            18 => self.rng.word(),
+            _ => self.rng.pick(&BORDERS),
         }
     }
 
