@@ -21,6 +21,7 @@ import resource
 import subprocess
 import sys
 import tempfile
+import threading
 from collections import Counter
 from collections.abc import Iterator
 from concurrent.futures import ThreadPoolExecutor
@@ -31,7 +32,7 @@ from typing import Union
 ROOT = Path(__file__).resolve().parent.parent
 EXPORT = "lc3_run_long"
 TEST = "both_runs_come_to_what_the_reference_comes_to"
-STAGES = [500, 10_000, 100_000]  # sittings: the next number where the one before notices nothing
+FEW, SOME, MANY = 500, 10_000, 100_000  # sittings: more where fewer notice nothing
 SECONDS = 20  # of processor time for 500 sittings, which take less than half a second
 
 LINE = re.compile(r"\s*([0-9a-f]+):\t((?:[0-9a-f]{2} )+)\s*(.*)")
@@ -234,7 +235,7 @@ def limited(seconds: int) -> None:
 
 def verdict(program: Path, sittings: int) -> str:
     """How the test ends: by a difference, by a crash, by taking too long, or well."""
-    seconds = SECONDS * max(1, sittings // STAGES[0] // 8)
+    seconds = SECONDS * max(1, sittings // FEW // 8)
     settings = {**os.environ, "LC3_SEED": "1", "LC3_RUNS": str(sittings), "RUST_BACKTRACE": "0"}
     command = [str(program), "--exact", TEST]
     code = subprocess.run(
@@ -250,36 +251,28 @@ class Trial:
     def __init__(self, program: Program, folder: Path) -> None:
         """The altered programs are written to the folder. The program as it is must pass."""
         self._program, self._folder = program, folder
-        if verdict(program.path, STAGES[0]):
+        if verdict(program.path, FEW):
             raise SystemExit("the program as it is does not pass")
         self.found: Counter[str] = Counter()
-        self.survivors: list[Alteration] = []
 
-    def judge(self, numbered: tuple[int, Alteration]) -> str:
-        """Tells by how many sittings an alteration is noticed, and how."""
-        number, alteration = numbered
-        out = self._folder / f"altered-{number}"
+    def _judge(self, alteration: Alteration, stages: list[int]) -> str:
+        """Tells by how many sittings an alteration is noticed, and how; empty if by none."""
+        out = self._folder / f"altered-{threading.get_ident()}"
         self._program.write(alteration, out)
-        new = self._program.text_of(alteration, out)
-        how, sittings = "", 0
-        for sittings in STAGES:
-            how = verdict(out, sittings)
-            if how:
-                break
-        out.unlink()
+        ends = ((sittings, verdict(out, sittings)) for sittings in stages)
+        noticed = next((f"by {sittings} sittings: {how}" for sittings, how in ends if how), "")
         place = self._program.place(alteration.old.address)
-        change = f"{alteration.kind}: {alteration.old.text} -> {new}"
-        ending = f"noticed by {sittings} sittings: {how}" if how else "not noticed"
-        print(f"{number} {place}: {change}: {ending}", flush=True)
-        return how and f"{sittings} sittings, {how.split()[0]}"
+        change = f"{alteration.old.text} -> {self._program.text_of(alteration, out)}"
+        ending = f"noticed {noticed}" if noticed else f"not noticed by {stages[-1]} sittings"
+        print(f"{place}: {alteration.kind}: {change}: {ending}", flush=True)
+        return noticed
 
-    def run(self, alterations: list[Alteration], at_once: int) -> None:
-        """Judges all of them."""
+    def run(self, some: list[Alteration], stages: list[int], at_once: int) -> list[Alteration]:
+        """Judges alterations, and answers those that are not noticed."""
         with ThreadPoolExecutor(at_once) as pool:
-            for alteration, how in zip(alterations, pool.map(self.judge, enumerate(alterations))):
-                self.found[how or "nothing"] += 1
-                if not how:
-                    self.survivors.append(alteration)
+            noticed = list(pool.map(lambda one: self._judge(one, stages), some))
+        self.found.update(how.partition(" (")[0] for how in noticed if how)
+        return [one for one, how in zip(some, noticed) if not how]
 
 
 def obeyed(program: Program, folder: Path) -> dict[int, int]:
@@ -310,14 +303,16 @@ def main(count: int, seed: int, at_once: int = 1) -> None:
     alterations = [rng.choice(found) for found in rng.choices(choices, k=count)]
     with tempfile.TemporaryDirectory() as name:
         trial = Trial(program, Path(name))
-        trial.run(alterations, at_once)
+        left = trial.run(alterations, [FEW, SOME], at_once)
+        print(f"more sittings for the {len(left)} that {SOME} do not notice:", flush=True)
+        left = trial.run(left, [MANY], at_once)
         counts = obeyed(program, Path(name))
     for how, number in trial.found.most_common():
-        print(f"{number} noticed by {how}")
-    for one in trial.survivors:
-        times = counts.get(one.old.address, 0)
-        place = program.place(one.old.address)
-        print(f"not noticed: {place}: {one.old.text}: obeyed {times} times in 300 sittings")
+        print(f"{number} noticed {how}")
+    print(f"{len(left)} not noticed:")
+    for one in left:
+        times, place = counts.get(one.old.address, 0), program.place(one.old.address)
+        print(f"{place}: {one.old.text}: obeyed {times} times in 300 sittings")
 
 
 if __name__ == "__main__":
