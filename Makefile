@@ -11,7 +11,7 @@
 # make dist       a release in build/dist: source, binary archive, wheel, Debian packages, sums, provenance
 # make bench      time against C: runs, lines of text, and object files
 # make rate       time of the Python module and of the command beside that of lc3_run alone
-# make soak       many more random runs against the reference simulator
+# make soak       many more random runs against the reference simulator; SITTINGS=1000000 by both runs
 # make mutants    alters the definitions one point at a time: would a wrong rule be noticed? (no part of make test)
 # make release-test   a release, made twice, and installed without the kit: wheel, packages in a fresh Debian, archive
 
@@ -232,9 +232,11 @@ rate: lib
 	cd python && python3 -m tests.rate_command
 	cd python && python3 -m tests.rate_marking
 
+SITTINGS = 1000000
 soak: lib
 	LC3_RUNS=20000000 $(CARGO) --test differential soak -- --ignored --nocapture
 	LC3_RUNS=2000000 $(CARGO) --test long soak -- --ignored --nocapture
+	LC3_RUNS=$(SITTINGS) $(CARGO) --test both_runs soak -- --ignored --nocapture
 
 # It proves nothing and builds nothing: definitions, tables and theorems are computed by Python.
 mutants:

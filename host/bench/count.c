@@ -1,13 +1,18 @@
 /*
- * count ENGINE PROGRAM STEPS CALLS: so many calls of that many steps each, one going on from the
- * other, for an exact count of instructions. A program that takes keys is called once. A single
- * step takes no number of steps, and no keys.
+ * Counts instructions exactly, by callgrind. Each line of standard input is a measurement:
+ *
+ *   ENGINE PROGRAM STEPS CALLS
+ *
+ * asks for so many calls of that many steps each, one going on from the other, which callgrind is
+ * to count by themselves and to tell of under the line's text. A program that takes keys is called
+ * once. A single step takes no number of steps, and no keys.
  */
 #include "interpreters.h"
 #include "programs.h"
 
 #include <stdio.h>
 #include <stdlib.h>
+#include <valgrind/callgrind.h>
 
 static uint16_t memory[LC3_MEMORY_WORDS], step_log[LC3_LOG_WORDS * 65536];
 static uint8_t output[MOST_SHOWN], bytes[MOST_KEYS];
@@ -26,12 +31,9 @@ static lc3_answer logged_run(lc3_record record, uint16_t *words, size_t words_le
 static const struct {
     const char *name;
     run_function *run;
-} engines[] = {{"library", lc3_run},
-               {"long", lc3_run_long},
-               {"logged", logged_run},
-               {"second", lc3_run_second},
-               {"plain", plain_run},
-               {"tuned", tuned_run}};
+} engines[] = {{"library", lc3_run},       {"long", lc3_run_long}, {"logged", logged_run},
+               {"second", lc3_run_second}, {"plain", plain_run},   {"tuned", tuned_run},
+               {"expert", expert_run}};
 
 typedef lc3_report step_function(lc3_record *, uint16_t *, size_t, const uint64_t *, size_t,
                                  const uint8_t *, size_t, uint8_t *, size_t);
@@ -41,8 +43,10 @@ static const struct {
     step_function *step;
 } single_steps[] = {{"step", lc3_step}, {"step_second", lc3_step_second}};
 
-/* Whether every call made all its steps. */
-static bool makes_all(run_function *run, const program *p, uint64_t steps, unsigned long calls) {
+/* Whether every call made all its steps. This and the next are functions of their own: inlined into
+ * what calls them both, their loops would cost some instructions more. */
+static __attribute__((noinline)) bool makes_all(run_function *run, const program *p,
+                                                uint64_t steps, unsigned long calls) {
     lc3_answer a = {.record = start_program(memory, p), .steps = steps};
     const size_t keys = p->typed ? type_keys(a.record.clock, steps, times, bytes) : 0;
     while (calls-- && a.steps == steps) {
@@ -52,10 +56,7 @@ static bool makes_all(run_function *run, const program *p, uint64_t steps, unsig
     return a.steps == steps;
 }
 
-/*
- * Whether every single step was made, on one record that is lent. It is a function of its own:
- * inlined beside the loop of makes_all it would cost that some instructions a call.
- */
+/* Whether every single step was made, on one record that is lent. */
 static __attribute__((noinline)) bool makes_each(step_function *step, const program *p,
                                                  unsigned long calls) {
     lc3_record record = start_program(memory, p);
@@ -66,24 +67,43 @@ static __attribute__((noinline)) bool makes_each(step_function *step, const prog
     return r.steps == 1;
 }
 
-int main(int argc, char **argv) {
+/* Whether a measurement was made. What it costs beside its calls is the same for any number. */
+static bool measure(const char *line, const char *engine, const program *p, uint64_t steps,
+                    unsigned long calls) {
     run_function *run = NULL;
     step_function *step = NULL;
-    const program *p = NULL;
-    for (size_t e = 0; argc == 5 && e < sizeof engines / sizeof *engines; e++) {
-        if (!strcmp(argv[1], engines[e].name)) run = engines[e].run;
+    for (size_t e = 0; e < sizeof engines / sizeof *engines; e++) {
+        if (!strcmp(engine, engines[e].name)) run = engines[e].run;
     }
-    for (size_t e = 0; argc == 5 && e < sizeof single_steps / sizeof *single_steps; e++) {
-        if (!strcmp(argv[1], single_steps[e].name)) step = single_steps[e].step;
+    for (size_t e = 0; e < sizeof single_steps / sizeof *single_steps; e++) {
+        if (!strcmp(engine, single_steps[e].name)) step = single_steps[e].step;
     }
-    for (size_t i = 0; argc == 5 && i < PROGRAMS; i++) {
-        if (!strcmp(argv[2], programs[i].name)) p = &programs[i];
+    if (!run && !step) return false;
+    expert_forget();
+    CALLGRIND_ZERO_STATS;
+    bool made = step ? makes_each(step, p, calls) : makes_all(run, p, steps, calls);
+    CALLGRIND_DUMP_STATS_AT(line);
+    return made;
+}
+
+static const program *program_of(const char *name) {
+    for (size_t i = 0; i < PROGRAMS; i++) {
+        if (!strcmp(name, programs[i].name)) return &programs[i];
     }
-    if ((!run && !step) || !p) {
-        fprintf(stderr, "usage: count ENGINE PROGRAM STEPS CALLS, the engine being one of library,\n"
-                        "long, logged, second, plain, tuned, step, step_second\n");
-        return 2;
+    return NULL;
+}
+
+int main(void) {
+    char line[80], engine[16], name[16];
+    unsigned long steps, calls;
+    while (fgets(line, sizeof line, stdin)) {
+        line[strcspn(line, "\n")] = '\0';
+        const program *p = NULL;
+        if (sscanf(line, "%15s %15s %lu %lu", engine, name, &steps, &calls) == 4) p = program_of(name);
+        if (!p || !measure(line, engine, p, steps, calls)) {
+            fprintf(stderr, "count: not measured: %s\n", line);
+            return 1;
+        }
     }
-    if (step) return !makes_each(step, p, strtoul(argv[4], NULL, 10));
-    return !makes_all(run, p, strtoull(argv[3], NULL, 10), strtoul(argv[4], NULL, 10));
+    return 0;
 }

@@ -1,14 +1,13 @@
 /*
- * The rules that the two C interpreters of the benchmark share: fields, access control, entry and
- * RTI, the device registers, start and end of a step, and refusals.
+ * The rules that the plain and the tuned C interpreter share: access control, entry and RTI, the
+ * device registers, start and end of a step, and refusals.
  */
 #ifndef RULES_H
 #define RULES_H
 
-#include <fanthrig/lc3.h>
+#include "fields.h"
 
-/* Opcodes, from 0 to 15. */
-enum { BR, ADD, LD, ST, JSR, AND, LDR, STR, RTI, NOT, LDI, STI, JMP, RESERVED, LEA, TRAP };
+#include <fanthrig/lc3.h>
 
 /* Addresses of the vectors. */
 enum { PRIVILEGE = 0x0100, ILLEGAL = 0x0101, ACCESS = 0x0102, KEYBOARD = 0x0180, TIMER = 0x0181 };
@@ -21,12 +20,6 @@ typedef struct {
     uint8_t *bytes;
     size_t length, shown;
 } display;
-
-/* The low bits of a word as a signed field, extended to 16 bits. */
-static inline uint16_t extended(uint16_t word, int bits) {
-    int16_t high = word << (16 - bits);
-    return high >> (16 - bits);
-}
 
 static inline bool denied(const lc3_record *m, uint16_t address) {
     return (m->psr & LC3_PSR_USER) && (address < 0x3000 || address >= 0xFE00);

@@ -350,7 +350,7 @@ fn set_keys(rng: &mut Rng, case: &mut Case, family: Family) {
 }
 
 /// Goes to or over the border of one or more refusals.
-fn spoil(rng: &mut Rng, case: &mut Case) {
+pub fn spoil(rng: &mut Rng, case: &mut Case) {
     // The times come after the clock that they go by, and before their number is spoilt.
     for spoiler in [spoil_memory, spoil_record, spoil_steps, spoil_times, spoil_lists] {
         if rng.once_in(3) {

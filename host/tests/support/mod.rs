@@ -7,6 +7,7 @@ pub mod candidates;
 pub mod cases;
 pub mod hosts;
 pub mod lines;
+pub mod pages;
 pub mod pairs;
 pub mod program;
 pub mod sittings;
@@ -71,9 +72,11 @@ pub fn seed() -> u64 {
     seed
 }
 
-/// The number of random runs from `LC3_RUNS`, or else `usual`.
+/// The number of random runs: 1 if `LC3_CASE` asks for a certain one, or else that of `LC3_RUNS`, or
+/// else `usual`.
 pub fn runs(usual: u64) -> u64 {
-    at_least_one(setting("LC3_RUNS").unwrap_or(usual))
+    let only = setting("LC3_CASE").map(|_| 1);
+    at_least_one(only.or(setting("LC3_RUNS")).unwrap_or(usual))
 }
 
 /// Panics if there is nothing to run: a test of no runs would pass.
@@ -148,6 +151,11 @@ impl Buffers {
                 *cell = word;
             }
         }
+        self.lend(case);
+    }
+
+    /// Fills the lists of keys and the output alone: memory is as the last call left it.
+    pub fn lend(&mut self, case: &Case) {
         self.times.set(&case.times);
         self.bytes.set(&case.bytes);
         self.output.set(&case.output);
@@ -360,11 +368,12 @@ pub fn for_cases_by(
     mut make: impl FnMut(&mut Rng, &[u16]) -> Case,
     mut law: impl FnMut(&mut Rng, &Case, &[u16]),
 ) {
-    let seed = seed();
+    let (seed, first) = (seed(), setting("LC3_CASE").unwrap_or(0));
     let mut template = Vec::new();
-    for number in 0..runs(count) {
-        if number % CASES_PER_TEMPLATE == 0 {
-            template = cases::template(&mut Rng::of_case(!seed, number));
+    for number in first..first + runs(count) {
+        let place = number % CASES_PER_TEMPLATE;
+        if place == 0 || template.is_empty() {
+            template = cases::template(&mut Rng::of_case(!seed, number - place));
         }
         let mut rng = Rng::of_case(seed, number);
         let case = make(&mut rng, &template);
