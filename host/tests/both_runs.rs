@@ -80,7 +80,7 @@ impl Tally {
         let counts = [*taken, *stored, *keys, *shown, self.refused];
         let all = causes.iter().chain(polls).chain(stops).chain(&counts).all(|&count| count > 0);
         let often = 2 * self.windowed > self.calls
-            && 5 * self.altering > self.windowed
+            && 6 * self.altering > self.windowed
             && 5 * self.wide > self.windowed;
         assert!(all && often, "met too seldom");
     }
@@ -176,6 +176,9 @@ fn make(rng: &mut Rng) -> Case {
     let mut case = if rng.once_in(3) { sittings::sitting(rng) } else { pages::sitting(rng) };
     if rng.once_in(40) {
         cases::spoil(rng, &mut case);
+    }
+    if rng.once_in(400) {
+        case.record.kbdr = 0x0100;
     }
     case
 }

@@ -23,7 +23,7 @@ const TAKE: [u16; 6] = [0xA003, 0x07FE, 0xA002, 0x0E02, bus::KBSR, bus::KBDR];
 const RTI: u16 = 0x8000;
 
 /// The first and last addresses of the regions, with their neighbours.
-const BORDERS: [u16; 8] = [0x0000, 0x2FFE, 0x2FFF, 0x3000, 0xFDFF, 0xFE00, 0xFE01, 0xFFFF];
+const BORDERS: [u16; 9] = [0x0000, 0x2FFE, 0x2FFF, 0x3000, 0xFDFE, 0xFDFF, 0xFE00, 0xFE01, 0xFFFF];
 
 /// A status of the keyboard or of the timer.
 const STATUS: [u16; 4] = [0x0000, 0x0000, 0x4000, 0x8000];
@@ -82,11 +82,12 @@ pub fn sitting(rng: &mut Rng) -> Case {
 }
 
 /// The page of a piece of code: most often one of User mode's first or the monitor's, and now and then
-/// one beside a border of User mode's memory, or one of the last two, where device registers are.
+/// one beside a border of User mode's memory, that of the address which MCR and a ready DSR are as
+/// pointers, or one of the last two, where device registers are.
 fn page(rng: &mut Rng) -> u8 {
     match rng.below(50) {
         0..=2 => rng.pick(&[0xFE, 0xFF]),
-        3..=5 => rng.pick(&[0x2F, 0xFD]),
+        3..=5 => rng.pick(&[0x2F, 0x80, 0xFD]),
         6..=15 => 0x02,
         16..=20 => rng.below(3) as u8,
         21..=30 => rng.below(256) as u8,
@@ -169,12 +170,14 @@ impl Planter<'_> {
         }
     }
 
-    /// The offset of a label or of a jump: small, or any.
-    fn offset9(&mut self) -> i32 {
-        if self.rng.once_in(5) {
-            self.rng.between(-256, 255)
-        } else {
-            self.rng.between(-14, 9)
+    /// The offset of a label or of a jump from the instruction at `at`: to a device register if one is
+    /// in reach, or any, or most often small.
+    fn offset9(&mut self, at: u16) -> i32 {
+        let register = self.rng.pick(&bus::REGISTERS).wrapping_sub(at.wrapping_add(1)) as i16;
+        match self.rng.below(8) {
+            0 | 1 if (-256..=255).contains(&register) => i32::from(register),
+            0 => self.rng.between(-256, 255),
+            _ => self.rng.between(-14, 9),
         }
     }
 
@@ -186,11 +189,11 @@ impl Planter<'_> {
         }
     }
 
-    fn value(&mut self, kind: Kind) -> i32 {
+    fn value(&mut self, kind: Kind, at: u16) -> i32 {
         use Kind::*;
         match kind {
-            Br | Ld | Ldi | Lea | St | Sti => self.offset9(),
-            Jsr => self.offset9() * self.rng.pick(&[1, 4]),
+            Br | Ld | Ldi | Lea | St | Sti => self.offset9(at),
+            Jsr => self.offset9(at) * self.rng.pick(&[1, 4]),
             Ldr | Str => self.offset6(),
             AddImmediate | AndImmediate => self.rng.between(-16, 15),
             Trap if self.rng.once_in(2) => self.rng.between(0x20, 0x25),
@@ -212,21 +215,21 @@ impl Planter<'_> {
         }
     }
 
-    fn instruction(&mut self) -> u16 {
+    fn instruction(&mut self, at: u16) -> u16 {
         let kind = self.kind();
         let mut register = || self.rng.below(8) as u8;
         let (a, b, c) = (register(), register(), register());
         let always = kind == Kind::Br && self.rng.once_in(4);
-        let value = self.value(kind);
+        let value = self.value(kind, at);
         written(kind, if always { 7 } else { a }, b, c, value)
     }
 
-    /// A word of code; some are addresses, as a pointer's word is, and some are any word.
-    fn word(&mut self) -> u16 {
+    /// A word of code at `at`; some are addresses, as a pointer's word is, and some are any word.
+    fn word(&mut self, at: u16) -> u16 {
         match self.rng.below(32) {
             0 => self.rng.word(),
             1..=3 => self.address(),
-            _ => self.instruction(),
+            _ => self.instruction(at),
         }
     }
 
@@ -235,9 +238,10 @@ impl Planter<'_> {
         let dense = self.rng.once_in(3);
         for page in self.pages.clone() {
             for offset in 0..256 {
+                let at = u16::from(page) * 256 + offset;
                 let code = dense || !(64..=240).contains(&offset) || self.rng.once_in(2);
-                let word = if code { self.word() } else { 0 };
-                self.plant(u16::from(page) * 256 + offset, &[word]);
+                let word = if code { self.word(at) } else { 0 };
+                self.plant(at, &[word]);
             }
             for _ in 0..self.rng.below(4) {
                 let mut words = self.rng.pick(&[SHOW, SHOW, TAKE]);
@@ -288,11 +292,12 @@ impl Planter<'_> {
         self.plant(routine.wrapping_add(STIR.len() as u16), &[bus::TSR, number, mask, page]);
     }
 
-    /// A stack: sound, or so that pushes replace code.
+    /// A stack: sound, or so that pushes replace code, or about to wrap.
     fn stack(&mut self) -> u16 {
-        match self.rng.below(3) {
-            0 => self.address(),
-            1 => 0x2FF0,
+        match self.rng.below(8) {
+            0..=2 => self.address(),
+            3 => self.rng.pick(&[0, 1, 2]),
+            4 | 5 => 0x2FF0,
             _ => 0x3000,
         }
     }
