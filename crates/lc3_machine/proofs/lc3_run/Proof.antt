@@ -10,29 +10,36 @@ use Rattle.lc3_machine.proofs.lc3_run.Tie as tie
 
 run-accepted-requires : tie.Need-run-accepted-requires
 run-accepted-requires c κs =
-    let a = c .before .before .before .before .before .before .before .before .before .before .args in
+    let after-admission : tie.After-admission = search in
+    let start : tie.Start = search in
+    let a = start .args in
     let k = accepted-is-acceptable (startOf (a .m) (a .memory .now) (a .times .now) (a .bytes .now) (a .output .now))
-    (a .n) (sym (c .before .before .before .before .admission .ensures (a .output .now))
+    (a .n) (sym (after-admission .admission .ensures (a .output .now))
     ∙ c .before .before .enum-told .given .1) in
     (k .size, (k .equal, k .clock))
 
 returns : tie.Need-returns
 unfolding callBy admittedBy
 returns c =
-    let went = c .before .before .before .before .before .run-accepted in
-    let told = c .before .before .before .before .before .before .before .before .enum-told in
-    let admission = c .before .before .before .before .before .before .before .before .before .before .admission in
-    let a = c .before .before .before .before .before .before .before .before .before .before .before .before .before
-    .before .before .before .args in
+    let after-run-accepted : tie.After-run-accepted = search in
+    let after-enum-told : tie.After-enum-told = search in
+    let after-admission : tie.After-admission = search in
+    let start : tie.Start = search in
+    let went = after-run-accepted .run-accepted in
+    let told = after-enum-told .enum-told in
+    let admission = after-admission .admission in
+    let a = start .args in
     rw (← admission .ensures (a .output .now), told .given .1)
     (c .answer-of .ensures (went .last .1 .1 .0) (went .last .1 .1 .1 .1 .1 .0) ∙ ap answerOf (went .ensures))
 
 returns-2 : tie.Need-returns-2
 unfolding callBy admittedBy
 returns-2 c =
-    let a = c .before .before .before .before .before .before .before .before .before .before .args in
+    let after-admission : tie.After-admission = search in
+    let start : tie.Start = search in
+    let a = start .args in
     rw (
-      ← c .before .before .before .before .admission .ensures (a .output .now),
+      ← after-admission .admission .ensures (a .output .now),
       c .before .before .admission2 .given .1,
     )
     (c .refused .ensures (a .memory .now) (a .times .now) (a .bytes .now) (a .output .now))
