@@ -56,7 +56,7 @@ pub record ObjectFiles : Type 0 where
   pub save-16 : saveOf (replicate 65536 7) 0xFFFF 1 (1 ∷ 2 ∷ 3 ∷ []) ≡ answer 0 16 (1 ∷ 2 ∷ 3 ∷ [])
   pub save-16-long : saveOf (replicate 65536 7) 0 40000 (replicate 60000 1) .refusal ≡ 16
   -- the file that is then in the output
-  pub file-in-output : fileIn (saved 2 0 (1 ∷ 2 ∷ 3 ∷ [])) ≡ 1 ∷ 2 ∷ []
+  pub file-in-output : fileIn (answer 2 0 (1 ∷ 2 ∷ 3 ∷ [])) ≡ 1 ∷ 2 ∷ []
   -- a memory of any other size, even too
   pub load-11-even : loadOf (0x30 ∷ 0x00 ∷ []) (replicate 65534 7) .refusal ≡ 11
   pub save-11-even : saveOf (replicate 65534 7) 0x3000 0 (1 ∷ 2 ∷ []) .refusal ≡ 11
