@@ -195,9 +195,9 @@ pub fn run(
 
 /// Runs for long sittings: answers and leaves what [`run`] does, on every call.
 ///
-/// It keeps the instructions of 256 words, read in advance: faster where a program stays in loops of
-/// up to 256 words, a little slower where it does not. A call of fewer than 256 steps reads none in
-/// advance.
+/// It keeps the instructions of four pages of 256 words, read in advance: so it is faster, but for a
+/// program that does little but trap and return, or stays a few steps in each of many pages. A call
+/// of fewer than 256 steps reads none in advance.
 ///
 /// ```
 /// use fanthrig::{Keys, Mode, STEP_LIMIT};

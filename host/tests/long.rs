@@ -180,9 +180,8 @@ fn every_number_of_steps_up_to_the_limit_is_made_and_one_more_refused() {
     }
 }
 
-/// A window is read where PC stands when enough steps have been made outside one. In the last two
-/// pages none is made that would count, so a program gets a window there only if it comes just then:
-/// after one of these numbers of steps.
+/// The last page holds device registers. A program comes there after each of these numbers of steps,
+/// through up to five other pages: so the page has one window or another, or none.
 #[test]
 fn code_at_the_end_of_memory_is_run_as_it_stands_whenever_it_is_entered() {
     // Adds 1 to the fourth of these each turn: ADD R1, R1, #0 and on.

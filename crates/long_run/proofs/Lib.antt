@@ -1,3 +1,2 @@
-pub mod LookingLaws
+-- The laws of the loop.
 pub mod SteppingLaws
-pub mod StretchingLaws

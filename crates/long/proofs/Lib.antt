@@ -1,3 +1,0 @@
--- The laws of the run with a window.
-mod VisitLaws
-mod StepLaws

@@ -1,3 +1,0 @@
--- What the parts of the long run promise.
-pub mod Looking
-pub mod Stretching
