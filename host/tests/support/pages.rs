@@ -58,7 +58,11 @@ struct Planter<'a> {
 
 /// A random sitting, in either mode, with the keys and the output of its first call.
 pub fn sitting(rng: &mut Rng) -> Case {
-    let pages = (0..=rng.below(7)).map(|_| page(rng)).collect();
+    let mut pages: Vec<u8> = (0..=rng.below(7)).map(|_| page(rng)).collect();
+    // A store by a label in the last two pages may reach what MCR or a ready DSR is as a pointer.
+    if pages.iter().any(|page| *page >= 0xFE) {
+        pages.push(0x80);
+    }
     let stirred = !rng.once_in(3);
     let mut planter = Planter { rng, pages, patches: Vec::new(), stirred };
     planter.plant_pages();
@@ -82,12 +86,11 @@ pub fn sitting(rng: &mut Rng) -> Case {
 }
 
 /// The page of a piece of code: most often one of User mode's first or the monitor's, and now and then
-/// one beside a border of User mode's memory, that of the address which MCR and a ready DSR are as
-/// pointers, or one of the last two, where device registers are.
+/// one beside a border of User mode's memory, or one of the last two, where device registers are.
 fn page(rng: &mut Rng) -> u8 {
     match rng.below(50) {
         0..=2 => rng.pick(&[0xFE, 0xFF]),
-        3..=5 => rng.pick(&[0x2F, 0x80, 0xFD]),
+        3..=5 => rng.pick(&[0x2F, 0xFD]),
         6..=15 => 0x02,
         16..=20 => rng.below(3) as u8,
         21..=30 => rng.below(256) as u8,
@@ -251,6 +254,10 @@ impl Planter<'_> {
                 let at = self.code();
                 self.plant(at, &words);
             }
+            // STI R1 to a word at an end of its own page, and BRnzp over the pointer.
+            let first = u16::from(page) * 256;
+            let (at, end) = (self.rng.below(48) as u16, self.rng.pick(&[0, 1, 254, 255]));
+            self.plant(first + at, &[0xB201, 0x0E01, first + end]);
         }
     }
 
