@@ -33,7 +33,7 @@ returns c =
     rw (
       l .inv,
       states-step (claimOf (a .memory .now) (a .kinds .now) (a .lowest) (a .watched .now) (a .ends .now)
-      (a .table .now)) (a .pc) (readOf (a .w)) (a .table .now) (l .k) (a .end) (omega arith),
+          (a .table .now)) (a .pc) (readOf (a .w)) (a .table .now) (l .k) (a .end) (omega arith),
       ← c .before .wrong-in .ensures,
     ) (found-first (c .before .wrong-in .result) _ (λ e. omega arith))
 

@@ -31,7 +31,7 @@ returns c =
     rw (
       l .inv,
       rows-step (claimOf (a .memory .now) (a .kinds .now) (a .lowest) (a .watched .now) (a .ends .now) (a .table .now))
-      (a .table .now) (a .ends .now) (l .j) (omega arith),
+          (a .table .now) (a .ends .now) (l .j) (omega arith),
       ← c .before .wrong-at .ensures,
     ) (found-first (c .before .wrong-at .result) _ (λ e. omega arith))
 

@@ -45,7 +45,7 @@ is-harmless-requires c κs =
       (
         search needs,
         sound-bound (claimOf (a .memory .now) (a .kinds .now) (a .lowest) (a .watched .now) (a .ends .now)
-        (a .table .now)) (getD s 6 0) (stateOf s .words) h,
+            (a .table .now)) (getD s 6 0) (stateOf s .words) h,
       ),
     )
 

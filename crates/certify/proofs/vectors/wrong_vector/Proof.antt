@@ -44,7 +44,7 @@ loop-again c =
     let l = at-loop .loop in (
       omega arith,
       λ lowest watched h. vectors-more (claimOf (a .memory .now) (a .kinds .now) lowest watched (a .ends .now)
-      (a .table .now)) (l .a)
+          (a .table .now)) (l .a)
           (l .inv .1 lowest watched h) (sym (c .before .leads-in .ensures lowest watched h) ∙ not-false
           (c .before .leads-in .result) (c .if1 .left)),
     )
