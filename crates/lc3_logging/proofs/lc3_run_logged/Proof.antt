@@ -7,9 +7,10 @@ use Rattle.lc3_logging.proofs.lc3_run_logged.Tie as tie
 
 returns : tie.Need-returns
 returns c =
+    let after-run-logged : tie.After-run-logged = search in
     let report-of = c .before .report-of in
     let run-ending = c .before .before .run-ending in
-    let run-logged = c .before .before .before .before .before .before .before .before .before .before .run-logged in
+    let run-logged = after-run-logged .run-logged in
     rw (c .stop-number .ensures, report-of .ensures, run-ending .ensures) (ap loggedAnswerOf (run-logged .ensures))
 
 pub lc3-run-logged-spec : {M : Type 1} → statement M

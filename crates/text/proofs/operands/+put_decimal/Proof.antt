@@ -60,32 +60,36 @@ add-put-2 t c = omega arith
 
 put-requires-2 : (t : ℕ) → lts.Need-put-requires-2 (put.Asked, put.Learnt, below t, reads.Post) (at t) reads.Post
 put-requires-2 t c κs =
-    let n = c .before .before .before .before .before .before .before .args .n in
+    let made : lts.After-put-decimal (put.Asked, put.Learnt, below t, reads.Post) (at t) reads.Post = search in
+    let test : lts.Else1 (put.Asked, put.Learnt, below t, reads.Post) (at t) reads.Post = search in
+    let start : lts.Start (put.Asked, put.Learnt, below t, reads.Post) (at t) reads.Post = search in
+    let n = start .args .n in
     omega (
       arith,
-      c .before .before .before .put-decimal .ensures .place,
-      ap length
-          (digits-before n (c .before .before .before .before .before .if1 .left)),
-      length-append (decimal (n / 10))
-          (digit (n % 10) ∷ []),
+      made .put-decimal .ensures .place,
+      ap length (digits-before n (test .if1 .left)),
+      length-append (decimal (n / 10)) (digit (n % 10) ∷ []),
     )
 
 same-length : (t : ℕ) → lts.Need-same-length (put.Asked, put.Learnt, below t, reads.Post) (at t) reads.Post
 same-length t c = search needs
 
 returns : (t : ℕ) → lts.Need-returns (put.Asked, put.Learnt, below t, reads.Post) (at t) reads.Post
-returns t c = rw (last-digit (c .before .before .before .before .before .before .args .n)
-    (c .before .before .before .before .if1 .taken)) (c .before .before .put .ensures)
+returns t c =
+    let test : lts.Then1 (put.Asked, put.Learnt, below t, reads.Post) (at t) reads.Post = search in
+    let start : lts.Start (put.Asked, put.Learnt, below t, reads.Post) (at t) reads.Post = search in
+    rw (last-digit (start .args .n) (test .if1 .taken)) (c .before .before .put .ensures)
 
 same-length-2 : (t : ℕ) → lts.Need-same-length-2 (put.Asked, put.Learnt, below t, reads.Post) (at t) reads.Post
 same-length-2 t c = search needs
 
 returns-2 : (t : ℕ) → lts.Need-returns-2 (put.Asked, put.Learnt, below t, reads.Post) (at t) reads.Post
 returns-2 t c =
-    rw (digits-before (c .before .before .before .before .before .before .before .before .before .before .args .n)
-    (c .before .before .before .before .before .before .before .before .if1 .left))
-    (then (c .before .before .before .before .before .before .put-decimal .ensures) (c .before .before .put2 .ensures)
-    (omega arith))
+    let made : lts.After-put-decimal (put.Asked, put.Learnt, below t, reads.Post) (at t) reads.Post = search in
+    let test : lts.Else1 (put.Asked, put.Learnt, below t, reads.Post) (at t) reads.Post = search in
+    let start : lts.Start (put.Asked, put.Learnt, below t, reads.Post) (at t) reads.Post = search in
+    rw (digits-before (start .args .n) (test .if1 .left))
+    (then (made .put-decimal .ensures) (c .before .before .put2 .ensures) (omega arith))
 
 pub +put-decimal-spec : {M : Type 1} → statement M
 +put-decimal-spec =

@@ -7,11 +7,14 @@ use Rattle.text.proofs.operands.put_hex.Tie as tie
 
 returns : tie.Need-returns
 returns c =
+    let after-hex-digit2 : tie.After-hex-digit2 = search in
+    let after-put : tie.After-put = search in
+    let after-hex-digit : tie.After-hex-digit = search in
     rw (
-      c .before .before .before .before .before .before .before .before .hex-digit .ensures,
-      c .before .before .before .hex-digit2 .ensures,
+      after-hex-digit .hex-digit .ensures,
+      after-hex-digit2 .hex-digit2 .ensures,
     )
-    at (then (c .before .before .before .before .before .before .before .put .ensures)
+    at (then (after-put .put .ensures)
     (c .before .before .put2 .ensures) (omega arith))
 
 pub put-hex-spec : {M : Type 1} → statement M

@@ -6,7 +6,9 @@ use Rattle.text.proofs.operands.put_register.Statement.{statement}
 use Rattle.text.proofs.operands.put_register.Tie as tie
 
 returns : tie.Need-returns
-returns c = then (c .before .before .before .before .before .before .put .ensures) (c .before .before .put2 .ensures)
+returns c =
+    let after-put : tie.After-put = search in
+    then (after-put .put .ensures) (c .before .before .put2 .ensures)
     (omega arith)
 
 pub put-register-spec : {M : Type 1} → statement M
