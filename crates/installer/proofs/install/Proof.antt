@@ -10,9 +10,8 @@ returns c = install-refused (c .before .before .args .memory .now) (c .if1 .take
 
 returns-2 : tie.Need-returns-2
 returns-2 c =
-    let at-first-copy = c .before .before .before .before .before .before .before in
-    let m = at-first-copy .before .before .before .before .before .before .before .args .memory .now in
-    cc (installed m (omega arith))
+    let start : tie.Start = search in
+    cc (installed (start .args .memory .now) (omega arith))
 
 pub install-spec : {M : Type 1} → statement M
 install-spec =

@@ -10,7 +10,8 @@ returns c = vectors-refused (c .before .before .args .r) (c .before .before .arg
 
 returns-2 : tie.Need-returns-2
 returns-2 c =
-    let a = c .before .before .before .before .before .before .before .before .args in
+    let start : tie.Start = search in
+    let a = start .args in
     cc (vectors-written (a .r) (a .lent .now) (omega arith))
 
 pub vectors-spec : {M : Type 1} → statement M

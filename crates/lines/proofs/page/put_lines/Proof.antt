@@ -28,8 +28,9 @@ loop-holds c = (put-nothing 0 (c .before .before .args .output .now), zero-le, r
 
 put-line-requires : tie.Need-put-line-requires Inv-loop μ-loop
 put-line-requires c κs =
-    let l = c .before .before .before .loop in
-    let s = c .before .before .before .before .before .before in
+    let at-loop : tie.At-loop Inv-loop μ-loop = search in
+    let l = at-loop .loop in
+    let s : tie.Start Inv-loop μ-loop = search in
     let words = s .args .words .now in
     let w = getD words (l .done) 0 in
     let more = ap length (line-more words (l .done) (omega arith)) in
@@ -38,9 +39,10 @@ put-line-requires c κs =
 
 loop-again : tie.Need-loop-again Inv-loop μ-loop
 loop-again c =
-    let p = c .before .before in
-    let l = p .before .before .before .before .loop in
-    let s = p .before .before .before .before .before .before .before in
+    let p : tie.After-put-line Inv-loop μ-loop = search in
+    let at-loop : tie.At-loop Inv-loop μ-loop = search in
+    let l = at-loop .loop in
+    let s : tie.Start Inv-loop μ-loop = search in
     let words = s .args .words .now in (
       rw (add-one, line-more words (l .done) (omega arith)) (then (l .inv .0) (p .put-line .ensures) zero-le),
       omega arith,

@@ -5,14 +5,16 @@ use Rattle.parts.proofs.access.load_allowed.Statement.{statement}
 use Rattle.parts.proofs.access.load_allowed.Tie as tie
 
 returns : tie.Need-returns
-returns c =
-    λ clock.
-    let a = c .before .before .before .before .before .before .args in
+returns c = λ clock.
+    let counted : tie.After-after-load = search in
+    let loaded : tie.After-load = search in
+    let start : tie.Start = search in
+    let a = start .args in
     c .move-to .ensures clock
     ∙ rw (
       c .before .next .ensures,
-      c .before .before .before .after-load .ensures (a .regs .now) clock,
-      c .before .before .before .before .load .ensures (a .regs .now) clock,
+      counted .after-load .ensures (a .regs .now) clock,
+      loaded .load .ensures (a .regs .now) clock,
     )
 
 pub load-allowed-spec : {M : Type 1} → statement M

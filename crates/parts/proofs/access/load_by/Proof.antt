@@ -15,65 +15,72 @@ use Rattle.parts.proofs.access.load_by.Tie as tie
 
 returns : tie.Need-returns
 unfolding byPointerBy
-returns c =
-    λ clock output.
-    let a = c .before .before .before .before .before .before .before .before .before .args in
+returns c = λ clock output.
+    let after-raise : tie.After-raise = search in
+    let then1 : tie.Then1 = search in
+    let after-is-denied : tie.After-is-denied = search in
+    let start : tie.Start = search in
+    let a = start .args in
     rw (
-      ← c .before .before .before .before .before .before .before .is-denied .ensures,
-      c .before .before .before .before .before .before .if1 .taken,
+      ← after-is-denied .is-denied .ensures,
+      then1 .if1 .taken,
       c .unshown .ensures,
     )
     (raise-delivered (a .regs .now) (a .memory .now) output access _ _ _ _
-    (c .before .before .before .raise .ensures clock access refl))
+    (after-raise .raise .ensures clock access refl))
 
 returns-2 : tie.Need-returns-2
 unfolding byPointerBy withReads
-returns-2 c =
-    λ clock output.
-    let a = c .before .before .before .before .before .before .before .before .before .before .before .before .before
-    .before .args in
-    let at-pointer = c .before .before .before .before .before .before .before in
-    let after-load = at-pointer .before .after-load in
-    let load = at-pointer .before .before .load in
-    let denied-data : after (c .unshown2 .result) (c .before .before .before .raise2 .last .1 .0) clock
-    (c .before .before .before .raise2 .last .1 .1 .0) output
+returns-2 c = λ clock output.
+    let after-raise2 : tie.After-raise2 = search in
+    let then2 : tie.Then2 = search in
+    let denied-at-data : tie.After-is-denied2 = search in
+    let counted : tie.After-after-load = search in
+    let loaded : tie.After-load = search in
+    let else1 : tie.Else1 = search in
+    let denied-at-pointer : tie.After-is-denied = search in
+    let start : tie.Start = search in
+    let a = start .args in
+    let after-load = counted .after-load in
+    let load = loaded .load in
+    let denied-data : after (c .unshown2 .result) (after-raise2 .raise2 .last .1 .0) clock
+    (after-raise2 .raise2 .last .1 .1 .0) output
     ≡ delivered (a .regs .now) (a .memory .now) output
     (loadToBy (editionOf (a .second)) (a .r) (load .result) (whole (a .regs .now) clock (after-load .result))
     (a .memory .now)) =
     unfold loadToBy in
     rw (
-      ← at-pointer .is-denied2 .ensures,
-      c .before .before .before .before .before .before .if2 .taken,
+      ← denied-at-data .is-denied2 .ensures,
+      then2 .if2 .taken,
       c .unshown2 .ensures,
     )
     (raise-delivered (a .regs .now) (a .memory .now) output access _ _ _ _
-    (c .before .before .before .raise2 .ensures clock access refl)) in
-    rw (
-      ← at-pointer .before .before .before .before .before .is-denied .ensures,
-      at-pointer .before .before .before .before .if1 .left,
-    )
+    (after-raise2 .raise2 .ensures clock access refl)) in
+    rw (← denied-at-pointer .is-denied .ensures, else1 .if1 .left)
     (denied-data ∙ rw (after-load .ensures (a .regs .now) clock, load .ensures (a .regs .now) clock))
 
 returns-3 : tie.Need-returns-3
 unfolding byPointerBy withReads
-returns-3 c =
-    λ clock output.
-    let a = c .before .before .before .before .before .before .before .before .before .before .before .before .args in
-    let at-pointer = c .before .before .before .before .before in
-    let after-load = at-pointer .before .after-load in
-    let load = at-pointer .before .before .load in
+returns-3 c = λ clock output.
+    let else2 : tie.Else2 = search in
+    let denied-at-data : tie.After-is-denied2 = search in
+    let counted : tie.After-after-load = search in
+    let loaded : tie.After-load = search in
+    let else1 : tie.Else1 = search in
+    let denied-at-pointer : tie.After-is-denied = search in
+    let start : tie.Start = search in
+    let a = start .args in
+    let after-load = counted .after-load in
+    let load = loaded .load in
     let loaded : after (c .unshown3 .result) (c .before .load-allowed .last .1 .1 .0) clock (a .memory .now) output
     ≡ delivered (a .regs .now) (a .memory .now) output
     (loadToBy (editionOf (a .second)) (a .r) (load .result) (whole (a .regs .now) clock (after-load .result))
     (a .memory .now)) =
     unfold loadToBy in
-    rw (← at-pointer .is-denied2 .ensures, c .before .before .before .before .if2 .left, c .unshown3 .ensures)
+    rw (← denied-at-data .is-denied2 .ensures, else2 .if2 .left, c .unshown3 .ensures)
     (ap (λ (m : Machine). delivered (a .regs .now) (a .memory .now) output (plainOutcome m (a .memory .now)))
     (c .before .load-allowed .ensures clock)) in
-    rw (
-      ← at-pointer .before .before .before .before .before .is-denied .ensures,
-      at-pointer .before .before .before .before .if1 .left,
-    )
+    rw (← denied-at-pointer .is-denied .ensures, else1 .if1 .left)
     (loaded ∙ rw (after-load .ensures (a .regs .now) clock, load .ensures (a .regs .now) clock))
 
 pub load-by-spec : {M : Type 1} → statement M

@@ -12,25 +12,30 @@ use Rattle.parts.proofs.access.load_to.Tie as tie
 
 returns : tie.Need-returns
 unfolding loadToBy
-returns c =
-    λ clock output.
-    let a = c .before .before .before .before .before .before .before .before .before .args in
+returns c = λ clock output.
+    let after-raise : tie.After-raise = search in
+    let then1 : tie.Then1 = search in
+    let after-is-denied : tie.After-is-denied = search in
+    let start : tie.Start = search in
+    let a = start .args in
     rw (
-      ← c .before .before .before .before .before .before .before .is-denied .ensures,
-      c .before .before .before .before .before .before .if1 .taken,
+      ← after-is-denied .is-denied .ensures,
+      then1 .if1 .taken,
       c .unshown .ensures,
     )
     (raise-delivered (a .regs .now) (a .memory .now) output access _ _ _ _
-    (c .before .before .before .raise .ensures clock access refl))
+    (after-raise .raise .ensures clock access refl))
 
 returns-2 : tie.Need-returns-2
 unfolding loadToBy
-returns-2 c =
-    λ clock output.
-    let a = c .before .before .before .before .before .before .before .args in
+returns-2 c = λ clock output.
+    let else1 : tie.Else1 = search in
+    let after-is-denied : tie.After-is-denied = search in
+    let start : tie.Start = search in
+    let a = start .args in
     rw (
-      ← c .before .before .before .before .before .is-denied .ensures,
-      c .before .before .before .before .if1 .left,
+      ← after-is-denied .is-denied .ensures,
+      else1 .if1 .left,
       c .unshown2 .ensures,
     )
     (ap (λ (m : Machine). delivered (a .regs .now) (a .memory .now) output (plainOutcome m (a .memory .now)))

@@ -14,32 +14,39 @@ use Rattle.parts.proofs.access.store_at.Tie as tie
 
 returns : tie.Need-returns
 unfolding storeAtBy
-returns c =
-    λ clock.
-    let a = c .before .before .before .before .before .before .before .before .before .before .args in
+returns c = λ clock.
+    let after-raise : tie.After-raise = search in
+    let then1 : tie.Then1 = search in
+    let after-is-denied : tie.After-is-denied = search in
+    let start : tie.Start = search in
+    let a = start .args in
     rw (
-      ← c .before .before .before .before .before .before .before .is-denied .ensures,
-      c .before .before .before .before .before .before .if1 .taken,
+      ← after-is-denied .is-denied .ensures,
+      then1 .if1 .taken,
       c .unshown .ensures,
     )
     (raise-delivered (a .regs .now) (a .memory .now) (a .output .now) access _ _ _ _
-    (c .before .before .before .raise .ensures clock access refl))
+    (after-raise .raise .ensures clock access refl))
 
 returns-2 : tie.Need-returns-2
 unfolding storeAtBy
-returns-2 c =
-    λ clock.
-    let a = c .before .before .before .before .before .before .before .before .before .before .before .before .before
-    .args in
+returns-2 c = λ clock.
+    let after-store : tie.After-store = search in
+    let after-go-on-at : tie.After-go-on-at = search in
+    let after-next : tie.After-next = search in
+    let else1 : tie.Else1 = search in
+    let after-is-denied : tie.After-is-denied = search in
+    let start : tie.Start = search in
+    let a = start .args in
     rw (
-      ← c .before .before .before .before .before .before .before .before .before .before .is-denied .ensures,
-      c .before .before .before .before .before .before .before .before .before .if1 .left,
+      ← after-is-denied .is-denied .ensures,
+      else1 .if1 .left,
     )
-    (c .before .before .before .before .store .ensures (a .regs .now) clock
+    (after-store .store .ensures (a .regs .now) clock
     ∙ (ap (λ (m : Machine). delivered (a .regs .now) (a .memory .now) (a .output .now)
     (storedBy (editionOf (a .second)) (a .v) (a .a) m (a .memory .now)))
-    (c .before .before .before .before .before .before .before .go-on-at .ensures (a .regs .now) clock)
-    ∙ rw (c .before .before .before .before .before .before .before .before .next .ensures)))
+    (after-go-on-at .go-on-at .ensures (a .regs .now) clock)
+    ∙ rw (after-next .next .ensures)))
 
 pub store-at-spec : {M : Type 1} → statement M
 store-at-spec =

@@ -11,31 +11,37 @@ use Rattle.parts.proofs.access.store_by.Tie as tie
 
 returns : tie.Need-returns
 unfolding byPointerBy
-returns c =
-    λ clock.
-    let a = c .before .before .before .before .before .before .before .before .before .before .args in
+returns c = λ clock.
+    let after-raise : tie.After-raise = search in
+    let then1 : tie.Then1 = search in
+    let after-is-denied : tie.After-is-denied = search in
+    let start : tie.Start = search in
+    let a = start .args in
     rw (
-      ← c .before .before .before .before .before .before .before .is-denied .ensures,
-      c .before .before .before .before .before .before .if1 .taken,
+      ← after-is-denied .is-denied .ensures,
+      then1 .if1 .taken,
       c .unshown .ensures,
     )
     (raise-delivered (a .regs .now) (a .memory .now) (a .output .now) access _ _ _ _
-    (c .before .before .before .raise .ensures clock access refl))
+    (after-raise .raise .ensures clock access refl))
 
 returns-2 : tie.Need-returns-2
 unfolding byPointerBy withReads
-returns-2 c =
-    λ clock.
-    let a = c .before .before .before .before .before .before .before .before .before .before .before .before .before
-    .before .before .args in
-    let after-load = c .before .before .before .before .before .before .before .before .after-load in
-    let load = c .before .before .before .before .before .before .before .before .before .load in
+returns-2 c = λ clock.
+    let after-store-at : tie.After-store-at = search in
+    let counted : tie.After-after-load = search in
+    let loaded : tie.After-load = search in
+    let else1 : tie.Else1 = search in
+    let after-is-denied : tie.After-is-denied = search in
+    let start : tie.Start = search in
+    let a = start .args in
+    let after-load = counted .after-load in
+    let load = loaded .load in
     rw (
-      ← c .before .before .before .before .before .before .before .before .before .before .before .before .is-denied
-          .ensures,
-      c .before .before .before .before .before .before .before .before .before .before .before .if1 .left,
+      ← after-is-denied .is-denied .ensures,
+      else1 .if1 .left,
     )
-    (c .before .before .before .before .store-at .ensures clock
+    (after-store-at .store-at .ensures clock
     ∙ rw (after-load .ensures (a .regs .now) clock, load .ensures (a .regs .now) clock))
 
 pub store-by-spec : {M : Type 1} → statement M

@@ -16,10 +16,11 @@ use Rattle.parts.proofs.devices.store.Tie as tie
 
 returns : tie.Need-returns
 unfolding storedBy isDeviceBy deviceStore kbsrStore
-returns c =
-    λ regs clock.
-    let a = c .before .before .before .before .before .before .args in
-    rw (c .before .before .before .match .keys1, c .unshown .ensures, ← c .before .before .with-enable .ensures)
+returns c = λ regs clock.
+    let at-match : tie.At-match-keys1 = search in
+    let start : tie.Start = search in
+    let a = start .args in
+    rw (at-match .match .keys1, c .unshown .ensures, ← c .before .before .with-enable .ensures)
     (ap (λ (m : Machine). delivered regs (a .memory .now) (a .output .now) (plainOutcome m (a .memory .now)))
     (c .before .with-kbsr .ensures regs clock))
 
@@ -30,17 +31,20 @@ returns-2 c =
 
 returns-3 : tie.Need-returns-3
 unfolding storedBy isDeviceBy deviceStore
-returns-3 c =
-    λ regs clock. rw (c .before .before .before .before .match .keys3)
+returns-3 c = λ regs clock.
+    let at-match : tie.At-match-keys3 = search in
+    let start : tie.Start = search in
+    rw (at-match .match .keys3)
     (c .before .before .show .ensures _ regs
-    (c .before .before .before .before .before .before .before .args .memory .now) clock refl)
+    (start .args .memory .now) clock refl)
 
 returns-4 : tie.Need-returns-4
 unfolding storedBy isDeviceBy deviceStore timerStatusStore
-returns-4 c =
-    λ regs clock.
-    let a = c .before .before .before .before .before .before .args in
-    rw (c .before .before .before .match .keys4, c .unshown3 .ensures, ← c .before .before .with-enable2 .ensures)
+returns-4 c = λ regs clock.
+    let at-match : tie.At-match-keys4 = search in
+    let start : tie.Start = search in
+    let a = start .args in
+    rw (at-match .match .keys4, c .unshown3 .ensures, ← c .before .before .with-enable2 .ensures)
     (ap (λ (m : Machine). delivered regs (a .memory .now) (a .output .now) (plainOutcome m (a .memory .now)))
     (c .before .with-timer .ensures regs clock))
 
@@ -54,12 +58,14 @@ returns-5 c =
     (c .before .with-timer2 .ensures regs clock))
 
 returns-6 : tie.Need-returns-6
-returns-6 c =
-    λ regs clock.
-    let a = c .before .before .before .before .before .before .before .before .args in
-    rw (c .before .before .before .before .before .match .keys6, c .unshown5 .ensures)
+returns-6 c = λ regs clock.
+    let after-store-psr : tie.After-store-psr = search in
+    let at-match : tie.At-match-keys6 = search in
+    let start : tie.Start = search in
+    let a = start .args in
+    rw (at-match .match .keys6, c .unshown5 .ensures)
     (psr-store-delivered regs (a .memory .now) (a .output .now) (editionOf (a .second)) (a .v) _ _ _
-    (c .before .before .before .store-psr .ensures regs clock))
+    (after-store-psr .store-psr .ensures regs clock))
 
 returns-7 : tie.Need-returns-7
 unfolding storedBy isDeviceBy deviceStore mcrStore
@@ -72,16 +78,18 @@ returns-7 c =
 
 returns-8 : tie.Need-returns-8
 unfolding storedBy
-returns-8 c =
-    λ regs clock.
-    let args = c .before .before .before .before .before .before .before .before .args in
-    let r = c .before .before .before .before .before .match .rest in
+returns-8 c = λ regs clock.
+    let after-set-word : tie.After-set-word = search in
+    let at-match : tie.At-match-rest = search in
+    let start : tie.Start = search in
+    let args = start .args in
+    let r = at-match .match .rest in
     rw (
       no-device (editionOf (args .second)) (args .a) (r .0 .0 .0 .0 .0 .0 .1)
           (λ h. r .0 .0 .0 .0 .0 .1 (inl h)) (λ h. r .0 .0 .0 .0 .0 .1 (inr h)) (r .0 .0 .0 .0 .1) (r .0 .0 .0 .1)
           (r .0 .0 .1) (r .0 .1) (r .1),
       c .unshown7 .ensures,
-      c .before .before .before .set-word .ensures,
+      after-set-word .set-word .ensures,
     )
 
 pub store-spec : {M : Type 1} → statement M

@@ -11,12 +11,13 @@ use Rattle.parts.proofs.devices.store_psr.Tie as tie
 
 returns : tie.Need-returns
 unfolding storedBy
-returns c =
-    λ regs clock.
-    let a = c .before .before .before .before .before .before .args in
+returns c = λ regs clock.
+    let then1 : tie.Then1 = search in
+    let start : tie.Start = search in
+    let a = start .args in
     rw (
       psr-is-device (editionOf (a .second)),
-      c .before .before .before .before .if1 .taken,
+      then1 .if1 .taken,
       c .before .before .set-word .ensures,
     )
 

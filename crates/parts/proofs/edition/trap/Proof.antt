@@ -11,24 +11,28 @@ use Rattle.parts.proofs.edition.trap.Tie as tie
 
 returns : tie.Need-returns
 unfolding linked
-returns c =
-    λ clock output.
-    let a = c .before .before .before .before .before .before .args in
-    rw (c .before .before .before .before .if1 .taken, c .unshown .ensures)
+returns c = λ clock output.
+    let then1 : tie.Then1 = search in
+    let start : tie.Start = search in
+    let a = start .args in
+    rw (then1 .if1 .taken, c .unshown .ensures)
     (ap (λ (e : Effect). deliver (a .regs .now) (a .memory .now) output (e .machine) (e .memory) Instruction (e .shown))
     (c .before .link .ensures clock))
 
 returns-2 : tie.Need-returns-2
-returns-2 c =
-    λ clock output.
-    let a = c .before .before .before .before .before .before .before .before .before .args in
+returns-2 c = λ clock output.
+    let after-raise : tie.After-raise = search in
+    let after-next : tie.After-next = search in
+    let else1 : tie.Else1 = search in
+    let start : tie.Start = search in
+    let a = start .args in
     rw (
-      c .before .before .before .before .before .before .before .if1 .left,
+      else1 .if1 .left,
       c .unshown2 .ensures,
-      ← c .before .before .before .before .next .ensures,
+      ← after-next .next .ensures,
     )
     (raise-delivered (a .regs .now) (a .memory .now) output (trap (a .vector)) _ _ _ _
-    (c .before .before .before .raise .ensures clock (trap (a .vector)) refl))
+    (after-raise .raise .ensures clock (trap (a .vector)) refl))
 
 pub trap-spec : {M : Type 1} → statement M
 trap-spec =

@@ -7,20 +7,24 @@ use Rattle.parts.proofs.entry.enter.Tie as tie
 
 returns : tie.Need-returns
 unfolding entry afterEntry stackPointerOnEntry userStackOnEntry
-returns c =
-    λ clock reason h.
-    let with-stack = c .before .before .before .before in
-    let pushed = with-stack .before .before .before .before .before .before in
+returns c = λ clock reason h.
+    let after-by-mode2 : tie.After-by-mode2 = search in
+    let after-set-register : tie.After-set-register = search in
+    let after-before3 : tie.After-before3 = search in
+    let after-before2 : tie.After-before2 = search in
+    let after-push-two : tie.After-push-two = search in
+    let after-by-mode : tie.After-by-mode = search in
+    let after-register : tie.After-register = search in
     rw (
       h,
       c .before .word-at .ensures,
-      c .before .before .before .by-mode2 .ensures,
-      with-stack .set-register .ensures,
-      with-stack .before .before3 .ensures,
-      with-stack .before .before .before2 .ensures,
-      pushed .push-two .ensures,
-      pushed .before .before .by-mode .ensures,
-      pushed .before .before .before .register .ensures,
+      after-by-mode2 .by-mode2 .ensures,
+      after-set-register .set-register .ensures,
+      after-before3 .before3 .ensures,
+      after-before2 .before2 .ensures,
+      after-push-two .push-two .ensures,
+      after-by-mode .by-mode .ensures,
+      after-register .register .ensures,
     )
 
 pub enter-spec : {M : Type 1} → statement M

@@ -8,9 +8,10 @@ use Rattle.parts.proofs.entry.interrupt.Tie as tie
 
 returns : tie.Need-returns
 unfolding interrupted
-returns c =
-    λ clock. c .before .before .enter .ensures clock
-    (interrupt (c .before .before .before .before .before .before .before .args .vector)) refl
+returns c = λ clock.
+    let start : tie.Start = search in
+    c .before .before .enter .ensures clock
+    (interrupt (start .args .vector)) refl
 
 pub interrupt-spec : {M : Type 1} → statement M
 interrupt-spec = tie.close (tie.spec (λ c. search needs) (λ c. search needs) (λ c κs. search needs) (λ c. search needs)

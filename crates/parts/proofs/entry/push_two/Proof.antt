@@ -7,11 +7,14 @@ use Rattle.parts.proofs.entry.push_two.Tie as tie
 returns : tie.Need-returns
 unfolding pushed
 returns c =
+    let after-before3 : tie.After-before3 = search in
+    let after-set-word : tie.After-set-word = search in
+    let after-before2 : tie.After-before2 = search in
     rw (
       c .before .before .set-word2 .ensures,
-      c .before .before .before .before .before3 .ensures,
-      c .before .before .before .before .before .before .before .set-word .ensures,
-      c .before .before .before .before .before .before .before .before .before .before2 .ensures,
+      after-before3 .before3 .ensures,
+      after-set-word .set-word .ensures,
+      after-before2 .before2 .ensures,
     )
 
 pub push-two-spec : {M : Type 1} → statement M

@@ -25,10 +25,11 @@ loop-holds c =
     λ regs clock. refl
 
 loop-again : tie.Need-loop-again Inv-loop μ-loop
-loop-again c =
-    λ regs clock.
-    let a = c .before .before .before .before .before .before .before .before .args in
-    let l = c .before .before .before .before .before .loop in
+loop-again c = λ regs clock.
+    let at-loop : tie.At-loop Inv-loop μ-loop = search in
+    let start : tie.Start Inv-loop μ-loop = search in
+    let a = start .args in
+    let l = at-loop .loop in
     rw (c .press .ensures regs clock)
     (sym (one-key-arrives (a .t) (a .times .now) (a .bytes .now) (whole regs clock (l .n)) (l .k) (search needs)
     (search needs) (c .before .before .if1 .left))
@@ -43,10 +44,11 @@ returns c =
     ∙ l .inv regs clock
 
 returns-2 : tie.Need-returns-2 Inv-loop μ-loop
-returns-2 c =
-    λ regs clock.
-    let a = c .before .before .before .before .before .before .args in
-    let l = c .before .before .before .loop in
+returns-2 c = λ regs clock.
+    let at-loop : tie.At-loop Inv-loop μ-loop = search in
+    let start : tie.Start Inv-loop μ-loop = search in
+    let a = start .args in
+    let l = at-loop .loop in
     no-key-arrives (a .t) (a .times .now) (a .bytes .now) (whole regs clock (l .n)) (l .k) (search needs) (search needs)
     (c .if1 .taken)
     ∙ l .inv regs clock

@@ -14,34 +14,40 @@ use Rattle.parts.proofs.return_from.return_from_interrupt.Tie as tie
 
 returns : tie.Need-returns
 unfolding return popped inUserMode
-returns c =
-    λ clock output.
-    let a = c .before .before .before .before .before .before .before .before .before .before .before .before .before
-    .before .before .args in
+returns c = λ clock output.
+    let after-defined-psr : tie.After-defined-psr = search in
+    let after-word-at2 : tie.After-word-at2 = search in
+    let after-next : tie.After-next = search in
+    let after-word-at : tie.After-word-at = search in
+    let after-register : tie.After-register = search in
+    let then1 : tie.Then1 = search in
+    let start : tie.Start = search in
+    let a = start .args in
     rw (
-      lt-leb _ _ (c .before .before .before .before .before .before .before .before .before .before .before .before .if1
-          .taken),
+      lt-leb _ _ (then1 .if1 .taken),
       c .unshown .ensures,
     )
     (ap (λ (m : Machine). delivered (a .regs .now) (a .memory .now) output (plainOutcome m (a .memory .now)))
     (c .before .after-return .ensures clock)
     ∙ rw (
       c .before .before .next2 .ensures,
-      c .before .before .before .before .defined-psr .ensures,
-      c .before .before .before .before .before .word-at2 .ensures,
-      c .before .before .before .before .before .before .before .next .ensures,
-      c .before .before .before .before .before .before .before .before .word-at .ensures,
-      c .before .before .before .before .before .before .before .before .before .before .register .ensures,
+      after-defined-psr .defined-psr .ensures,
+      after-word-at2 .word-at2 .ensures,
+      after-next .next .ensures,
+      after-word-at .word-at .ensures,
+      after-register .register .ensures,
     ))
 
 returns-2 : tie.Need-returns-2
 unfolding return inUserMode
-returns-2 c =
-    λ clock output.
-    let a = c .before .before .before .before .before .before .before .before .before .args in
-    rw (le-leb _ _ (c .before .before .before .before .before .before .if1 .left), c .unshown2 .ensures)
+returns-2 c = λ clock output.
+    let after-raise : tie.After-raise = search in
+    let else1 : tie.Else1 = search in
+    let start : tie.Start = search in
+    let a = start .args in
+    rw (le-leb _ _ (else1 .if1 .left), c .unshown2 .ensures)
     (raise-delivered (a .regs .now) (a .memory .now) output privilege _ _ _ _
-    (c .before .before .before .raise .ensures clock privilege refl))
+    (after-raise .raise .ensures clock privilege refl))
 
 pub return-from-interrupt-spec : {M : Type 1} → statement M
 return-from-interrupt-spec =

@@ -19,12 +19,14 @@ returns c =
 returns-2 : tie.Need-returns-2
 unfolding planBy
 returns-2 c =
+    let after-i2 : tie.After-i2 = search in
+    let after-next : tie.After-next = search in
     rw (
-      c .before .before .before .before .i2 .given .1,
+      after-i2 .i2 .given .1,
       c .sum .ensures,
       c .before .register2 .ensures,
       c .before .before .register .ensures,
-      c .before .before .before .before .before .before .next .ensures,
+      after-next .next .ensures,
     )
 
 returns-3 : tie.Need-returns-3
@@ -79,26 +81,31 @@ returns-7 c =
 returns-8 : tie.Need-returns-8
 unfolding planBy
 returns-8 c =
+    let after-i8 : tie.After-i8 = search in
+    let after-next : tie.After-next = search in
     rw (
-      c .before .before .before .before .i8 .given .1,
+      after-i8 .i8 .given .1,
       c .bit-and .ensures,
       c .before .register6 .ensures,
       c .before .before .register5 .ensures,
-      c .before .before .before .before .before .before .next .ensures,
+      after-next .next .ensures,
     )
 
 returns-9 : tie.Need-returns-9
 unfolding planBy
 returns-9 c =
-    let n = c .before .before .before .before .i9 .given .0 .1 .1 .0 in
-    let known = c .before .before .before .known-told9 .given in
+    let after-known-told9 : tie.After-known-told9 = search in
+    let after-i9 : tie.After-i9 = search in
+    let after-next : tie.After-next = search in
+    let n = after-i9 .i9 .given .0 .1 .1 .0 in
+    let known = after-known-told9 .known-told9 .given in
     let e : toZ w16 (ofZ w16 n) ≡ n = search needs in
     rw (
-      c .before .before .before .before .i9 .given .1,
+      after-i9 .i9 .given .1,
       c .bit-and2 .ensures,
       c .before .word-of .ensures,
       c .before .before .register7 .ensures,
-      c .before .before .before .before .before .before .next .ensures,
+      after-next .next .ensures,
       e,
     )
 
