@@ -196,8 +196,8 @@ pub fn run(
 /// Runs for long sittings: answers and leaves what [`run`] does, on every call.
 ///
 /// It keeps the instructions of four pages of 256 words, read in advance: so it is faster, but for a
-/// program that does little but trap and return, or stays a few steps in each of many pages. A call
-/// of fewer than 256 steps reads none in advance.
+/// program that stays only a few steps in each of many pages. A call of fewer than 256 steps reads
+/// none in advance.
 ///
 /// ```
 /// use fanthrig::{Keys, Mode, STEP_LIMIT};

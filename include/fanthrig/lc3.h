@@ -424,8 +424,8 @@ lc3_answer lc3_run(lc3_record record, uint16_t *memory, size_t memory_len, const
 /*
  * Runs for long sittings: answers and leaves what lc3_run does, on every call. It keeps the
  * instructions of four pages of 256 words, read in advance: so it is faster, but for a program that
- * does little but trap and return, or stays a few steps in each of many pages. A call of fewer than
- * 256 steps reads none in advance.
+ * stays only a few steps in each of many pages. A call of fewer than 256 steps reads none in
+ * advance.
  */
 lc3_answer lc3_run_long(lc3_record record, uint16_t *memory, size_t memory_len,
                         const uint64_t *times, size_t times_len, const uint8_t *bytes,
