@@ -3,9 +3,10 @@
 //! loops of `sittings` seldom leave a few pages and seldom wait for a device.
 
 use super::cases::Case;
+use super::sittings::{placed, written};
 use super::Rng;
 use crate::reference::bus;
-use crate::reference::figure::{self, Kind};
+use crate::reference::figure::Kind;
 use fanthrig::{Record, MONITOR_WORDS, WORDS};
 use std::sync::LazyLock;
 
@@ -139,14 +140,9 @@ pub fn alter(rng: &mut Rng, case: &mut Case) {
     }
 }
 
-fn written(kind: Kind, a: u8, b: u8, c: u8, value: i32) -> u16 {
-    figure::write(kind as u8, a, b, c, value).expect("fields within their ranges")
-}
-
 impl Planter<'_> {
     fn plant(&mut self, at: u16, words: &[u16]) {
-        let places = (0..).map(|i| at.wrapping_add(i));
-        self.patches.extend(places.zip(words.iter().copied()));
+        self.patches.extend(placed(at, words));
     }
 
     /// An address of code: often near the beginning of its page, or at its end.

@@ -84,14 +84,19 @@ fn place(rng: &mut Rng, user: bool) -> u16 {
     }
 }
 
-fn written(kind: Kind, a: u8, b: u8, c: u8, value: i32) -> u16 {
+/// The word of an instruction.
+pub fn written(kind: Kind, a: u8, b: u8, c: u8, value: i32) -> u16 {
     figure::write(kind as u8, a, b, c, value).expect("fields within their ranges")
+}
+
+/// Words one after the other, each with its address.
+pub fn placed(at: u16, words: &[u16]) -> impl Iterator<Item = (u16, u16)> + '_ {
+    (0..).map(move |i| at.wrapping_add(i)).zip(words.iter().copied())
 }
 
 impl Planter<'_> {
     fn plant(&mut self, at: u16, words: &[u16]) {
-        let places = (0..).map(|i| at.wrapping_add(i));
-        self.patches.extend(places.zip(words.iter().copied()));
+        self.patches.extend(placed(at, words));
     }
 
     /// An address in a block, or a word or two beside it.
