@@ -9,7 +9,7 @@ from typing import Dict, Iterator, List, Set, Tuple
 from .modules import Definition, Meaning, Module, RecordType, Repository
 from .syntax import Node
 
-# The theorems that requests and demands ask for, found by name in whatever crate they stand.
+# The theorems that are promised, found by name in whatever crate they stand.
 THEOREMS = (
     'Noninterference', 'EndsAsNewerRun', 'CommonStepsAgree', 'OneAlteredWord', 'StepReads',
     'StepWrites', 'LogTells', 'TimerTheorems', 'MaskInPlaces', 'WrittenDiffersInMaskedBits',

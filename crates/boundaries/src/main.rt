@@ -1,4 +1,4 @@
-// The boundaries of a run, after "How calls are turned down" of document 01: each refusal where it begins, one line for
+// The boundaries of a run, after M12: each refusal where it begins, one line for
 // each call. The gate compares what is printed with the file stdout.
 use lines::attempt;
 use lines::fill;
@@ -152,7 +152,7 @@ fn key_orders(memory: &mut [u16]) {
     );
 }
 
-// Calls that every refusal from one on applies to: the first in the paper's order is answered.
+// Calls that every refusal from one on applies to: the first in the order of M12.2 is answered.
 fn first_answered(memory: &mut [u16]) {
     let m = record();
     let mut bad = m;

@@ -1,5 +1,5 @@
-// Lines of text for hosts in C and Rust: the line of a word (request 1), its length (request 6) and the lines of a
-// range of memory (request 5). Every call accepts every argument; the refusals are those of include/fanthrig/lc3.h.
+// Lines of text for hosts in C and Rust: the line of a word (M16), its length (M20) and the lines of a range of
+// memory (M19). Every call accepts every argument; the refusals are those of include/fanthrig/lc3.h.
 use lent::Lc3Counted;
 use line::lengths::line_length;
 use lines::line;

@@ -1,4 +1,4 @@
-// Document 01's run for hosts in C and Rust. Nothing is required of a caller.
+// The run (M12, M13) for hosts in C and Rust. Nothing is required of a caller.
 use answers::Lc3Answer;
 use answers::answer_of;
 use answers::refused;

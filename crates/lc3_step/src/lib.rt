@@ -1,4 +1,4 @@
-// Document 01's single step for hosts in C and Rust, on a record that the host keeps: the by-value step of `single`,
+// The single step (M3.5) for hosts in C and Rust, on a record that the host keeps: the by-value step of `single`,
 // answered as a run is. It has an archive of its own, with the one call of the step in it and no loop, so that the
 // compiler inlines all of it. Nothing is required of a caller.
 use answers::Lc3Report;

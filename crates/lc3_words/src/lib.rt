@@ -1,6 +1,5 @@
-// Instruction words for hosts in C and Rust: reading and writing, with an instruction as one flat record ('Instruction
-// words' and 'Write an instruction' of document 01). Every call accepts every argument. The kinds and operands are
-// those of include/fanthrig/lc3.h.
+// Instruction words for hosts in C and Rust: reading and writing, with an instruction as one flat record (M4, M11.3,
+// M11.4). Every call accepts every argument. The kinds and operands are those of include/fanthrig/lc3.h.
 pub mod flat;
 pub mod unflat;
 

@@ -1,4 +1,4 @@
--- Words and their lines: one table, in request 1's order of rules.
+-- Words and their lines: one table, in the order of M16's rules.
 use Prim.Native.Nat.{ℕ}
 use Prim.Native.String.{String}
 use mathlib.Core.Path.{_≡_}

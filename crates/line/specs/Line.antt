@@ -1,4 +1,4 @@
--- The line of text of a memory word (request 1).
+-- The line of text of a memory word (M16).
 use Prim.Native.Nat.{ℕ}
 use mathlib.Core.Bool.{cond}
 use mathlib.Core.List.{List, [], _∷_}

@@ -1,4 +1,4 @@
--- A whole page of lines (request 5): "what asking for the lines singly and joining them gives".
+-- A whole page of lines (M19): "what asking for the lines singly and joining them gives".
 use Prim.Native.Nat.{ℕ, _+_}
 use mathlib.Core.Bool.{cond}
 use mathlib.Core.List.{List, [], _∷_, _++_}

@@ -1,4 +1,4 @@
-// The calls that write lines: that of one memory word (request 1), and a whole page of them (request 5).
+// The calls that write lines: that of one memory word (M16), and a whole page of them (M19).
 use lent::Counted;
 use line::lengths::line_length;
 use line::putting::put_line;

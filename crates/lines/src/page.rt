@@ -1,4 +1,4 @@
-// A whole page of lines (request 5): the lines of a range of memory, one after the other.
+// A whole page of lines (M19): the lines of a range of memory, one after the other.
 use lent::Counted;
 use line::lengths::line_length;
 use line::putting::put_line;

@@ -1,4 +1,4 @@
--- The logged run of request 9, in the order of its sentences; then what is proved of it, and worked logs.
+-- The logged run of M26, in the order of its rules; then what is proved of it, and worked logs.
 pub mod Log
 pub mod LoggedRun
 pub mod LoggedCall

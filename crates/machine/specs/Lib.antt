@@ -1,4 +1,4 @@
--- The machine of document 01, one concept a file, in the paper's order; then what the theorems say of a step, and the
+-- The machine of M2 to M10, one concept a file, in that order; then what the theorems say of a step, and the
 -- worked steps. What the two editions differ in stands in Edition.
 pub mod Words
 pub mod Record

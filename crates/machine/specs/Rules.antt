@@ -1,4 +1,4 @@
--- What a log tells of a step (request 9): "what it did and by which rule", and the word that it fetched.
+-- What a log tells of a step (M26): "what it did and by which rule", and the word that it fetched.
 use Prim.Native.Nat.{ℕ}
 use mathlib.Core.Path.{_≡_}
 use mathlib.Core.Bool.{Bool, true, false, cond, _&&_}

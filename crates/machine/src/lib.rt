@@ -1,5 +1,5 @@
 // The LC-3 machine: its record, and the types that its definitions share with the code.
-// What one step does is defined in specs/, in the order of document 01; the crates `parts` and `step` compute it.
+// What one step does is defined in specs/, in the order of M2 to M10; the crates `parts` and `step` compute it.
 ghost use mathlib.Core.Path.{_≡_};
 ghost use mathlib.Core.List.{List};
 ghost use Prim.Native.Nat.{ℕ, _-_};
@@ -20,7 +20,7 @@ pub struct Devices {
     pub timer_count: u16,
 }
 
-// The record of document 01, as a host keeps it. Defined bits of PSR: x8707.
+// The record of M2.1, as a host keeps it. Defined bits of PSR: x8707 (M2.3).
 #[repr(C)]
 pub struct Machine {
     pub regs: [u16; 8],

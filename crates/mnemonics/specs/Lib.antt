@@ -1,2 +1,2 @@
--- The text of a statement (request 1): a mnemonic with its operands.
+-- The text of a statement (M16): a mnemonic with its operands.
 pub mod Statement

@@ -1,5 +1,5 @@
 // The parts of a step. The registers and memory are lent; the rest of the record, `Control`, goes by value. Each file
-// holds one concept of document 01. Its definition is in crates/machine/specs under the same name; that of
+// holds one concept of M5 to M10. Its definition is in crates/machine/specs under the same name; that of
 // `return_from` in Return.
 use machine::Control;
 use machine::Rule;

@@ -36,7 +36,7 @@ bordered =
 abbrev pub borders : List ℕ → List ℕ → List ℕ
 borders words = λ indices. length words ∷ map (λ i. getD words i 0) indices
 
--- ---- what request 10 excludes
+-- ---- what M27.7 excludes
 
 -- What the step from this moment meets, with this word at PC.
 abbrev pub met : ℕ → Moment → List Exclusion
@@ -58,7 +58,7 @@ privileged = privileged-address ∷ []
 abbrev pub the-psr : List Exclusion
 the-psr = psr-address ∷ []
 
--- ---- what demand 3 tells apart, the timer, and request 14's one word
+-- ---- what demand 3 tells apart, the timer, and the one word of M28
 
 -- A cause of each kind.
 abbrev pub causes : List Cause

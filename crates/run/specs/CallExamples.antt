@@ -1,5 +1,5 @@
 -- Fresh records, refusals and stops, each rule with calls that would be answered otherwise without it: one table, in
--- document 01's order.
+-- the order of M11 to M13.
 use Prim.Native.Nat.{ℕ, _+_, _-_, _^_}
 use mathlib.Core.Path.{_≡_}
 use mathlib.Core.Bool.{true, false}

@@ -53,12 +53,12 @@ pub record FirstOffenceIsAnswered (clock : ℕ) (times : List ℕ) : Type 0 wher
       → timesAdmission clock clock 0 times ≡ Rejected (TimesOutOfOrder i)
   pub accepted : NoOffence clock times → timesAdmission clock clock 0 times ≡ Accepted
 
--- Document 01's 15: "a time is below the clock or below the one before it".
+-- What 15 was before M22: "a time is below the clock or below the one before it".
 unfoldable pub outOfOrder : ℕ → List ℕ → Bool
 outOfOrder t [] = false
 outOfOrder t (u ∷ times) = ltb u t || outOfOrder u times
 
--- One of document 01's five refusals applies.
+-- One of the five refusals that there were before M22 applies.
 abbrev pub refusedBefore : Start → ℕ → Bool
 refusedBefore s n =
     wrongSize (s .memory) || undefinedRecord (s .machine) || tooManySteps (s .machine .clock) n

@@ -1,4 +1,4 @@
--- How far one altered word can reach: request 14, clause by clause, over the calls.
+-- How far one altered word can reach: M28, clause by clause, over the calls.
 use Prim.Native.Nat.{ℕ, suc, _≤_, _<_}
 use mathlib.Core.Path.{_≡_}
 use mathlib.Core.Bool.{Bool, true, false}

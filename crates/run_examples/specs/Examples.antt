@@ -1,4 +1,4 @@
--- "Fourteen proved examples": one table in the paper's order, each row under its line. Every row but the first is the
+-- The fourteen examples of M15: one table in their order, each row under its line. Every row but the first is the
 -- call with n = 1, so that it says too that the call is accepted and makes its step.
 use Prim.Native.Nat.{ℕ}
 use mathlib.Core.Path.{_≡_}

@@ -1,4 +1,4 @@
-// The record that is answered: a fresh one (document 01, 'How calls are turned down'), or zeros.
+// The record that is answered: a fresh one (M11.1), or zeros (M25.2).
 use machine::Machine;
 ghost use mathlib.Core.Path.{_≡_};
 ghost use Rattle.run.specs.Fresh.{freshOf};

@@ -1,4 +1,4 @@
--- Each exclusion that a step meets is one that request 10 names: by the definition of what it meets.
+-- Each exclusion that a step meets is one that M27.7 names: by the definition of what it meets.
 use Prim.Native.Nat.{ℕ, _%_}
 use mathlib.Core.Path.{_≡_, refl, sym}
 use mathlib.Core.Bool.{Bool, true, false, cond, _||_}

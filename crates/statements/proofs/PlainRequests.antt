@@ -1,4 +1,4 @@
--- Requests 10 and 14 in plain terms: from the theorems on runs; what is among a list is tested by `isAmong` there.
+-- M27.7 and M28 in plain terms: from the theorems on runs; what is among a list is tested by `isAmong` there.
 use Prim.Native.Nat.{ℕ, suc, _%_, _≤_, _<_}
 use mathlib.Core.Path.{_≡_, refl, sym, ap, _∙_}
 use mathlib.Core.Bool.{Bool, true, false, true≢false, _||_}
@@ -64,7 +64,7 @@ not-among-is-none a (b ∷ l) h = go (eqb a b) refl (λ r. not-among-is-none a l
     go true e rest = absurd (true≢false (rw e at h))
     go false e rest = (eqb-false a b e, rest (rw e at h))
 
--- ---- request 10
+-- ---- M27.7
 
 same-addresses : (i : Instruction) (m : Machine) (mem : List ℕ)
     → accessesOf (planBy second (m .regs) (m .pc) (m .psr) i) m mem ≡ addressesOf i m mem
@@ -152,7 +152,7 @@ plain-request-10 s n made stopped =
       stopped-before = λ f. common-meets-none s (secondCallOf s (secondCallOf s n .steps)) (stopped f);
     })
 
--- ---- request 14
+-- ---- M28
 
 not-taken : (step : Step) (w : ℕ) (s : Start) (k : ℕ) → NoneTakes step w s k → NotTaken step w s k
 unfolding takes readsAt

@@ -12,7 +12,7 @@ use Rattle.run.specs.Run.{Start}
 use Rattle.run.specs.Refusals.{admissionOf}
 use Rattle.run.specs.KeyLists.{outOfOrder}
 
--- What the five refusals of document 01 leave.
+-- What the five refusals that there were before M22 leave.
 pub record Handed (s : Start) (n : ℕ) : Type 0 where
   -- not 11: "memory is not 65,536 words"
   pub size : length (s .memory) ≡ 65536

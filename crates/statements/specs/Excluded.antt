@@ -1,4 +1,4 @@
--- Request 10's exclusions, from above: each that a step meets is one that the request names, and is met for no other
+-- The exclusions of M27.7, from above: each that a step meets is one that the rule names, and is met for no other
 -- reason. A longer list would make `EndsAsNewerRun` say less, and be proved as gladly.
 use Prim.Native.Nat.{ℕ, _%_}
 use mathlib.Core.Path.{_≡_}

@@ -1,5 +1,5 @@
--- What a reader of the theorems needs besides: what the cause of a step means, what a step reads, what request 10
--- excludes, and what demand 3 rests on; demand 3 and requests 10 and 14 in plain terms; when a call is accepted.
+-- What a reader of the theorems needs besides: what the cause of a step means, what a step reads, what M27.7
+-- excludes, and what demand 3 rests on; demand 3, M27.7 and M28 in plain terms; when a call is accepted.
 pub mod Entries
 pub mod NoOtherReads
 pub mod Excluded

@@ -1,5 +1,5 @@
 -- What a step reads, from above: `StepReads` (crates/touched) would stay true of a step that claimed to read more.
--- Request 14 names the reads: a step "fetches, loads, pops or takes a vector or pointer".
+-- M28.2 names the reads: a step "fetches, loads, pops or takes a vector or pointer".
 use Prim.Native.Nat.{ℕ}
 use mathlib.Core.Path.{_≡_}
 use mathlib.Core.Bool.{true}

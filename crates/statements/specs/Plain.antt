@@ -1,5 +1,5 @@
 -- Demand 3 once more, with none of the notions that its statement in crates/run names: registers, addresses and steps
--- as the paper has them. Were a notion there to ask for more or to say less, this would not follow.
+-- as M14 has them. Were a notion there to ask for more or to say less, this would not follow.
 use Prim.Native.Nat.{ℕ, _≤_, _<_}
 use mathlib.Core.Path.{_≡_}
 use mathlib.Core.Bool.{true, false}

@@ -1,6 +1,5 @@
--- Requests 10 and 14 once more, with none of the notions that their statements in crates/run name: instructions,
--- addresses and steps as the requests have them. Were a notion there to ask for more or to say less, this would not
--- follow.
+-- M27.7 and M28 once more, with none of the notions that their statements in crates/run name: instructions, addresses
+-- and steps as MACHINE.md has them. Were a notion there to ask for more or to say less, this would not follow.
 use Prim.Native.Nat.{ℕ, suc, _%_, _≤_, _<_}
 use mathlib.Core.Path.{_≡_}
 use mathlib.Core.List.{List, [], _∷_}
@@ -25,7 +24,7 @@ use Rattle.run.specs.Run.{Start, End, arriving, nextStepBy}
 use Rattle.run.specs.Refusals.{admissionOf}
 use Rattle.run.specs.Call.{startOf, callBy, callOf, secondCallOf}
 
--- ---- request 10
+-- ---- M27.7
 
 -- The addresses of an instruction's data and pointer accesses; where a pointer is, what it points to is the second.
 abbrev pub addressesOf : Instruction → Machine → List ℕ → List ℕ
@@ -73,7 +72,7 @@ PlainRequest10 = (s : Start) (n : ℕ)
     → (secondCallOf s n .ending ≡ OutputFull → CommonNext s (secondCallOf s (secondCallOf s n .steps)))
     → secondCallOf s n ≡ callOf s n
 
--- ---- request 14
+-- ---- M28
 
 -- None of the first k steps "fetches, loads, pops or takes a vector or pointer from" the word at w.
 abbrev pub NoneTakes : Step → ℕ → Start → ℕ → Type 0

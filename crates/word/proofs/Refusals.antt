@@ -1,4 +1,4 @@
--- The refusals of `writeOf` stand in document 01's order, by the cases of the three tests; and a refused word is 0.
+-- The refusals of `writeOf` stand in the order of M11.3, by the cases of the three tests; and a refused word is 0.
 use Prim.Native.Nat.{ℕ}
 use native.Mathlib.Omega.{arith}
 use mathlib.Core.Path.{_≡_, refl, sym}

@@ -1,5 +1,5 @@
--- Document 01 on instruction words, as definitions: Field, Reading, Writing, Range, FixedBits and Mask. What is proved
--- of them is stated in Theorems.
+-- Instruction words (M4, M11.3, M21), as definitions: Field, Reading, Writing, Range, FixedBits and Mask. What is
+-- proved of them is stated in Theorems.
 pub mod Field
 pub mod Reading
 pub mod Writing

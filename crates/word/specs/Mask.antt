@@ -1,4 +1,4 @@
--- The fixed bits of a word that are wrong (request 12): a number with 1 in their places and 0 in all others.
+-- The fixed bits of a word that are wrong (M21): a number with 1 in their places and 0 in all others.
 use Prim.Native.Nat.{ℕ, _+_, _-_, _*_, _/_, _%_}
 use mathlib.Core.Bool.{cond}
 use mathlib.Core.List.{List, [], _∷_}

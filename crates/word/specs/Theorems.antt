@@ -94,7 +94,7 @@ WrittenInRange = (i : Instruction) → InRange i → writeOf i ≡ written (word
 abbrev pub NotRefusedExactly : Type 0
 NotRefusedExactly = (i : Instruction) → (writeOf i .refusal ≡ 0) ↔ InRange i
 
--- The refusals, each exactly where document 01 has it: 1 if a register is above 7, else 2 if a signed field, trap
+-- The refusals, each exactly where M11.3 has it: 1 if a register is above 7, else 2 if a signed field, trap
 -- vector or reserved field is out of range, else 3 if the BR mask is above 7, and 0 in every other case.
 pub record RefusalsOf (i : Instruction) : Type 0 where
   pub register : (writeOf i .refusal ≡ 1) ↔ (registersInRange i ≡ false)
@@ -110,7 +110,7 @@ RefusalsInOrder = (i : Instruction) → RefusalsOf i
 abbrev pub RefusedWordIsZero : Type 0
 RefusedWordIsZero = (i : Instruction) → (writeOf i .refusal ≡ 0 → ⊥) → writeOf i .word ≡ 0
 
--- Example 1 of document 01: x14E7 reads as ADD R2, R3, #7.
+-- M15.1: x14E7 reads as ADD R2, R3, #7.
 abbrev pub Example1 : Type 0
 Example1 = readOf 0x14E7 ≡ AddImmediate 2 3 (pos 7)
 

@@ -1,4 +1,4 @@
-// Signed fields of an instruction word, in two's complement ('Instruction words' of document 01).
+// Signed fields of an instruction word, in two's complement (M4.2).
 // A field of k bits is passed as its half, 2 to the power of k - 1: it holds -half to half - 1.
 ghost use mathlib.Core.Path.{_≡_};
 ghost use Prim.Native.Nat.{_+_, _%_, _<_, _≤_};

@@ -1,5 +1,5 @@
-// LC-3 instruction words, after 'Instruction words' of document 01; they are written in crate `writing`.
-// The forms are those of Figure A.2 (source document 000); names of fields are the figure's.
+// LC-3 instruction words, after M4; they are written in crate `writing`.
+// The forms are those of Figure A.2; names of fields are the figure's.
 pub mod fields;
 pub mod masks;
 pub mod reading;

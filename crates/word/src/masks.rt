@@ -1,4 +1,4 @@
-// Which of the bits that Figure A.2 fixes are wrong in a word, as a number with 1 in their places (request 12).
+// Which of the bits that Figure A.2 fixes are wrong in a word, as a number with 1 in their places (M21).
 use super::Read;
 use super::reading::read;
 ghost use mathlib.Core.Path.{_≡_};

@@ -1,5 +1,5 @@
-// Reading a word as an instruction ('Instruction words' of document 01). Every word is accepted,
-// and bits that Figure A.2 fixes are ignored.
+// Reading a word as an instruction (M4.1). Every word is accepted, and bits that Figure A.2 fixes are
+// ignored (M4.5).
 use super::Instruction;
 use super::fields;
 use super::fields::extend;

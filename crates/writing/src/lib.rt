@@ -1,4 +1,4 @@
-// Writing an instruction as a word ('Write an instruction' of document 01). An instruction with a
+// Writing an instruction as a word (M4.6, M11.3). An instruction with a
 // part out of range is refused with word 0; bits that Figure A.2 fixes are set as in the figure.
 use word::Instruction;
 use word::Written;
