@@ -29,17 +29,17 @@
  *
  * - The library keeps nothing. Buffers are lent for the length of the call; it holds no pointer
  *   after it, allocates nothing and has no state of its own.
- * - Buffers must be real and apart. Each is a pointer and a number of elements (not bytes): the
- *   pointer must be valid for that many elements and aligned for them. An empty buffer takes any
- *   aligned pointer but NULL. Memory, times, bytes, output, log, file and the record lent to
- *   lc3_step may not overlap.
- * - Several threads may call at once. What a call only reads they may share while nobody writes
+ * - Buffers must be valid and must not overlap: memory, times, bytes, output, log, file, and the
+ *   record lent to lc3_step. Each is a pointer and a number of elements (not bytes). The pointer
+ *   must be valid for that many elements and aligned for them. An empty buffer takes any aligned
+ *   pointer but NULL.
+ * - Several threads may call at once. They may share what a call only reads, while nobody writes
  *   it: times and bytes of every run and step, file of a start, memory of lc3_page and lc3_save,
- *   all that lc3_tell and lc3_certify are lent.
- *   What a call writes is that call's alone: memory of every run and step, of a start and of
- *   lc3_monitor, every output, the log, and the record lent to a step.
- * - Every call is answered. One that cannot be obeyed is refused with a number that says why, and
- *   a refused call leaves every field of the record and every buffer as it was.
+ *   all that lc3_tell and lc3_certify are lent. They may not share what a call writes: memory of
+ *   every run and step, of a start and of lc3_monitor, every output, the log, and the record lent
+ *   to a step.
+ * - Every call returns. A malformed one is refused with a number that says why, and leaves every
+ *   field of the record and every buffer as it was.
  * - Padding means nothing. The bytes of a struct that belong to no field may hold anything and may
  *   change in any call: compare structs field by field.
  *
@@ -64,7 +64,7 @@ __extension__ typedef _Bool lc3_bool;
 /*
  * The version of this interface. It rises by 1 whenever the layout of a struct or the meaning of a
  * call changes. The name that the shared library is loaded by (its SONAME) ends in it, as in
- * libfanthrig.so.3, so that no host meets another version than it was built for.
+ * libfanthrig.so.7, so that no host loads another version than the one it was built for.
  */
 #define LC3_VERSION 7
 
@@ -206,8 +206,8 @@ typedef struct {
 typedef struct {
     lc3_record record; /* the machine after the run */
     uint64_t steps;    /* steps made */
-    uint64_t keys;     /* keys that arrived: the first so many of the lists */
-    uint64_t shown;    /* bytes shown: the first so many of the output */
+    uint64_t keys;     /* keys that arrived: how many leading entries of the lists */
+    uint64_t shown;    /* bytes shown: how many leading bytes of the output */
     uint64_t index;    /* under 15 and 19 the first entry of times that is at fault; else 0 */
     uint32_t refusal;  /* LC3_ACCEPTED, LC3_REFUSED_MEMORY to LC3_REFUSED_TIME, LC3_REFUSED_ORDER */
     uint32_t stop;     /* LC3_DONE, LC3_HALTED or LC3_OUTPUT_FULL; 0 where refused */
@@ -226,7 +226,7 @@ typedef struct {
 typedef struct {
     lc3_record record;
     uint64_t steps, keys, shown;
-    uint64_t logged; /* words of the log written: the first so many; 0 where refused */
+    uint64_t logged; /* words written, from the log's start on; 0 where refused */
     uint64_t index;
     uint32_t refusal, stop; /* the stop may be LC3_LOG_FULL */
 } lc3_logged_answer;
@@ -373,7 +373,7 @@ uint32_t lc3_version(void);
  * The file's first word is the origin, and the others are stored from there on; each is two bytes,
  * the high byte first. No other word of memory changes.
  *
- * The record stands at the origin, in User mode if user holds and in Supervisor mode if not, with
+ * The record has PC at the origin, User mode if user is true and Supervisor mode if not,
  * condition code Z, priority 0, clock 0 and the clock enabled. The supervisor stack begins at x3000
  * and the user stack at user_stack: R6 is the current mode's pointer, the other one is saved. All
  * else is 0. No run is refused for such a record, or for such a memory.
@@ -382,9 +382,9 @@ uint32_t lc3_version(void);
  * one that is to run last, and keeps the last record. A file of two bytes, an origin alone, starts
  * a machine at that address with nothing loaded.
  *
- * The file may lie anywhere, on vectors, the monitor's routines and the examiner's words too,
- * whatever the mode: user protects the memory from the program's steps, and not from its file. For
- * a file that is not trusted there is lc3_start_user.
+ * The file may lie anywhere, whatever the mode, even on vectors, the monitor's routines and the
+ * examiner's words: user protects memory from the program's steps, not from its file. For a file
+ * that is not trusted use lc3_start_user.
  */
 lc3_started lc3_start(const uint8_t *file, size_t file_len, uint16_t *memory, size_t memory_len,
                       lc3_bool user, uint16_t user_stack);
@@ -414,8 +414,8 @@ lc3_started lc3_start_user(const uint8_t *file, size_t file_len, uint16_t *memor
  * output   takes the bytes shown, in order from the first; what lies after them is left as lent.
  *
  * To go on with a run, hand in the answered record, the same memory, the lists without their
- * first answer.keys keys, and an output with a free byte: any such division of a run comes to
- * what the undivided run does.
+ * first answer.keys keys, and an output with a free byte. A run that is divided in any such way
+ * comes to what the undivided run comes to.
  */
 lc3_answer lc3_run(lc3_record record, uint16_t *memory, size_t memory_len, const uint64_t *times,
                    size_t times_len, const uint8_t *bytes, size_t bytes_len, uint8_t *output,
@@ -423,8 +423,8 @@ lc3_answer lc3_run(lc3_record record, uint16_t *memory, size_t memory_len, const
 
 /*
  * Runs for long sittings: answers and leaves what lc3_run does, on every call. It keeps the
- * instructions of four pages of 256 words, read in advance: so it is faster, but for a program that
- * stays only a few steps in each of many pages. A call of fewer than 256 steps reads none in
+ * instructions of four pages of 256 words, read in advance. So it is faster, except for a program
+ * that stays only a few steps in each of many pages. A call of fewer than 256 steps reads none in
  * advance.
  */
 lc3_answer lc3_run_long(lc3_record record, uint16_t *memory, size_t memory_len,
@@ -470,7 +470,7 @@ lc3_logged_answer lc3_run_logged(lc3_record record, uint16_t *memory, size_t mem
  * - JSRR R7 goes on at the next instruction, since R7 is overwritten first.
  *
  * A run with none of this (no LEA, TRAP or JSRR R7, no privileged address in User mode, no xFFFC)
- * ends exactly as lc3_run does. A program in User mode is kept from nothing here: where a
+ * ends exactly as lc3_run does. Nothing is protected from a program in User mode here: where a
  * candidate may not see the examiner's words, use lc3_run.
  */
 lc3_answer lc3_run_second(lc3_record record, uint16_t *memory, size_t memory_len,
@@ -486,7 +486,7 @@ lc3_report lc3_step_second(lc3_record *record, uint16_t *memory, size_t memory_l
  * is the one that lc3_run, or lc3_run_second, would make first if it were handed the same and the
  * output had room: the keys of its time arrive in it and the timer's count falls.
  *
- * Told are words of memory, and not the device registers that loads and stores find in their place.
+ * It tells of words of memory, not of the device registers that loads and stores reach instead.
  *
  *   reads    first the word at PC, unless nothing is fetched (word is 0 then: an interrupt, or a
  *            fetch that is denied); then the pointer of LDI and STI, what LD, LDR and LDI load, or
@@ -574,11 +574,11 @@ lc3_routines lc3_monitor_routines(void);
 uint32_t lc3_vectors(lc3_routines routines, uint16_t *output, size_t output_len);
 
 /*
- * Tests a claim about a monitor, any class's. Where it finds nothing wrong, a sitting on this memory
- * tells nothing of the secret words and leaves them as they were: a candidate's program in User mode
- * with Saved_SSP x3000, and any calls of lc3_run and the like. docs/CERTIFY.md says what is claimed
- * and what is not. Writes nothing and accepts every argument; any tool may make the table, as
- * nothing is taken from it that is not tested.
+ * Tests a claim about any class's monitor. Where it finds nothing wrong, a sitting on this memory
+ * tells nothing of the secret words and leaves them as they were. A sitting is a candidate's program
+ * in User mode with Saved_SSP x3000, and any calls of lc3_run and the like. docs/CERTIFY.md says
+ * what is claimed and what is not. Writes nothing and accepts every argument. Any tool may make the
+ * table: nothing in it is believed untested.
  *
  * - kinds: what each word from x0000 on is: 1 it never changes; 2 it is the monitor's own, which the
  *   routines may write; 0 it is secret, as are the words past the end of kinds or of memory.
@@ -610,7 +610,7 @@ lc3_certified lc3_certify(const uint16_t *memory, size_t memory_len, const uint8
 #define LC3_LAYOUT(condition) extern const char lc3_layout[(condition) ? 1 : -1]
 #endif
 
-/* The library was built for this layout; a compiler that lays out otherwise is told so here. */
+/* The library was built for this layout: a compiler with another one stops here. */
 LC3_LAYOUT(sizeof(lc3_bool) == 1);
 LC3_LAYOUT(sizeof(size_t) == 8);
 
