@@ -1,7 +1,7 @@
 """The LC-3 of Patt and Patel with privilege, interrupts, a console and a timer, over
 libfanthrig.so.
 
-``Sitting`` is a machine to sit down at: load object files, type, run, look, go back.
+``Sitting`` is a complete machine to work with: load object files, type, run, look, go back.
 
 >>> import fanthrig
 >>> sitting = fanthrig.Sitting(bytes.fromhex("3000 F020 F021 F025"))  # GETC, OUT, HALT at x3000

@@ -291,7 +291,7 @@ class Machine:
         self.arrived, self.shown = snapshot.arrived, snapshot.shown
 
     def accepts(self, record: RecordStruct) -> None:
-        """Nothing if a run takes the record; else the library's refusal."""
+        """Raises ``Refused`` if a run would refuse the record."""
         refusal = self._run(record, self._memory, MEMORY_WORDS, *(NOWHERE, 0) * 3, 0).refusal
         if refusal:
             raise Refused(refusal)

@@ -336,7 +336,7 @@ def _record(data: Any) -> Record:
 
 
 def _accepted(record: RecordStruct) -> None:
-    """Nothing if a run takes the record, or a ``ValueError`` that says why not."""
+    """Raises ``ValueError`` if a run would refuse the record, and says why."""
     try:
         Machine(Edition.THIRD).accepts(record)
     except Refused as refused:

@@ -33,7 +33,7 @@ pub fn complement(a: u16) -> u16
     !a
 }
 
-// What is read from an array has no known range, and a result has: so registers are read here alone.
+// The prover knows the range of a result, not of an element of an array: so registers are read here alone.
 pub fn register(regs: &[u16; 8], i: u8) -> u16
     ensures { λ r. ⌜ r ≡ register (now (regs .entry)) i ⌝ }
 {

@@ -4,7 +4,7 @@ the page.
 ``lc3 run FILE.obj...``              runs a program on the terminal, or with the bytes of a pipe
 ``lc3 list FILE.obj...``             lists the words of files with their lines
 ``lc3 make FILE.txt -o FILE.obj``    makes an object file of a program as text
-``lc3 log FILE.obj...``              tells of every step what it did
+``lc3 log FILE.obj...``              prints each step: what it did and by which rule
 ``lc3 debug FILE.obj...``            steps through a program, forwards and back
 ``lc3 mark --cases CASES FILE...``   marks many programs against cases
 ``lc3 certify MONITOR.obj FILE...``  tells whether a monitor keeps the words of files secret

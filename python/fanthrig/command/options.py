@@ -261,8 +261,8 @@ def processors() -> int:
 
 
 class Parser(argparse.ArgumentParser):
-    """A parser that keeps the lines of examples, and takes no shortened options: what a script
-    says shall not come to mean another option one day."""
+    """A parser that keeps the lines of examples, and takes no shortened options: a script must not
+    change its meaning when options are added."""
 
     def __init__(self, **settings: Any) -> None:
         """The parser of a command."""
