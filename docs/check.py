@@ -9,6 +9,8 @@ difference.
 - Each crate is in docs/ARCHITECTURE.md, and crates.txt and the folders of crates/ have the same.
 - Each relative link of a document leads to a file, and to a heading where it names one.
 - No line of code, definitions, proofs or scripts has more than 120 characters.
+- What documents name is in the tree (check_names.py), and numbers that they state are those of the
+  code (check_numbers.py).
 
 With an argument, the root of the repository to check; otherwise the one that this file is in.
 """
@@ -18,6 +20,8 @@ import sys
 from collections import Counter
 from pathlib import Path
 
+from check_names import unknown
+from check_numbers import wrong
 from wrong_programs import differences
 
 RULE = re.compile(r"\bM\d+\.\d+\b")
@@ -101,7 +105,7 @@ def main() -> int:
     root = Path(sys.argv[1] if len(sys.argv) > 1 else Path(__file__).parent.parent).resolve()
     documents = [*sorted(root.glob("*.md")), *sorted(root.glob("docs/**/*.md"))]
     found = differences(root) + crates(root) + rules(root, documents) + links(root, documents)
-    found += long_lines(root)
+    found += long_lines(root) + unknown(root, documents) + wrong(root, documents)
     for line in found:
         print(line, file=sys.stderr)
     if not found:
