@@ -4,6 +4,7 @@
 - Versions in names of files and packages are those of VERSION and of the header.
 - Each call of the header is in the list at its head, and in docs/PROOFS.md.
 - docs/PROOFS.md has as many rows of rules as it says, and all crates in its list of layers.
+- The limits of docs/PERFORMANCE.md are those of host/bench/count.sh.
 - Each decision has a number of its own, above that of the one before.
 - Each landing note, from the first that has them on, tells times and what they were before.
 """
@@ -18,6 +19,12 @@ STRUCT = re.compile(r"((?://.*\n)+)(?:#.*\n)*pub struct (Lc3\w+)")
 CALL = re.compile(r"^[a-z]\w* (lc3_\w+)\(", re.MULTILINE)
 ROWS = re.compile(r"\((crates/[\w/]+\.antt), (\d+) rows")
 ROW = re.compile(r"\b(?:supervisor|user) 0x[0-9A-F]{4}\b")
+# Limits of a program's steps, of whole calls, and of all others: in the script, in the document.
+LIMITS = [
+    (r"^\w+ \$\w+ (\d+)\b", r"^\| [^|]+ \| [\d.]+ \| [\d.]+ \| (\d+) \|"),
+    (r"^\d+ (\d+)$", r"^\| [\d,]+ \| [\d,]+ \| ([\d,]+) \|$"),
+    (r"_LIMIT:-(\d+)", r"(?:takes|fails)\s+above\s+(\d+)\b(?!\.\d)|\bor (\d+) for"),
+]
 DECISION = re.compile(r"^(\d+)\. \*\*", re.MULTILINE)
 TIME = re.compile(r"\d (?:s|min)\b")
 FIRST_TIMED = 42
@@ -83,6 +90,18 @@ def layers(root: Path) -> list[str]:
     ]
 
 
+def limits(root: Path) -> list[str]:
+    """Limits that PERFORMANCE.md states otherwise than the script that holds them."""
+    script, text = read(root, "host/bench/count.sh"), read(root, "docs/PERFORMANCE.md")
+    found = []
+    for held, told in LIMITS:
+        ours = re.findall(held, script, re.MULTILINE)
+        theirs = ["".join(match.groups("")) for match in re.finditer(told, text, re.MULTILINE)]
+        if sorted(ours) != sorted(number.replace(",", "") for number in theirs):
+            found.append(f"docs/PERFORMANCE.md: limits {theirs}; host/bench/count.sh: {ours}")
+    return found
+
+
 def decisions(root: Path) -> list[str]:
     """Decisions whose number is not above that of the one before."""
     numbers = [int(number) for number in DECISION.findall(read(root, "docs/DECISIONS.md"))]
@@ -110,4 +129,4 @@ def wrong(root: Path, documents: list[Path]) -> list[str]:
     """What is wrong with the numbers in the documents and comments of a repository."""
     today = [path for path in documents if path.name in ("README.md", "GUIDE.md")]
     told = sizes(root) + versions(root, today) + calls(root) + layers(root)
-    return told + decisions(root) + notes(root)
+    return told + limits(root) + decisions(root) + notes(root)
