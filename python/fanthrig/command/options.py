@@ -504,7 +504,7 @@ def parser() -> argparse.ArgumentParser:
     """The parser of the whole command line."""
     whole = Parser(
         prog="lc3",
-        description="The LC-3 of Patt and Patel: run, list, log, debug and mark object files.",
+        description="The LC-3 of Patt and Patel: run, list, make, log, debug and mark programs.",
         epilog="example: lc3 run hello.obj\nlc3 COMMAND --help says more of a command.",
     )
     whole.add_argument("--version", action="version", version=VERSIONS)
