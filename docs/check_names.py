@@ -26,6 +26,8 @@ WORD = re.compile(r"[^\s(){}\[\];,.:\"`'|&<>=+*/!\\@$%^~?·«»⌜⌝]+|[A-Za-z_
 SPAN = re.compile(r"`([^`\n]+)`")
 NAME = re.compile(r"[A-Za-z_][\w-]*(?:(?:\.|::)[\w-]+)*")
 FILE = re.compile(r"\b(?:crates|docs|host|include|python|tools|examples)/[\w./*-]*[\w*]")
+# A path in a crate, as word/specs/Reading.antt.
+IN_CRATE = re.compile(r"(?<![\w/])\w+/(?:src|specs|proofs|must-fail)/[\w./*-]*[\w*]")
 PLACED = re.compile(r"((?:`[\w:.-]+`(?:,| and|,\s+and)?\s+)+)(?:\(|in\s+)(crates/[\w/.-]*\w)")
 STATEMENT = re.compile(r"^abbrev pub ([A-Z]\w*) : Type", re.MULTILINE)
 PROOF = re.compile(r"^\s*(?:pub )?([a-z][\w-]*)\s+:", re.MULTILINE)
@@ -87,8 +89,11 @@ def files(root: Path, documents: list[Path]) -> list[str]:
     return [
         f"{path.relative_to(root)}: no file {name}"
         for path in documents
-        for name in sorted(set(FILE.findall(prose(path))))
-        if not re.search(r"/[A-Z]+\b", name) and not any(root.glob(name))
+        for pattern, place in ((FILE, root), (IN_CRATE, root / "crates"))
+        for name in sorted(set(pattern.findall(prose(path))))
+        if not re.search(r"/[A-Z]+\b", name)
+        and not any(place.glob(name))
+        and not (place / f"{name}.antt").exists()
     ]
 
 
