@@ -19,16 +19,18 @@ EXPORTS = lc3_machine lc3_step lc3_step_second lc3_logging lc3_telling lc3_long 
     lc3_objects lc3_monitor lc3_certify lc3_version
 ARCHIVES = $(EXPORTS:%=target/staticlib/lib%.a)
 # How many crates rt proves at a time, or wrong programs it tries. It waits for all of them before it begins the next
-# ones, so that four keep two cores busier than two would, and six busier still; each takes up to 1.8 GB.
-export RT_JOBS ?= $(shell awk '/^MemTotal:/ { print ($$2 < 12000000) ? 4 : 6 }' /proc/meminfo)
-# The prover's allocator, mimalloc, is to keep the memory that it has freed, and not to give it back in the meantime: a
-# check takes less time by that, and little more memory.
+# ones, so that ten keep two cores busier than two would; each takes up to 1.9 GB. tools/long_slices.py says why so many
+# cost no more than two.
+export RT_JOBS ?= $(shell awk '/^MemTotal:/ { print ($$2 < 12000000) ? 4 : ($$2 < 22000000) ? 6 : 10 }' /proc/meminfo)
+# The prover's allocator, mimalloc, is to keep the memory that it has freed, and not to give it back in the meantime,
+# and to ask for large pages, where the system has them: a check takes less time by that, and little more memory.
 export MIMALLOC_PURGE_DELAY ?= -1
+export MIMALLOC_ALLOW_LARGE_OS_PAGES ?= 1
 # For each check the prover writes some thousand small files, 0.2 GB, and takes them away again: in memory, if there is
 # a folder there with room for them. Each check takes two seconds of processor time less by that.
 SCRATCH := $(shell [ -w /dev/shm ] && [ "$$(df -P -k /dev/shm | awk 'END { print $$4 }')" -gt 4000000 ] && \
     echo TMPDIR=/dev/shm)
-PROGRESS = env $(SCRATCH) tools/progress
+PROGRESS = env $(SCRATCH) tools/long_slices.py tools/progress
 # The product's version. The shared library has the name by which hosts ask for it, which ends in the version of the
 # header: that of the interface.
 RELEASE := $(shell cat VERSION)
@@ -160,7 +162,7 @@ page: build/page/lc3.html build/fanthrig.mjs
 BITCODE = $(EXPORTS:%=build/wasm/%.bc)
 $(BITCODE): build/wasm/%.bc: target/staticlib/lib%.a tools/bitcode
 	@$(KIT)
-	@env $(SCRATCH) tools/bitcode $*
+	@env $(SCRATCH) tools/long_slices.py tools/bitcode $*
 
 # Two at a time, as the archives are.
 build/fanthrig.wasm: $(ARCHIVES) tools/bitcode tools/wasm include/$(HEADER)

@@ -4,8 +4,9 @@
 It does what `rt staticlib` does for each of them, in less time: rt proves crates level by level,
 and waits for a whole level. Here a crate begins as soon as all that it rests on is proved, those
 first that the most waits for. rt keeps its state in one folder; so each crate is proved by an rt of
-its own, in a folder that shares the crates and what is proved of them. What each rt says is printed
-when it ends, but for the crates that others proved.
+its own, in a folder that shares the crates and what is proved of them. Its crates.txt has that
+crate alone, so that rt does not look again whether each crate below is as it was proved: that was
+seen when its own turn came. What each rt says is printed when it ends.
 """
 
 import concurrent.futures
@@ -20,8 +21,8 @@ from typing import Dict, List, NamedTuple, Set
 
 ROOT = pathlib.Path.cwd()
 ROOMS = ROOT / "build" / "apart"
-# A crate that another rt has proved.
-UNCHANGED = re.compile(r"^rt: \S+ proved \(unchanged since it was last proved\)\n", re.MULTILINE)
+# What each rt says at its end of the one crate that it was to prove.
+LAST = re.compile(r"^rt: ok, 1 crates proved\n", re.MULTILINE)
 
 
 class Job(NamedTuple):
@@ -48,6 +49,12 @@ def graph() -> Dict[str, List[str]]:
         if colon
     }
     return {name: [other for other in rest if other in found] for name, rest in found.items()}
+
+
+def line_of(crate: str) -> str:
+    """The line of crates.txt that says what a crate rests on, as it stands there."""
+    lines = (ROOT / "crates.txt").read_text().splitlines(keepends=True)
+    return next(line for line in lines if line.startswith(f"{crate}:"))
 
 
 def jobs_for(needs: Dict[str, List[str]], archives: List[str]) -> Dict[Job, Set[Job]]:
@@ -91,8 +98,9 @@ def run(job: Job) -> Ended:
     room = ROOMS / job.command / job.crate
     shutil.rmtree(room, ignore_errors=True)
     (room / "target").mkdir(parents=True)
-    for path in ("crates", "crates.txt", "target/rlib", "target/stamp"):
+    for path in ("crates", "target/rlib", "target/stamp"):
         (room / path).symlink_to(ROOT / path)
+    (room / "crates.txt").write_text(line_of(job.crate))
     ran = subprocess.run(
         ["rt", job.command, job.crate],
         cwd=room,
@@ -110,16 +118,6 @@ def run(job: Job) -> Ended:
     return Ended(job, ran.stdout, ran.returncode)
 
 
-def tell(ended: Ended) -> None:
-    """Prints what rt said, but for the crates that others proved."""
-    said = ended.said
-    if ended.job.command == "staticlib" or f"rt: {ended.job.crate} proved (unch" not in said:
-        said = UNCHANGED.sub("", said)
-    else:
-        said = f"rt: {ended.job.crate} proved (unchanged since it was last proved)\n"
-    print(said, end="", flush=True)
-
-
 def prove(jobs: Dict[Job, Set[Job]], at_a_time: int) -> int:
     """Does all jobs, so many at a time, and none after a failure. The status to exit with."""
     cost = costs(jobs)
@@ -135,7 +133,7 @@ def prove(jobs: Dict[Job, Set[Job]], at_a_time: int) -> int:
             first = concurrent.futures.FIRST_COMPLETED
             ended, running = concurrent.futures.wait(running, return_when=first)
             for future in ended:
-                tell(future.result())
+                print(LAST.sub("", future.result().said), end="", flush=True)
                 done.add(future.result().job)
                 status = status or future.result().status
     return status
