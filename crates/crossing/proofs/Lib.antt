@@ -2,5 +2,3 @@
 pub mod CodeLaws
 pub mod DeviceLaws
 pub mod ModeLaws
-pub mod OutcomeLaws
-pub mod CrossLaws

@@ -1,6 +1,3 @@
 -- The laws of kept steps that stay in the windows.
 pub mod CodeLaws
 pub mod AccessLaws
-pub mod OutcomeLaws
-pub mod HopLaws
-pub mod NamedLaws
