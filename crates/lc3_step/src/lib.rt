@@ -7,30 +7,6 @@ ghost use mathlib.Core.Path.{_≡_};
 ghost use Rattle.run.specs.Call.{startOf, callOf};
 ghost use Rattle.answers.specs.Answer.{answerOf, reported};
 
-// What a single step answers by value: the record, and the report in numbers.
-pub struct Called {
-    pub machine: Machine,
-    pub report: Lc3Report,
-}
-
-// The single step by value, its report in numbers.
-fn one_step(
-    m: Machine,
-    memory: &mut [u16],
-    times: &[u64],
-    bytes: &[u8],
-    output: &mut [u8],
-) -> Called
-    ensures { λ r. ⌜ reported (r .machine) (r .report) (now (memory .exit)) (now (output .exit))
-        ≡ answerOf (callOf (startOf m (now (memory .entry)) (now (times .entry)) (now (bytes .entry))
-        (now (output .entry))) 1) ⌝ }
-{
-    let a = single::step(false, m, memory, times, bytes, output);
-    let machine = a.machine;
-    let report = answers::report_of(a.report);
-    Called { machine, report }
-}
-
 // The thin function on the lent record: the record that the step answers takes the place of the one handed in.
 #[no_mangle]
 pub extern "C" fn lc3_step(
@@ -44,7 +20,7 @@ pub extern "C" fn lc3_step(
         ≡ answerOf (callOf (startOf (now (m .entry)) (now (memory .entry)) (now (times .entry)) (now (bytes .entry))
         (now (output .entry))) 1) ⌝ }
 {
-    let a = one_step(*m, memory, times, bytes, output);
+    let a = single::one_step(false, *m, memory, times, bytes, output);
     *m = a.machine;
     a.report
 }

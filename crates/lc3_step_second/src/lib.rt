@@ -1,29 +1,10 @@
 // The single step by the rules of the second edition, for hosts in C and Rust: as that of `lc3_step`, in an archive of
 // its own for the same reason.
 use answers::Lc3Report;
-use lc3_step::Called;
 use machine::Machine;
 ghost use mathlib.Core.Path.{_≡_};
 ghost use Rattle.run.specs.Call.{startOf, secondCallOf};
 ghost use Rattle.answers.specs.Answer.{answerOf, reported};
-
-// The single step by value, its report in numbers.
-fn one_step(
-    m: Machine,
-    memory: &mut [u16],
-    times: &[u64],
-    bytes: &[u8],
-    output: &mut [u8],
-) -> Called
-    ensures { λ r. ⌜ reported (r .machine) (r .report) (now (memory .exit)) (now (output .exit))
-        ≡ answerOf (secondCallOf (startOf m (now (memory .entry)) (now (times .entry)) (now (bytes .entry))
-        (now (output .entry))) 1) ⌝ }
-{
-    let a = single::step(true, m, memory, times, bytes, output);
-    let machine = a.machine;
-    let report = answers::report_of(a.report);
-    Called { machine, report }
-}
 
 // The thin function on the lent record.
 #[no_mangle]
@@ -38,7 +19,7 @@ pub extern "C" fn lc3_step_second(
         ≡ answerOf (secondCallOf (startOf (now (m .entry)) (now (memory .entry)) (now (times .entry))
         (now (bytes .entry)) (now (output .entry))) 1) ⌝ }
 {
-    let a = one_step(*m, memory, times, bytes, output);
+    let a = single::one_step(true, *m, memory, times, bytes, output);
     *m = a.machine;
     a.report
 }

@@ -1,2 +1,3 @@
--- The laws of a step that is made by itself.
+-- The laws of a step that is made by itself, and the walk through one on a lent record.
+pub mod LentRecord
 pub mod SingleLaws

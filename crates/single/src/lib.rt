@@ -1,5 +1,6 @@
 // The single step by value: what a run with n = 1 answers, made with no loop. It has the run's refusals and stops, and
-// the step that every loop makes.
+// the step that every loop makes. The calls of hosts, on a record that is lent, are `one_step` by proofs/LentRecord.
+use answers::Lc3Report;
 use machine::Machine;
 use run::Admission;
 use run::Answer;
@@ -16,6 +17,7 @@ ghost use Rattle.machine.specs.Edition.{editionOf};
 ghost use Rattle.machine.specs.Step.{stepBy};
 ghost use Rattle.run.specs.Run.{begin, endedBy, runBy};
 ghost use Rattle.run.specs.Call.{startOf, endOf, callBy};
+ghost use Rattle.answers.specs.Answer.{answerOf, reported};
 
 // A step that is stopped before it began: the record as handed in, and zero counts.
 fn stopped(m: Machine, ending: Ending) -> Answer
@@ -96,4 +98,29 @@ pub fn step(
         Admission::Accepted => step_accepted(second, m, memory, times, bytes, output),
         Admission::Rejected(refusal) => refusals::refused(m, refusal),
     }
+}
+
+// What a host has of a step beside the buffers that it lends: the record, and the report in numbers.
+pub struct Called {
+    pub machine: Machine,
+    pub report: Lc3Report,
+}
+
+// The step with its report in numbers.
+pub fn one_step(
+    second: bool,
+    m: Machine,
+    memory: &mut [u16],
+    times: &[u64],
+    bytes: &[u8],
+    output: &mut [u8],
+) -> Called
+    ensures { λ r. ⌜ reported (r .machine) (r .report) (now (memory .exit)) (now (output .exit))
+        ≡ answerOf (callBy (stepBy (editionOf second)) (startOf m (now (memory .entry)) (now (times .entry))
+        (now (bytes .entry)) (now (output .entry))) 1) ⌝ }
+{
+    let a = step(second, m, memory, times, bytes, output);
+    let machine = a.machine;
+    let report = answers::report_of(a.report);
+    Called { machine, report }
 }

@@ -1,26 +1,21 @@
--- `lc3_step_second` meets its contract, by the walk of lc3_step's `LentRecord` and the contract of `one_step`.
+-- `lc3_step_second` meets its contract, by the walk of single's `LentRecord` and the contract of `single::one_step`.
+use mathlib.Core.Bool.{true}
 use contract.Running.{givenOf, tables, tablesOf}
 use denote.Triple.Spec.{tripleOf}
 use denote.Triple.Table.{entered, cited}
-use Rattle.run.specs.Call.{secondCallOf}
-use Rattle.run.specs.Run.{Start}
-use Rattle.answers.specs.Answer.{Answered, answerOf}
-use Rattle.lc3_step.proofs.LentRecord.{Step, meets}
-use Rattle.lc3_step_second.proofs.one_step.Symbol.{name as #one-step, routine as one-step-routine}
-use Rattle.lc3_step_second.proofs.one_step.Met as one-step
+use Rattle.single.proofs.LentRecord.{Step, meets}
+use Rattle.single.proofs.one_step.Symbol.{name as #one-step, routine as one-step-routine}
+use Rattle.single.proofs.one_step.Met as one-step
 use Rattle.lc3_step_second.proofs.lc3_step_second as f
 use Rattle.lc3_step_second.proofs.lc3_step_second.Key.{name as #lc3-step-second}
 use Rattle.lc3_step_second.proofs.lc3_step_second.Statement as stated
 use Rattle.lc3_step_second.proofs.lc3_step_second.Code as code
-
-abbrev answer : Start → Answered
-answer s = answerOf (secondCallOf s 1)
 
 pub lc3-step-second-spec : {M : Type 1} → stated.statement M
 unfolding code.routine tablesOf
 lc3-step-second-spec 𝓤 H 𝓜 𝓖 𝓡 =
     entered 𝓤 H (tripleOf 𝓤 H (𝓖 .A) f.signature (f.spec 𝓤 H (𝓖 .A) (𝓜 .mem) (𝓡 .run)))
     (tables 𝓤 H 𝓜 𝓡 code.env .C) (tables 𝓤 H 𝓜 𝓡 code.env .Λ) #lc3-step-second code.function (code.unfolded 𝓤 H 𝓜 𝓡)
-    (meets 𝓤 H (𝓖 .A) (givenOf 𝓤 H 𝓜 𝓖) answer #one-step (tablesOf 𝓤 H 𝓜 (tables 𝓤 H 𝓜 𝓡 code.env))
-    (cited 𝓤 H (Step 𝓤 H (𝓖 .A) answer) 𝓜 𝓡 code.env #one-step one-step-routine code.calls-lc3-step-second·one-step
+    (meets 𝓤 H (𝓖 .A) (givenOf 𝓤 H 𝓜 𝓖) true #one-step (tablesOf 𝓤 H 𝓜 (tables 𝓤 H 𝓜 𝓡 code.env))
+    (cited 𝓤 H (Step 𝓤 H (𝓖 .A)) 𝓜 𝓡 code.env #one-step one-step-routine code.calls-single·one-step
     (one-step.met 𝓤 H 𝓜 𝓖 𝓡)))

@@ -7,12 +7,11 @@ use Rattle.following.proofs.forms.puts.Statement.{statement}
 use Rattle.following.proofs.forms.puts.Tie as tie
 
 returns : tie.Need-returns
-returns c = λ k. rw (
-  c .before .before .put-in .ensures,
-  c .before .before .before .wide .ensures .0,
-  value-is
-      (c .before .before .before .before .before .before .args .a) (omega arith),
-) refl
+returns c =
+    let put : tie.After-put-in = search in
+    let widened : tie.After-wide = search in
+    let start : tie.Start = search in
+    λ k. rw (put .put-in .ensures, widened .wide .ensures .0, value-is (start .args .a) (omega arith)) refl
 
 pub puts-spec : {M : Type 1} → statement M
 puts-spec =
