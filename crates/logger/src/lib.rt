@@ -17,7 +17,7 @@ pub mod entries;
 pub mod stepping;
 
 // A call that is turned down leaves everything, the log included, as it was handed in.
-fn refused(m: Machine, refusal: Refusal) -> LoggedAnswer
+pub fn refused(m: Machine, refusal: Refusal) -> LoggedAnswer
     ensures { λ r. ⌜ r
         ≡ record { machine = m; steps = 0; keys = 0; shown = 0; words = 0; ending = Run (Refused refusal) } ⌝ }
 {
