@@ -14,7 +14,7 @@ from typing import Any, NamedTuple
 from unittest import mock
 
 import fanthrig
-from fanthrig import EndKind, Edition, Mode, Reason, Sitting, own
+from fanthrig import EndKind, Mode, Reason, Sitting, own
 from fanthrig.command.messages import own_registers
 
 from .support import Words, object_file
