@@ -34,8 +34,8 @@ long-runs = record {
 
 many-steps : ManySteps
 unfolding opened fetchedWordBy nextRuleBy entryBy lacksRoom beginLogged stoppedBy stepLoggedBy oneMoreLoggedBy
-    loggedRunBy loggedAdmittedBy loggedCallBy causeAt readsAt writesAt takes replaces isAmong instructionExclusions accessesOf
-    addressExclusions accessExclusions obeyedExclusions takenExclusions exclusionsOf exclusionsAt
+    loggedRunBy loggedAdmittedBy loggedCallBy causeAt readsAt writesAt takes replaces isAmong instructionExclusions
+    accessesOf addressExclusions accessExclusions obeyedExclusions takenExclusions exclusionsOf exclusionsAt
 many-steps = record {
   steps = refl;
   ending = refl;

@@ -1,5 +1,5 @@
--- `lc3_run_logged_second` meets its contract: the tests answer as the definition does, and the rest is a callee's, in numbers; an
--- accepted call has what the run requires.
+-- `lc3_run_logged_second` meets its contract: the tests answer as the definition does, and the rest is a callee's, in
+-- numbers; an accepted call has what the run requires.
 use mathlib.Core.Path.{sym, ap, _∙_}
 use Rattle.run.specs.Run.{begin}
 use Rattle.run.specs.Call.{startOf}
