@@ -19,5 +19,9 @@ log-examples-hold = record {
   full-after-one = refl;
   two-entries = refl;
   refused = refl;
+  trap = refl;
+  trap-by-the-second = refl;
+  denied-fetch = refl;
+  none-denied-by-the-second = refl;
   stops = refl;
 }
