@@ -28,12 +28,22 @@ static lc3_answer logged_run(lc3_record record, uint16_t *words, size_t words_le
     return (lc3_answer){.record = a.record, .steps = a.steps};
 }
 
+/* The same by the second edition. */
+static lc3_answer logged_second(lc3_record record, uint16_t *words, size_t words_len,
+                                const uint64_t *at, size_t at_len, const uint8_t *keys,
+                                size_t keys_len, uint8_t *shown, size_t shown_len, uint64_t n) {
+    lc3_logged_answer a =
+        lc3_run_logged_second(record, words, words_len, at, at_len, keys, keys_len, shown,
+                              shown_len, step_log, sizeof step_log / sizeof *step_log, n);
+    return (lc3_answer){.record = a.record, .steps = a.steps};
+}
+
 static const struct {
     const char *name;
     run_function *run;
 } engines[] = {{"library", lc3_run},       {"long", lc3_run_long}, {"logged", logged_run},
                {"second", lc3_run_second}, {"plain", plain_run},   {"tuned", tuned_run},
-               {"expert", expert_run}};
+               {"expert", expert_run},     {"logged2", logged_second}};
 
 typedef lc3_report step_function(lc3_record *, uint16_t *, size_t, const uint64_t *, size_t,
                                  const uint8_t *, size_t, uint8_t *, size_t);

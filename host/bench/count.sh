@@ -22,7 +22,7 @@
 #   CC            C compiler                                      gcc
 #   COUNT_LIMIT   instructions per step of the run                40
 #   ECHO_LIMIT    for echo                                        46
-#   LOG_LIMIT     for logged runs                                 110
+#   LOG_LIMIT     for logged runs, by either edition               100
 #   CALL_LIMIT    instructions of a call with n = 1               325
 #   STEP_LIMIT    instructions of a single step by itself         250
 set -eu
@@ -30,7 +30,7 @@ cd "$(dirname "$0")/../.."
 
 limit=${COUNT_LIMIT:-40}
 echo_limit=${ECHO_LIMIT:-46}
-log_limit=${LOG_LIMIT:-110}
+log_limit=${LOG_LIMIT:-100}
 call_limit=${CALL_LIMIT:-325}
 step_limit=${STEP_LIMIT:-250}
 steps=20000
@@ -82,6 +82,10 @@ measurements() {
             echo "$engine $program $((2 * steps)) 1"
         done
     done <"$work/programs"
+    for program in count copy sieve; do
+        echo "logged2 $program $steps 1"
+        echo "logged2 $program $((2 * steps)) 1"
+    done
     for engine in library second step step_second; do
         echo "$engine count 1 1"
         echo "$engine count 1 $((calls + 1))"
@@ -156,6 +160,14 @@ while read -r program; do
     # shellcheck disable=SC2086
     count_program $program
 done <"$work/programs"
+verdict=
+printf 'instructions per step, logged by the second edition, limit %s:' "$log_limit"
+for program in count copy sieve; do
+    taken=$(per_step logged2 "$program")
+    within $((log_limit * 100)) "$taken" "$program"
+    printf '   %s %s' "$program" "$(decimal "$taken")"
+done
+printf '%s\n' "$verdict"
 verdict=
 printf 'instructions of a call with n = 1, limit %s:' "$call_limit"
 for engine in library second; do count_call "$call_limit" $engine 1; done

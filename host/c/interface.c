@@ -814,14 +814,22 @@ enum { LOGGED = 60, UNLOGGED = 0x6A6A }; /* steps, and what a log holds before a
 
 static uint16_t step_log[LC3_LOG_WORDS * LOGGED];
 
-/* The run, logged to so many words, answered in lc3_run's form. */
-static lc3_answer logged(const arguments *c, size_t log_len, uint64_t *words) {
+typedef lc3_logged_answer logged_call(lc3_record, uint16_t *, size_t, const uint64_t *, size_t,
+                                      const uint8_t *, size_t, uint8_t *, size_t, uint16_t *,
+                                      size_t, uint64_t);
+
+/* The run by one of the calls, logged to so many words, answered in lc3_run's form. */
+static lc3_answer logged_by(logged_call *call, const arguments *c, size_t log_len,
+                            uint64_t *words) {
     for (size_t i = 0; i < LC3_LOG_WORDS * LOGGED; i++) step_log[i] = UNLOGGED;
-    lc3_logged_answer a =
-        lc3_run_logged(c->record, memory, c->memory_len, c->times, c->times_len, c->bytes,
-                       c->bytes_len, output, c->output_len, step_log, log_len, c->n);
+    lc3_logged_answer a = call(c->record, memory, c->memory_len, c->times, c->times_len, c->bytes,
+                               c->bytes_len, output, c->output_len, step_log, log_len, c->n);
     *words = a.logged;
     return (lc3_answer){a.record, a.steps, a.keys, a.shown, a.index, a.refusal, a.stop};
+}
+
+static lc3_answer logged(const arguments *c, size_t log_len, uint64_t *words) {
+    return logged_by(lc3_run_logged, c, log_len, words);
 }
 
 /* Words written are three for each step; those after them are as they were. */
@@ -903,6 +911,15 @@ static void test_second_edition(void) {
         CHECK(r.refusal, LC3_ACCEPTED);
     }
     check_record(&record, &wanted);
+    static const uint16_t entries[] = {0x3000, 0xE1FF, LC3_REASON_INSTRUCTION,
+                                       0x3001, 0xF025, LC3_REASON_INSTRUCTION,
+                                       0x0400, 0x41C0, LC3_REASON_INSTRUCTION};
+    uint64_t words;
+    a = logged_by(lc3_run_logged_second, &c, LC3_LOG_WORDS * LOGGED, &words);
+    check_record(&a.record, &wanted);
+    CHECK(a.stop, LC3_DONE);
+    check_log(words, 3);
+    CHECK(memcmp(step_log, entries, sizeof entries), 0);
     a = lc3_run_second(c.record, memory, WORDS - 1, c.times, 0, c.bytes, 0, output, OUTPUT, 3);
     check_record(&a.record, &c.record);
     CHECK(a.refusal, LC3_REFUSED_MEMORY);

@@ -9,7 +9,8 @@
 //!   the record that it is lent;
 //! - [`run_long`], which does what [`run`](run()) does, faster for long sittings;
 //! - [`run_second`] and [`step_second`], the same by the rules of the book's second edition;
-//! - [`run_logged`] for a run that logs each step, with [`logged_steps`] to read the log;
+//! - [`run_logged`] for a run that logs each step, and [`run_logged_second`], with [`logged_steps`]
+//!   to read the log;
 //! - [`tell`] for what the next step of a run does, which is not made, and [`tell_second`];
 //! - [`read`] for a word as an instruction, [`write`](write()) for an instruction as a word;
 //! - [`line`](line()) for a word as a line of text, [`line_length`] for the bytes of that line, and
@@ -73,7 +74,8 @@ pub use fanthrig_sys as ffi;
 pub use fanthrig_sys::{Mode, Record};
 pub use instruction::{read, write, Instruction, Reading};
 pub use line::{line, line_length, line_string, page, LINE_LIMIT};
-pub use log::{logged_steps, run_logged, LoggedRun, LoggedStep, Reason, LOG_WORDS};
+pub use log::{logged_steps, run_logged, run_logged_second};
+pub use log::{LoggedRun, LoggedStep, Reason, LOG_WORDS};
 pub use memory::{memory, Memory, WORDS};
 pub use monitor::{certify, install_monitor, vectors, Certified, Routines};
 pub use monitor::{MONITOR_WORDS, VECTOR_WORDS, WATCHED_WORDS};

@@ -178,10 +178,51 @@ pub fn run_logged(
     log: &mut [u16],
     n: u64,
 ) -> Result<LoggedRun, Error> {
+    logged_by(ffi::lc3_run_logged, record, memory, keys, output, log, n)
+}
+
+/// Runs as [`run_second`](crate::run_second) does, by the rules of the book's second edition, and
+/// logs as [`run_logged`] does. A TRAP is logged as an instruction, and there is no access exception.
+///
+/// ```
+/// use fanthrig::{logged_steps, Keys, Mode, Reason};
+///
+/// let mut memory = fanthrig::memory();
+/// let file = [0x30, 0x00, 0xF0, 0x25]; // at x3000, TRAP x25
+/// let record = fanthrig::start(&file, &mut memory, Mode::User, 0xFDFF)?.record;
+/// let mut log = [0; 3];
+/// let answer =
+///     fanthrig::run_logged_second(record, &mut memory, Keys::NONE, &mut [], &mut log, 1)?;
+/// let step = logged_steps(&log[..answer.logged]).next().expect("a step");
+/// assert_eq!((step.word, step.reason), (Some(0xF025), Reason::Instruction));
+/// assert_eq!((answer.run.record.regs[7], answer.run.record.pc), (0x3001, 0));
+/// # Ok::<(), fanthrig::Error>(())
+/// ```
+pub fn run_logged_second(
+    record: Record,
+    memory: &mut Memory,
+    keys: Keys<'_>,
+    output: &mut [u8],
+    log: &mut [u16],
+    n: u64,
+) -> Result<LoggedRun, Error> {
+    logged_by(ffi::lc3_run_logged_second, record, memory, keys, output, log, n)
+}
+
+/// Runs by one of the calls that take and answer the same.
+fn logged_by(
+    call: ffi::LoggedCall,
+    record: Record,
+    memory: &mut Memory,
+    keys: Keys<'_>,
+    output: &mut [u8],
+    log: &mut [u16],
+    n: u64,
+) -> Result<LoggedRun, Error> {
     // SAFETY: each pointer and length come from one slice, and the borrows keep the slices that
     // are written apart from all others.
     let answer = unsafe {
-        ffi::lc3_run_logged(
+        call(
             record,
             memory.as_mut_ptr(),
             memory.len(),

@@ -65,7 +65,7 @@ pub enum Stop {
     Halted,
     /// The next step would show a byte, and the output has no free one.
     OutputFull,
-    /// The log has no room for a step more: of [`run_logged`](crate::run_logged) alone. It is
+    /// The log has no room for a step more: of logged runs alone. It is
     /// tested between halted and output full.
     LogFull,
 }

@@ -1,11 +1,12 @@
-//! Logged runs: against the reference simulator's own log, and against the ordinary run.
+//! Logged runs: against the reference simulator's own log, and against the ordinary run, by both
+//! editions.
 
 mod reference;
 mod support;
 
 use fanthrig::ffi::{Answer, LoggedAnswer};
 use fanthrig::{logged_steps, Keys, LoggedStep, Memory, Mode, Reason, Record, Stop};
-use reference::machine::{self, Event, CAUSES, LOG_FULL};
+use reference::machine::{self, Cause, Edition, Event, CAUSES, LOG_FULL};
 use support::cases::Case;
 use support::{assert_same_buffers, for_cases, Buffers, Lent};
 
@@ -21,6 +22,44 @@ fn without_log(answer: &LoggedAnswer) -> Answer {
 /// A machine at x3000: that of a file with nothing else in it.
 fn at_x3000(memory: &mut Memory, mode: Mode) -> Record {
     fanthrig::start(&[0x30, 0x00], memory, mode, 0xFDFF).expect("accepted").record
+}
+
+/// What was met: the steps made by each rule, those of them whose fetch was denied, the stops, and
+/// the refused calls.
+#[derive(Debug, Default)]
+struct Tally {
+    reasons: [u64; CAUSES],
+    denied_fetches: u64,
+    stops: [u64; 4],
+    refused: u64,
+}
+
+impl Tally {
+    fn step(&mut self, event: &Event) {
+        self.reasons[event.cause as usize] += 1;
+        self.denied_fetches += u64::from(event.cause == Cause::Access && event.word.is_none());
+    }
+
+    fn answer(&mut self, answer: &LoggedAnswer) {
+        match answer.refusal {
+            0 => self.stops[answer.stop as usize] += 1,
+            _ => self.refused += 1,
+        }
+    }
+
+    /// Whether everything was met that there is: by the second edition TRAP is no entry, and there is
+    /// no access exception.
+    fn is_full(&self, edition: Edition) -> bool {
+        let entries = [Cause::Trap, Cause::Access].map(|cause| self.reasons[cause as usize]);
+        let counts = self.reasons.iter().chain(&self.stops).chain([&self.refused]);
+        let missing = counts.filter(|&&count| count == 0).count();
+        match edition {
+            Edition::Third => {
+                missing == 0 && 0 < self.denied_fetches && self.denied_fetches < entries[1]
+            }
+            Edition::Second => missing == 2 && entries == [0, 0],
+        }
+    }
 }
 
 /// The buffers of the library and of the reference, with a log for each.
@@ -41,16 +80,20 @@ impl Bench {
         }
     }
 
-    /// The steps that a case makes where no log limits it.
-    fn steps(&mut self, case: &Case, template: &[u16]) -> u64 {
-        self.ours.set(case, template);
-        self.ours.run(case.record, 0, 0, case.n).steps
+    /// The run of a case by the library, where no log limits it.
+    fn run(&mut self, edition: Edition, case: &Case, template: &[u16], n: u64) -> Answer {
+        self.theirs.set(case, template);
+        match edition {
+            Edition::Third => self.theirs.run(case.record, 0, 0, n),
+            Edition::Second => self.theirs.run_second(case.record, n),
+        }
     }
 
     /// Runs a case on both with logs of so many words, and panics unless all that they answer and
     /// leave is the same.
     fn compare(
         &mut self,
+        edition: Edition,
         case: &Case,
         template: &[u16],
         log: usize,
@@ -61,8 +104,11 @@ impl Bench {
         self.their_log = vec![LENT_WORD; log];
         self.our_log.set(&self.their_log);
         let call = self.theirs.call(case.record, case.n);
-        let (expected, logged) = machine::run_logged(call, &mut self.their_log, watch);
-        let answer = self.ours.run_logged(case.record, &mut self.our_log, case.n);
+        let (expected, logged) = machine::run_logged(edition, call, &mut self.their_log, watch);
+        let answer = match edition {
+            Edition::Third => self.ours.run_logged(case.record, &mut self.our_log, case.n),
+            Edition::Second => self.ours.run_logged_second(case.record, &mut self.our_log, case.n),
+        };
         assert_eq!(without_log(&answer), expected);
         assert_eq!(answer.logged, logged);
         assert_eq!(self.our_log.get(), self.their_log, "the log differs");
@@ -74,11 +120,16 @@ impl Bench {
 
     /// Panics unless the case, run without a log, ends as the logged run did but for a stop by log
     /// full.
-    fn compare_with_run(&mut self, case: &Case, template: &[u16], logged: &LoggedAnswer) {
+    fn compare_with_run(
+        &mut self,
+        edition: Edition,
+        case: &Case,
+        template: &[u16],
+        logged: &LoggedAnswer,
+    ) {
         let full = logged.stop == LOG_FULL;
-        self.theirs.set(case, template);
         let n = if full { logged.steps } else { case.n };
-        let run = self.theirs.run(case.record, 0, 0, n);
+        let run = self.run(edition, case, template, n);
         let expected = Answer { stop: if full { LOG_FULL } else { run.stop }, ..run };
         assert_eq!(without_log(logged), expected);
         assert_same_buffers(&self.ours, &self.theirs);
@@ -88,29 +139,20 @@ impl Bench {
 #[test]
 fn random_logged_runs_agree_with_the_reference_and_with_the_run() {
     let mut bench = Bench::new();
-    let (mut reasons, mut stops, mut refused) = ([0u64; CAUSES], [0u64; 4], 0u64);
-    let mut denied_fetches = 0u64;
-    for_cases(100_000, |rng, case, template| {
-        // About as many words as the case needs, or room for all.
-        let needed = 3 * bench.steps(case, template);
-        let words = if rng.once_in(2) { needed + rng.below(8) } else { rng.below(needed + 4) };
-        let answer = bench.compare(case, template, words as usize, |event| {
-            reasons[event.cause as usize] += 1;
-            let is_access = event.cause == machine::Cause::Access;
-            denied_fetches += u64::from(is_access && event.word.is_none());
+    for edition in [Edition::Third, Edition::Second] {
+        let mut tally = Tally::default();
+        for_cases(100_000, |rng, case, template| {
+            // About as many words as the case needs, or room for all.
+            let needed = 3 * bench.run(edition, case, template, case.n).steps;
+            let words = if rng.once_in(2) { needed + rng.below(8) } else { rng.below(needed + 4) };
+            let watch = |event: &Event| tally.step(event);
+            let answer = bench.compare(edition, case, template, words as usize, watch);
+            bench.compare_with_run(edition, case, template, &answer);
+            tally.answer(&answer);
         });
-        bench.compare_with_run(case, template, &answer);
-        if answer.refusal == 0 {
-            stops[answer.stop as usize] += 1;
-        } else {
-            refused += 1;
-        }
-    });
-    println!("steps by reason: {reasons:?}, of them denied fetches: {denied_fetches}");
-    println!("stops: {stops:?}, refused: {refused}");
-    let met = reasons.iter().chain(&stops).chain([&refused, &denied_fetches]);
-    assert!(met.into_iter().all(|&count| count > 0), "a reason or a stop was never met");
-    assert!(reasons[machine::Cause::Access as usize] > denied_fetches, "no data access was denied");
+        println!("logged runs, {edition:?} edition: {tally:?}");
+        assert!(tally.is_full(edition), "a reason or a stop was never met");
+    }
 }
 
 /// A program that never stops by itself in its first nineteen steps. Timer and keyboard interrupt
@@ -252,6 +294,21 @@ fn the_word_logged_is_the_one_fetched() {
     assert_eq!(logged(listening, key), [0x3001, 0, 5]);
     let ticking = Record { timer_status: 0x4000, timer_interval: 9, timer_count: 1, ..listening };
     assert_eq!(logged(ticking, key), [0x3001, 0, 6]);
+}
+
+#[test]
+fn the_second_edition_logs_a_trap_and_a_privileged_fetch_as_instructions() {
+    let mut memory = fanthrig::memory();
+    memory[0x0040] = 0x0200;
+    memory[0x0200] = 0xA000; // LDI R0, x0201  a privileged pointer, in User mode
+    memory[0x3000] = 0xF040; // TRAP x40
+    let record = at_x3000(&mut memory, Mode::User);
+    let mut log = [LENT_WORD; 7];
+    let answer =
+        fanthrig::run_logged_second(record, &mut memory, Keys::NONE, &mut [], &mut log, 9).unwrap();
+    assert_eq!((answer.run.steps, answer.run.stop, answer.logged), (2, Stop::LogFull, 6));
+    assert_eq!(log, [0x3000, 0xF040, 0, 0x0200, 0xA000, 0, LENT_WORD]);
+    assert_eq!((answer.run.record.regs[7], answer.run.record.psr), (0x3001, 0x8002));
 }
 
 #[test]

@@ -10,7 +10,8 @@
  *                sittings
  *   lc3_step     runs one step and alters the host's own record
  *   lc3_run_second, lc3_step_second   the same by the rules of the book's second edition
- *   lc3_run_logged   runs as lc3_run does, and logs for each step what it did and by which rule
+ *   lc3_run_logged   runs as lc3_run does, and logs for each step what it did and by which rule;
+ *                lc3_run_logged_second as lc3_run_second does
  *   lc3_tell     tells what the next step of a run does, and makes none: by which rule, and which
  *                words of memory it takes and stores to; lc3_tell_second the same by the rules of
  *                the second edition
@@ -125,8 +126,7 @@ __extension__ typedef _Bool lc3_bool;
  *
  *   lc3_write           1, 2, 3
  *   lc3_run, lc3_step   11, 12, 13, 14, then 15 and 19 together, entry by entry; lc3_run_long,
- *                       lc3_run_logged, lc3_run_second, lc3_step_second, lc3_tell and
- *                       lc3_tell_second likewise
+ *                       lc3_run_logged, lc3_tell and the calls by the second edition likewise
  *   lc3_line            16
  *   lc3_page            11, 20, 16
  *   lc3_start           11, 17, 18; lc3_start_user 11, 17, 18, 21
@@ -164,7 +164,7 @@ enum {
     LC3_DONE = 0,        /* n steps were made */
     LC3_HALTED = 1,      /* the MCR's clock enable is clear */
     LC3_OUTPUT_FULL = 2, /* the next step shows a byte and the output has no free one */
-    LC3_LOG_FULL = 3     /* fewer than LC3_LOG_WORDS words of the log are free: lc3_run_logged
+    LC3_LOG_FULL = 3     /* fewer than LC3_LOG_WORDS words of the log are free: logged runs
                             alone, tested between LC3_HALTED and LC3_OUTPUT_FULL */
 };
 
@@ -220,7 +220,7 @@ typedef struct {
 } lc3_report;
 
 /*
- * What lc3_run_logged answers: the fields of lc3_answer, and the words written to the log, three
+ * What a logged run answers: the fields of lc3_answer, and the words written to the log, three
  * for each step made.
  */
 typedef struct {
@@ -459,8 +459,8 @@ lc3_logged_answer lc3_run_logged(lc3_record record, uint16_t *memory, size_t mem
                                  uint16_t *log, size_t log_len, uint64_t n);
 
 /*
- * The run and the single step for courses on the second edition of the book: as lc3_run and
- * lc3_step, in every refusal, count, stop and field, but for five rules.
+ * The run, the single step and the logged run for courses on the second edition of the book: as
+ * lc3_run, lc3_step and lc3_run_logged, in every refusal, count, stop and field, but for five rules.
  *
  * - LEA sets the condition codes.
  * - TRAP puts the address of the next instruction in R7 and takes PC from its vector word. It
@@ -480,6 +480,13 @@ lc3_answer lc3_run_second(lc3_record record, uint16_t *memory, size_t memory_len
 lc3_report lc3_step_second(lc3_record *record, uint16_t *memory, size_t memory_len,
                            const uint64_t *times, size_t times_len, const uint8_t *bytes,
                            size_t bytes_len, uint8_t *output, size_t output_len);
+
+/* A TRAP is logged as an instruction here, and every step that is no interrupt with its word. */
+lc3_logged_answer lc3_run_logged_second(lc3_record record, uint16_t *memory, size_t memory_len,
+                                        const uint64_t *times, size_t times_len,
+                                        const uint8_t *bytes, size_t bytes_len, uint8_t *output,
+                                        size_t output_len, uint16_t *log, size_t log_len,
+                                        uint64_t n);
 
 /*
  * Tells what the next step of a run does, and makes none: nothing that is lent is altered. The step

@@ -93,8 +93,11 @@ export class Library {
         return { ...this.counts(48), index: this.long(72), refusal: this.short(80), stop: this.short(84) };
     }
 
-    runLogged(record, lent, log, logLength, n) {
-        this.calls.lc3_run_logged(this.answer, record, ...buffers(lent), log, BigInt(logLength), BigInt(n));
+    runLogged(...lent) { return this.loggedBy("lc3_run_logged", ...lent); }
+    runLoggedSecond(...lent) { return this.loggedBy("lc3_run_logged_second", ...lent); }
+
+    loggedBy(name, record, lent, log, logLength, n) {
+        this.calls[name](this.answer, record, ...buffers(lent), log, BigInt(logLength), BigInt(n));
         this.put(record);
         const counts = { ...this.counts(48), logged: this.long(72) };
         return { ...counts, index: this.long(80), refusal: this.short(88), stop: this.short(92) };

@@ -116,12 +116,11 @@ export class Machine {
 
     // Makes up to n steps, at most LOGGED_AT_ONCE, and tells why it stopped, with the words of their log.
     advanceLogged(n) {
-        if (this.edition === 2) return this.advanceSecond(n);
-        const { library } = this, { log } = library.shared;
+        const run = this.edition === 2 ? "runLoggedSecond" : "runLogged", { library } = this, { log } = library.shared;
         let left = Math.min(n, LOGGED_AT_ONCE), logged = 0;
         while (true) {
             const room = [log + 2 * logged, LOG_WORDS * LOGGED_AT_ONCE - logged];
-            const answer = this.call(left, (lent, steps) => library.runLogged(this.recordAt, lent, ...room, steps));
+            const answer = this.call(left, (lent, steps) => library[run](this.recordAt, lent, ...room, steps));
             left -= answer.steps;
             logged += answer.logged;
             if (answer.stop === Stop.DONE ? left <= 0 : !this.goesOn(answer.stop))
@@ -145,12 +144,12 @@ export class Machine {
     singleSteps(n, keys, before, each) {
         const { library, recordAt, memoryAt, shorts } = this, { shared, answer } = library, { calls } = library;
         const { times, keys: keysAt, output, log: logAt } = shared, log = library.words(logAt, LOG_WORDS);
+        const run = this.edition === 2 ? calls.lc3_run_logged_second : calls.lc3_run_logged;
         const all = library.bytes(0, library.top), numbers = new Uint32Array(all.buffer, answer, 24);
         for (let made = 0; made < n; made++) {
             before.set(shorts);
             const room = this.shown < this.limit ? 1n : 0n;
-            calls.lc3_run_logged(answer, recordAt, memoryAt, WORDS, times, keys, keysAt, keys, output, room, logAt,
-                3n, 1n);
+            run(answer, recordAt, memoryAt, WORDS, times, keys, keysAt, keys, output, room, logAt, 3n, 1n);
             all.copyWithin(recordAt, answer, answer + RECORD_BYTES);
             if (!numbers[STEPS]) return [made, accepted({ refusal: numbers[REFUSAL], stop: numbers[STOP] }).stop];
             this.arrived += numbers[KEYS];
@@ -159,17 +158,6 @@ export class Machine {
             if (numbers[KEYS]) return [made + 1, null];
         }
         return [n, null];
-    }
-
-    // The same by single steps: the library has no logged run for the second edition.
-    advanceSecond(n) {
-        const log = [];
-        for (let made = 0; made < Math.min(n, LOGGED_AT_ONCE); made++) {
-            const pc = this.shorts[PLACES.PC], { word, reason } = this.told(), stop = this.advance(1);
-            if (stop !== Stop.DONE) return [stop, Uint16Array.from(log)];
-            log.push(pc, word, reason);
-        }
-        return [Stop.DONE, Uint16Array.from(log)];
     }
 
     // Up to n steps, but no further than to where `placeIn` finds in the log that it is to stop: after so many steps,

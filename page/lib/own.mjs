@@ -10,7 +10,7 @@ import { LOG_WORDS, PLACES, PSR_USER, Reason, privileged } from "./constants.mjs
 import { inUserMode } from "./past.mjs";
 import { loggedStep } from "./steps.mjs";
 
-const LOOKED_THROUGH = { 3: [1 << 9, 1 << 16, 1 << 20], 2: [1 << 9, 1 << 13] };
+const LOOKED_THROUGH = [1 << 9, 1 << 16, 1 << 20];
 const MOST_OPEN = 16; // the open entries that are looked at
 const FARTHEST = 1 << 23; // the most steps that are made once more to find entries
 const LONGEST_LOOP = 64; // the steps of the longest loop that is noticed, so that it is not followed to its end
@@ -58,8 +58,7 @@ function left(past, step, clock, more = {}) {
 
 // The clocks from which on the log is looked through. It is worth to look far back only for a program in User mode.
 function* beginnings(past) {
-    const counts = LOOKED_THROUGH[past.edition];
-    for (const count of past.stackBase === null ? counts.slice(0, 2) : counts) {
+    for (const count of past.stackBase === null ? LOOKED_THROUGH.slice(0, 2) : LOOKED_THROUGH) {
         yield Math.max(past.clock - count, past.start);
         if (past.clock - count <= past.start) return;
     }

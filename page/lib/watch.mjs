@@ -2,7 +2,7 @@
 //
 // The library does not tell the addresses of loads and stores. They follow from the record before a step and from the
 // reason in its log; so a machine that is watched makes its steps one at a time, each by the library.
-import { ADDRESSES, Kind, MEMORY_WORDS, PLACES, PSR_USER, Reason, Stop, VECTORS } from "./constants.mjs";
+import { ADDRESSES, Kind, MEMORY_WORDS, PLACES, PSR_USER, Reason, VECTORS } from "./constants.mjs";
 
 const WRITTEN = 1, READ_BEFORE = 2;
 const DEVICES = new Set(Object.values(ADDRESSES));
@@ -31,14 +31,7 @@ export class Watch {
             pointer = this.pointer(machine, now);
             return after?.(word, reason) || breaks.has(now[PLACES.PC]);
         };
-        if (machine.edition === 3) return machine.advanceSingly(n, before, booked);
-        for (let made = 0; made < n; made++) {
-            before.set(machine.shorts);
-            const [stop, log] = machine.advanceLogged(1);
-            if (!log.length) return stop;
-            if (booked(...log)) return Stop.BREAKPOINT;
-        }
-        return Stop.DONE;
+        return machine.advanceSingly(n, before, booked);
     }
 
     // The word that an LDI or STI takes its address from, which the step itself may replace. What a device register

@@ -20,9 +20,9 @@ cases, and ``fanthrig.certifying`` certifies a class's own monitor.
 
 The calls of lc3.h are here one to one, for hosts that lend buffers of their own: ``version``,
 ``start``, ``start_user``, ``run``, ``run_long``, ``step``, ``run_logged``, ``run_second``,
-``step_second``, ``tell``, ``tell_second``, ``read``, ``write``, ``line``, ``line_length``,
-``page``, ``save``, ``monitor``, ``monitor_routines``, ``vectors``, ``certify``; with
-``logged_steps`` to read a log. A call that is refused raises ``Refused`` and alters nothing.
+``step_second``, ``run_logged_second``, ``tell``, ``tell_second``, ``read``, ``write``, ``line``,
+``line_length``, ``page``, ``save``, ``monitor``, ``monitor_routines``, ``vectors``, ``certify``;
+with ``logged_steps`` to read a log. A call that is refused raises ``Refused`` and alters nothing.
 
 ``__version__`` is the version of the product, and ``VERSION`` that of the interface. The library is
 looked for when it is first needed, as ``fanthrig._library`` says. docs/MACHINE.md has the rules of
@@ -45,6 +45,7 @@ from .calls import (
     read,
     run,
     run_logged,
+    run_logged_second,
     run_long,
     run_second,
     save,
@@ -185,6 +186,7 @@ __all__ = [
     "read",
     "run",
     "run_logged",
+    "run_logged_second",
     "run_long",
     "run_second",
     "save",

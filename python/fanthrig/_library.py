@@ -199,6 +199,7 @@ SIZES = {
 # A buffer is its address and its number of elements.
 _LENT: tuple[Any, ...] = (c_void_p, c_size_t)
 _RUN: tuple[Any, ...] = (RecordStruct, *_LENT * 4, c_uint64)
+_LOGGED: tuple[Any, ...] = (RecordStruct, *_LENT * 5, c_uint64)
 _STEP: tuple[Any, ...] = (c_void_p, *_LENT * 4)
 _TELL: tuple[Any, ...] = (RecordStruct, *_LENT * 3)
 
@@ -209,9 +210,10 @@ FUNCTIONS: dict[str, tuple[Any, tuple[Any, ...]]] = {
     "lc3_run": (AnswerStruct, _RUN),
     "lc3_run_long": (AnswerStruct, _RUN),
     "lc3_step": (ReportStruct, _STEP),
-    "lc3_run_logged": (LoggedAnswerStruct, (RecordStruct, *_LENT * 5, c_uint64)),
+    "lc3_run_logged": (LoggedAnswerStruct, _LOGGED),
     "lc3_run_second": (AnswerStruct, _RUN),
     "lc3_step_second": (ReportStruct, _STEP),
+    "lc3_run_logged_second": (LoggedAnswerStruct, _LOGGED),
     "lc3_tell": (ToldStruct, _TELL),
     "lc3_tell_second": (ToldStruct, _TELL),
     "lc3_read": (ReadingStruct, (c_uint16,)),

@@ -237,6 +237,27 @@ def step_second(
     return _step_by(LIBRARY.lc3_step_second, record, memory, times, keys, output)
 
 
+def _logged_by(
+    call: Callable[..., Any],
+    record: Record,
+    memory: Any,
+    times: Any,
+    keys: Any,
+    output: Any,
+    log: Any,
+    n: int,
+) -> LoggedRun:
+    """Runs and logs by the call of one of the editions."""
+    struct, steps = record.to_c(), whole(n, LONG_LIMIT, "n")
+    with Lending() as lending:
+        buffers = _lend_run(lending, memory, times, keys, output)
+        room = lending.write(log, WORD, "log")
+        answer = call(struct, *buffers, *room, steps)
+    _accepted(answer.refusal, answer.index)
+    after, stop = Record.from_c(answer.record), Stop(answer.stop)
+    return LoggedRun(answer.steps, answer.keys, answer.shown, stop, after, answer.logged)
+
+
 def run_logged(
     record: Record,
     memory: WriteableBuffer,
@@ -258,14 +279,30 @@ def run_logged(
     >>> ran.stop, ran.steps, ran.logged, log[4] == 0xD000
     (<Stop.LOG_FULL: 3>, 2, 6, True)
     """
-    struct, steps = record.to_c(), whole(n, LONG_LIMIT, "n")
-    with Lending() as lending:
-        buffers = _lend_run(lending, memory, times, keys, output)
-        room = lending.write(log, WORD, "log")
-        answer = LIBRARY.lc3_run_logged(struct, *buffers, *room, steps)
-    _accepted(answer.refusal, answer.index)
-    after, stop = Record.from_c(answer.record), Stop(answer.stop)
-    return LoggedRun(answer.steps, answer.keys, answer.shown, stop, after, answer.logged)
+    return _logged_by(LIBRARY.lc3_run_logged, record, memory, times, keys, output, log, n)
+
+
+def run_logged_second(
+    record: Record,
+    memory: WriteableBuffer,
+    times: ReadableBuffer,
+    keys: ReadableBuffer,
+    output: WriteableBuffer,
+    log: WriteableBuffer,
+    n: int,
+) -> LoggedRun:
+    """Runs as ``run_second`` does, by the rules of the book's second edition, and logs as
+    ``run_logged`` does.
+
+    >>> memory = array("H", bytes(2 * MEMORY_WORDS))
+    >>> memory[0x3000] = 0xF025
+    >>> record, log = Record(pc=0x3000, psr=0x8002, mcr=0x8000), array("H", bytes(6))
+    >>> run_logged_second(record, memory, array("Q"), b"", bytearray(), log, 1).record.regs[7]
+    12289
+    >>> [f"x{word:04X}" for word in log]
+    ['x3000', 'xF025', 'x0000']
+    """
+    return _logged_by(LIBRARY.lc3_run_logged_second, record, memory, times, keys, output, log, n)
 
 
 def _tell_by(

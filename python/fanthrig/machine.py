@@ -30,7 +30,8 @@ LOGGED_AT_ONCE = 65536
 # The call by which a machine of each edition runs, and so every sitting and every marking.
 RUNS_BY = {Edition.THIRD: "lc3_run_long", Edition.SECOND: "lc3_run_second"}
 
-# The call that tells what its next step does.
+# The calls by which it logs its steps, and is told what the next one does.
+LOGGED_BY = {Edition.THIRD: "lc3_run_logged", Edition.SECOND: "lc3_run_logged_second"}
 TELLS_BY = {Edition.THIRD: "lc3_tell", Edition.SECOND: "lc3_tell_second"}
 
 # The stops that a call answers, by their numbers.
@@ -104,6 +105,7 @@ class Machine:
     def _bind(self) -> None:
         """Fetches the calls of the machine's edition, and the address of its memory."""
         self._run = getattr(LIBRARY, RUNS_BY[self.edition])
+        self._logged = getattr(LIBRARY, LOGGED_BY[self.edition])
         self._tell = getattr(LIBRARY, TELLS_BY[self.edition])
         # An array that is viewed can't be resized, and so its address stays.
         self._view = memoryview(self.words)
@@ -115,7 +117,7 @@ class Machine:
         for name in ("words", "times", "keys", "output"):
             state[name] = state[name][:]
         state["_digest"] = copy(self._digest)
-        for name in ("_run", "_tell", "_view", "_memory"):
+        for name in ("_run", "_logged", "_tell", "_view", "_memory"):
             del state[name]
         return state
 
@@ -191,32 +193,18 @@ class Machine:
 
     def advance_logged(self, n: int) -> tuple[Stop, array[int]]:
         """Makes up to n steps, at most ``LOGGED_AT_ONCE``, with the words of their log."""
-        if self.edition is Edition.SECOND:
-            return self._advance_second(n)
         if len(self._log) < LOG_WORDS * n:
             self._log = array("H", bytes(2 * LOG_WORDS * n))
         log, logged, asked = self._log, 0, n
         address = log.buffer_info()[0] if n else NOWHERE
         while True:
             room = (address + 2 * logged, LOG_WORDS * asked - logged)
-            answer = self._answer(LIBRARY.lc3_run_logged, *room, n)
+            answer = self._answer(self._logged, *room, n)
             n -= answer.steps
             logged += answer.logged
             stop = STOPS[answer.stop]
             if stop is not Stop.OUTPUT_FULL or not self._enlarged():
                 return stop, log[:logged]
-
-    def _advance_second(self, n: int) -> tuple[Stop, array[int]]:
-        """The same by single steps: the library has no logged run for the second edition."""
-        log: array[int] = array("H")
-        while n:
-            pc, step = self.record.pc, self._next()
-            stop = self.advance(1)
-            if stop is not Stop.DONE:
-                return stop, log
-            log.extend((pc, step.word, step.reason))
-            n -= 1
-        return Stop.DONE, log
 
     def _next(self) -> ToldStruct:
         """What the next step does, which is not made; all zero where none would be."""
@@ -229,8 +217,7 @@ class Machine:
         step is made whatever its PC.
 
         The log of a run tells where PC was. Where it was at one of the addresses, the machine is
-        put back and makes the steps before that once more. By the second edition's rules, which
-        have no logged run, these are single steps.
+        put back and makes the steps before that once more.
         """
         before = self.snapshot()
         stop, log = self.advance_logged(min(n, LOGGED_AT_ONCE))

@@ -28,12 +28,8 @@ from .past import Past
 from .records import Edition, Mode, Reason, Record
 from .steps import TracedStep
 
-# The steps that a log is looked through: few at first, for most entries are short. The second
-# edition has no logged run, and its steps are made one at a time.
-LOOKED_THROUGH = {
-    Edition.THIRD: (1 << 9, 1 << 16, 1 << 20),
-    Edition.SECOND: (1 << 9, 1 << 13),
-}
+# The steps that a log is looked through: few at first, for most entries are short.
+LOOKED_THROUGH = (1 << 9, 1 << 16, 1 << 20)
 
 # The open entries that are looked at: no monitor has more routines inside of one another.
 MOST_OPEN = 16
@@ -159,8 +155,7 @@ def _in_user_mode(past: Past, clock: int) -> bool:
 def _beginnings(past: Past) -> Iterator[int]:
     """The clocks from which on the log is looked through, one after the other. It is worth to look
     far back only for a program in User mode, which is sure to be there."""
-    counts = LOOKED_THROUGH[past.edition]
-    for count in counts[:2] if past.stack_base is None else counts:
+    for count in LOOKED_THROUGH[:2] if past.stack_base is None else LOOKED_THROUGH:
         yield max(past.clock - count, past.start)
         if past.clock - count <= past.start:
             return

@@ -6,10 +6,6 @@ from typing import Iterator, NamedTuple
 
 from .machine import LOGGED_AT_ONCE
 from .past import Mark, Past, Walk
-from .records import Edition
-
-# The steps of a piece. The second edition has no logged run, and its steps are made one at a time.
-LONGEST = {Edition.THIRD: LOGGED_AT_ONCE, Edition.SECOND: 1 << 11}
 
 # The pieces that a longer one is cut into at once. Each has a snapshot of 128 KiB meanwhile.
 CUTS = 16
@@ -23,8 +19,8 @@ class Piece(NamedTuple):
 
 
 def pieces(past: Past, first: int) -> Iterator[Piece]:
-    """The steps from a clock to the end of a past, in pieces of at most ``LONGEST`` steps, the
-    last piece first.
+    """The steps from a clock to the end of a past, in pieces of at most ``LOGGED_AT_ONCE``
+    steps, the last piece first.
 
     From snapshot to snapshot the steps are made once more for the next shorter pieces, and at last
     by whoever asks for a log: some three times in all, and not as often as there are pieces.
@@ -41,11 +37,11 @@ def pieces(past: Past, first: int) -> Iterator[Piece]:
 
 def _cut(past: Past, mark: Mark, first: int) -> Iterator[Piece]:
     """The same from a clock on that has a snapshot shortly before it."""
-    past, count, longest = past._replace(marks=(mark,)), past.clock - first, LONGEST[past.edition]
-    if count <= longest:
+    past, count = past._replace(marks=(mark,)), past.clock - first
+    if count <= LOGGED_AT_ONCE:
         yield Piece(past.nearer(first), first)
         return
-    apart = max(longest, -(-count // CUTS))
+    apart = max(LOGGED_AT_ONCE, -(-count // CUTS))
     walk, marks = Walk(past, first), []
     for clock in range(first, past.clock, apart):
         walk.to(clock)

@@ -118,15 +118,16 @@ class RefusedCalls(unittest.TestCase):
         def one(step: Callable[..., Any]) -> Callable[..., Any]:
             return lambda r, m, t, k, n: step(r, m, t, k, bytearray(1))
 
-        def logged(r: Any, m: Any, t: Any, k: Any, n: int) -> Any:
-            return fanthrig.run_logged(r, m, t, k, bytearray(1), array("H", bytes(6)), n)
+        def logged(run: Callable[..., Any]) -> Callable[..., Any]:
+            return lambda r, m, t, k, n: run(r, m, t, k, bytearray(1), array("H", bytes(6)), n)
 
         takes_n = [
             (of(fanthrig.run), True),
             (of(fanthrig.run_long), True),
             (of(fanthrig.run_second), True),
+            (logged(fanthrig.run_logged), True),
+            (logged(fanthrig.run_logged_second), True),
         ]
-        takes_n += [(logged, True)]
         return takes_n + [(one(fanthrig.step), False), (one(fanthrig.step_second), False)]
 
     def test_runs_and_steps(self) -> None:

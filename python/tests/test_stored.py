@@ -90,6 +90,12 @@ CALLS = {
     fanthrig.Edition.SECOND: [fanthrig.run_second],
 }
 
+# The calls that log one.
+LOGGED = {
+    fanthrig.Edition.THIRD: fanthrig.run_logged,
+    fanthrig.Edition.SECOND: fanthrig.run_logged_second,
+}
+
 # The calls that make a step and tell of it.
 STEPS: dict[fanthrig.Edition, tuple[Any, Any]] = {
     fanthrig.Edition.THIRD: (fanthrig.step, fanthrig.tell),
@@ -131,12 +137,10 @@ class StoredRuns(unittest.TestCase):
 
     def test_logged_runs(self) -> None:
         for number, run in enumerate(RUNS):
-            if run.edition is fanthrig.Edition.SECOND:
-                continue
             memory, output = run.memory[:], bytearray(run.output)
             log = array("H", bytes(2 * len(run.log) + 6))
             lent = (run.record, memory, run.times, run.keys, output, log, run.n)
-            answer, ran = self.answer_of(fanthrig.run_logged, *lent)
+            answer, ran = self.answer_of(LOGGED[run.edition], *lent)
             self.assertEqual(answer, run.answer, number)
             self.assertEqual(log[: len(run.log)].tolist(), run.log, number)
             self.assertEqual(ran.logged if ran else 0, len(run.log), number)

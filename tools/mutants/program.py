@@ -29,7 +29,7 @@ AT_ONCE: Dict[Tuple[str, str], Callable[..., Value]] = {
     ('Characters', 'codesIn'): lambda text: tuple(map(ord, text)),
 }
 # Runs by their last step ask for the same run again and again, and steps for the same words.
-REMEMBERED = ('runBy', 'loggedRunOf', 'nextStepBy', 'entriesOf', 'readOf')
+REMEMBERED = ('runBy', 'loggedRunBy', 'nextStepBy', 'entriesBy', 'readOf')
 
 Names = Dict[str, str]
 Sampler = Callable[[List[Tuple[str, str]], Callable[..., Value]], bool]

@@ -12,22 +12,22 @@ use lib.Dec.{ltb}
 use lib.ListN.{length, take, drop, length-append, set, take-append-drop}
 use lib.Pow.{areBytes}
 use lib.Seq.{sets, length-take-le}
-use Rattle.machine.specs.Edition.{third}
+use Rattle.machine.specs.Edition.{Edition}
 use Rattle.machine.proofs.StepLaws.{step-keeps}
-use Rattle.machine.specs.Step.{stepOf}
+use Rattle.machine.specs.Step.{stepBy}
 use Rattle.run.specs.declared.Admission.the-variants.{Accepted}
 use Rattle.run.specs.declared.Ending.the-variants.{Done, Halted, OutputFull, Refused}
-use Rattle.run.specs.Run.{Start, End, isHalted, isFull}
+use Rattle.run.specs.Run.{Start, End, isHalted, isFullBy}
 use Rattle.run.specs.Refusals.{admissionOf}
 use Rattle.run.specs.Continuing.{remaining, joined}
 use Rattle.run.proofs.Continuing.{next-alike, full-alike, made-alike, begin-alike, shown-within, remaining-accepted}
 use Rattle.run.proofs.Acceptance.{accepted-with-fewer}
-use Rattle.logging.specs.Log.{nextRule, entryOf, lacksRoom}
+use Rattle.logging.specs.Log.{nextRuleBy, entryBy, lacksRoom}
 use Rattle.logging.specs.declared.LoggedEnding.{LoggedEnding}
 use Rattle.logging.specs.declared.LoggedEnding.the-variants.{Run, LogFull}
-use Rattle.logging.specs.LoggedRun.{Logged, withLog, runEnding, runIn, beginLogged, stoppedBy, stepLogged}
-use Rattle.logging.specs.LoggedRun.{oneMoreLogged, loggedRunOf}
-use Rattle.logging.specs.LoggedCall.{loggedCallOf}
+use Rattle.logging.specs.LoggedRun.{Logged, withLog, runEnding, runIn, beginLogged, stoppedBy, stepLoggedBy}
+use Rattle.logging.specs.LoggedRun.{oneMoreLoggedBy, loggedRunBy}
+use Rattle.logging.specs.LoggedCall.{loggedCallBy}
 use Rattle.logging.specs.LogSplits.{joinedLogged, Splits, LogSplits}
 use Rattle.logging.proofs.LoggedLaws.{Tracks, goes-with, was-full, tracks, Written, written, logged-stays}
 use Rattle.logging.proofs.BesideTheRun.{accepted-logged-call}
@@ -63,15 +63,15 @@ lacks-room-behind xs ys k =
 abbrev ShownFits : End → Type 0
 ShownFits e = length (take (e .shown) (e .output)) ≡ e .shown
 
-module _ (s : Start) (l : Logged) (shown : ShownFits (runIn l))
+module _ (edition : Edition) (s : Start) (l : Logged) (shown : ShownFits (runIn l))
     (wrote : length (take (l .words) (l .log)) ≡ l .words)
   where
     abbrev rest : Start
     rest = remaining s (runIn l)
 
-    entry-alike : (m : Logged) → entryOf s (joined (runIn l) (runIn m)) ≡ entryOf rest (runIn m)
-    unfolding entryOf nextRule
-    entry-alike m = rw (next-alike stepOf s (runIn l) shown (runIn m)) refl
+    entry-alike : (m : Logged) → entryBy edition s (joined (runIn l) (runIn m)) ≡ entryBy edition rest (runIn m)
+    unfolding entryBy nextRuleBy
+    entry-alike m = rw (next-alike (stepBy edition) s (runIn l) shown (runIn m)) refl
 
     room-alike : (m : Logged)
         → lacksRoom (take (l .words) (l .log) ++ m .log) (l .words + m .words) ≡ lacksRoom (m .log) (m .words)
@@ -86,30 +86,30 @@ module _ (s : Start) (l : Logged) (shown : ShownFits (runIn l))
         ap (λ (k : ℕ). sets (take (l .words) (l .log) ++ m .log) (k + m .words) vs) (sym wrote)
         ∙ sets-behind vs (take (l .words) (l .log)) (m .log) (m .words)
 
-    step-alike : (m : Logged) → stepLogged s (joinedLogged l m) ≡ joinedLogged l (stepLogged rest m)
-    unfolding stepLogged
+    step-alike : (m : Logged) → stepLoggedBy edition s (joinedLogged l m) ≡ joinedLogged l (stepLoggedBy edition rest m)
+    unfolding stepLoggedBy
     step-alike m =
         rw (
-          made-alike stepOf s (runIn l) shown (runIn m),
+          made-alike (stepBy edition) s (runIn l) shown (runIn m),
           entry-alike m,
-          log-alike m (entryOf rest (runIn m)),
+          log-alike m (entryBy edition rest (runIn m)),
           add-assoc (l .words) (m .words) 3,
         ) refl
 
     one-more-alike : (w : LoggedEnding) (m : Logged)
-        → oneMoreLogged w s (joinedLogged l m) ≡ joinedLogged l (oneMoreLogged w rest m)
-    unfolding oneMoreLogged isHalted
+        → oneMoreLoggedBy edition w s (joinedLogged l m) ≡ joinedLogged l (oneMoreLoggedBy edition w rest m)
+    unfolding oneMoreLoggedBy isHalted
     one-more-alike (Run Done) m =
-        rw (room-alike m, full-alike stepOf s (runIn l) shown (runIn m), step-alike m)
-        (tested (isHalted (runIn m)) (lacksRoom (m .log) (m .words)) (isFull rest (runIn m)))
+        rw (room-alike m, full-alike (stepBy edition) s (runIn l) shown (runIn m), step-alike m)
+        (tested (isHalted (runIn m)) (lacksRoom (m .log) (m .words)) (isFullBy (stepBy edition) rest (runIn m)))
       where
         tested : (halted short full : Bool)
             → cond halted (stoppedBy (Run Halted) (joinedLogged l m))
             (cond short (stoppedBy LogFull (joinedLogged l m))
-            (cond full (stoppedBy (Run OutputFull) (joinedLogged l m)) (joinedLogged l (stepLogged rest m))))
+            (cond full (stoppedBy (Run OutputFull) (joinedLogged l m)) (joinedLogged l (stepLoggedBy edition rest m))))
             ≡ joinedLogged l
             (cond halted (stoppedBy (Run Halted) m)
-            (cond short (stoppedBy LogFull m) (cond full (stoppedBy (Run OutputFull) m) (stepLogged rest m))))
+            (cond short (stoppedBy LogFull m) (cond full (stoppedBy (Run OutputFull) m) (stepLoggedBy edition rest m))))
         tested true short full = unfold stoppedBy in refl
         tested false true full = unfold stoppedBy in refl
         tested false false true = unfold stoppedBy in refl
@@ -125,98 +125,103 @@ module _ (s : Start) (l : Logged) (shown : ShownFits (runIn l))
         rw (take-append-drop (l .words) (l .log), add-zero (l .words))
         (ap (λ (w : LoggedEnding). withLog w (runIn l) (l .log) (l .words)) d
         ∙ ap (λ (e : End). withLog (Run Done) e (l .log) (l .words))
-        (begin-alike stepOf s (runIn l) shown (ap runEnding d)))
+        (begin-alike (stepBy edition) s (runIn l) shown (ap runEnding d)))
 
 -- ---- runs
 
-words-within : (s : Start) (log : List ℕ) (k : ℕ)
-    → length (take (loggedRunOf s log k .words) (loggedRunOf s log k .log)) ≡ loggedRunOf s log k .words
-words-within s log k =
-    let w : Written s log (loggedRunOf s log k) = written s log k in
-    length-take-le (loggedRunOf s log k .words) (loggedRunOf s log k .log) (omega (arith, w .room, w .size))
+words-within : (edition : Edition) (s : Start) (log : List ℕ) (k : ℕ)
+    → length (take (loggedRunBy edition s log k .words) (loggedRunBy edition s log k .log))
+    ≡ loggedRunBy edition s log k .words
+words-within edition s log k =
+    let w : Written edition s log (loggedRunBy edition s log k) = written edition s log k in
+    length-take-le (loggedRunBy edition s log k .words) (loggedRunBy edition s log k .log)
+    (omega (arith, w .room, w .size))
 
-logged-begins : (s : Start) (log : List ℕ) → loggedRunOf s log 0 ≡ beginLogged s log
-unfolding loggedRunOf
-logged-begins s log = refl
+logged-begins : (edition : Edition) (s : Start) (log : List ℕ) → loggedRunBy edition s log 0 ≡ beginLogged s log
+unfolding loggedRunBy
+logged-begins edition s log = refl
 
-logged-goes-on : (s : Start) (log : List ℕ) (n : ℕ) (l : Logged) → loggedRunOf s log n ≡ l
-    → loggedRunOf s log (suc n) ≡ oneMoreLogged (l .ending) s l
-unfolding loggedRunOf
-logged-goes-on s log n l h = ap (λ (x : Logged). oneMoreLogged (x .ending) s x) h
+logged-goes-on : (edition : Edition) (s : Start) (log : List ℕ) (n : ℕ) (l : Logged) → loggedRunBy edition s log n ≡ l
+    → loggedRunBy edition s log (suc n) ≡ oneMoreLoggedBy edition (l .ending) s l
+unfolding loggedRunBy
+logged-goes-on edition s log n l h = ap (λ (x : Logged). oneMoreLoggedBy edition (x .ending) s x) h
 
-module _ (s : Start) (log : List ℕ) (k : ℕ) (d : loggedRunOf s log k .ending ≡ Run Done)
+module _ (edition : Edition) (s : Start) (log : List ℕ) (k : ℕ) (d : loggedRunBy edition s log k .ending ≡ Run Done)
   where
     abbrev first : Logged
-    first = loggedRunOf s log k
+    first = loggedRunBy edition s log k
 
     abbrev second : ℕ → Logged
-    second j = loggedRunOf (remaining s (runIn first)) (drop (first .words) (first .log)) j
+    second j = loggedRunBy edition (remaining s (runIn first)) (drop (first .words) (first .log)) j
 
     shown-fits : ShownFits (runIn first)
-    shown-fits = go (tracks s log k)
+    shown-fits = go (tracks edition s log k)
       where
-        go : Tracks s k first → ShownFits (runIn first)
-        go (goes-with w x h) = subst ShownFits (sym h) (shown-within (step-keeps third) s k)
-        go (was-full x h i z r) = subst ShownFits (sym h) (shown-within (step-keeps third) s (first .steps))
+        go : Tracks edition s k first → ShownFits (runIn first)
+        go (goes-with w x h) = subst ShownFits (sym h) (shown-within (step-keeps edition) s k)
+        go (was-full x h i z r) = subst ShownFits (sym h) (shown-within (step-keeps edition) s (first .steps))
 
-    logged-continued : (j : ℕ) → loggedRunOf s log (k + j) ≡ joinedLogged first (second j)
+    logged-continued : (j : ℕ) → loggedRunBy edition s log (k + j) ≡ joinedLogged first (second j)
     logged-continued zero =
-        ap (loggedRunOf s log) (add-zero k)
-        ∙ begin-logged-alike s first shown-fits (words-within s log k) d
-        ∙ ap (joinedLogged first) (sym (logged-begins (remaining s (runIn first)) (drop (first .words) (first .log))))
-    logged-continued (suc j) =
-        ap (loggedRunOf s log) (add-suc k j)
-        ∙ logged-goes-on s log (k + j) (joinedLogged first (second j)) (logged-continued j)
-        ∙ one-more-alike s first shown-fits (words-within s log k) (second j .ending) (second j)
+        ap (loggedRunBy edition s log) (add-zero k)
+        ∙ begin-logged-alike edition s first shown-fits (words-within edition s log k) d
         ∙ ap (joinedLogged first)
-        (sym (logged-goes-on (remaining s (runIn first)) (drop (first .words) (first .log)) j (second j) refl))
+        (sym (logged-begins edition (remaining s (runIn first)) (drop (first .words) (first .log))))
+    logged-continued (suc j) =
+        ap (loggedRunBy edition s log) (add-suc k j)
+        ∙ logged-goes-on edition s log (k + j) (joinedLogged first (second j)) (logged-continued j)
+        ∙ one-more-alike edition s first shown-fits (words-within edition s log k) (second j .ending) (second j)
+        ∙ ap (joinedLogged first)
+        (sym (logged-goes-on edition (remaining s (runIn first)) (drop (first .words) (first .log)) j (second j) refl))
 
 -- ---- calls
 
-stopped-stays : (w : LoggedEnding) (s : Start) (l : Logged) → (w ≡ Run Done → ⊥) → oneMoreLogged w s l ≡ l
-unfolding oneMoreLogged
-stopped-stays (Run Done) s l n = absurd (n refl)
-stopped-stays (Run Halted) s l n = refl
-stopped-stays (Run OutputFull) s l n = refl
-stopped-stays (Run (Refused r)) s l n = refl
-stopped-stays LogFull s l n = refl
+stopped-stays : (edition : Edition) (w : LoggedEnding) (s : Start) (l : Logged) → (w ≡ Run Done → ⊥)
+    → oneMoreLoggedBy edition w s l ≡ l
+unfolding oneMoreLoggedBy
+stopped-stays edition (Run Done) s l n = absurd (n refl)
+stopped-stays edition (Run Halted) s l n = refl
+stopped-stays edition (Run OutputFull) s l n = refl
+stopped-stays edition (Run (Refused r)) s l n = refl
+stopped-stays edition LogFull s l n = refl
 
 -- The call of j steps that comes after it is accepted.
 abbrev AcceptedAfter : Start → ℕ → End → Type 0
 AcceptedAfter s j e = admissionOf (remaining s e) j ≡ Accepted
 
-first-accepted : (s : Start) (log : List ℕ) (k j : ℕ) → areBytes (s .bytes) ≡ true
-    → admissionOf s (k + j) ≡ Accepted → AcceptedAfter s j (runIn (loggedRunOf s log k))
-first-accepted s log k j bytes h = go (tracks s log k)
+first-accepted : (edition : Edition) (s : Start) (log : List ℕ) (k j : ℕ) → areBytes (s .bytes) ≡ true
+    → admissionOf s (k + j) ≡ Accepted → AcceptedAfter s j (runIn (loggedRunBy edition s log k))
+first-accepted edition s log k j bytes h = go (tracks edition s log k)
   where
-    go : Tracks s k (loggedRunOf s log k) → AcceptedAfter s j (runIn (loggedRunOf s log k))
-    go (goes-with w f e) = subst (AcceptedAfter s j) (sym e) (remaining-accepted (step-keeps third) s k j bytes h)
+    go : Tracks edition s k (loggedRunBy edition s log k) → AcceptedAfter s j (runIn (loggedRunBy edition s log k))
+    go (goes-with w f e) = subst (AcceptedAfter s j) (sym e) (remaining-accepted (step-keeps edition) s k j bytes h)
     go (was-full f e i x r) =
-        let m : ℕ = loggedRunOf s log k .steps in
-        subst (AcceptedAfter s j) (sym e) (remaining-accepted (step-keeps third) s m j bytes
-        (accepted-with-fewer s (k + j) (loggedRunOf s log k .steps + j) (omega (arith, i)) h))
+        let m : ℕ = loggedRunBy edition s log k .steps in
+        subst (AcceptedAfter s j) (sym e) (remaining-accepted (step-keeps edition) s m j bytes
+        (accepted-with-fewer s (k + j) (loggedRunBy edition s log k .steps + j) (omega (arith, i)) h))
 
 pub log-splits : LogSplits
-log-splits s k j log bytes h =
+log-splits edition s k j log bytes h =
     let a : admissionOf s k ≡ Accepted = accepted-with-fewer s (k + j) k (omega arith) h in
-    go (loggedCallOf s log k) (accepted-logged-call s log k a)
+    go (loggedCallBy edition s log k) (accepted-logged-call edition s log k a)
   where
-    whole : loggedCallOf s log (k + j) ≡ loggedRunOf s log (k + j)
-    whole = accepted-logged-call s log (k + j) h
+    whole : loggedCallBy edition s log (k + j) ≡ loggedRunBy edition s log (k + j)
+    whole = accepted-logged-call edition s log (k + j) h
 
-    go : (first : Logged) → first ≡ loggedRunOf s log k → Splits s k j log first
+    go : (first : Logged) → first ≡ loggedRunBy edition s log k → Splits edition s k j log first
     go first e =
-        let second = first-accepted s log k j bytes h in
+        let second = first-accepted edition s log k j bytes h in
         record {
           second-accepted = rw e second;
           continued = λ d.
               whole
               ∙ rw e
-              (logged-continued s log k (rw e at d) j
-              ∙ ap (joinedLogged (loggedRunOf s log k))
-              (sym (accepted-logged-call (remaining s (runIn (loggedRunOf s log k)))
-              (drop (loggedRunOf s log k .words) (loggedRunOf s log k .log)) j second)));
+              (logged-continued edition s log k (rw e at d) j
+              ∙ ap (joinedLogged (loggedRunBy edition s log k))
+              (sym (accepted-logged-call edition (remaining s (runIn (loggedRunBy edition s log k)))
+              (drop (loggedRunBy edition s log k .words) (loggedRunBy edition s log k .log)) j second)));
           stopped = λ n.
               whole
-              ∙ logged-stays s log (k + j) k first (omega arith) (sym e) (stopped-stays (first .ending) s first n);
+              ∙ logged-stays edition s log (k + j) k first (omega arith) (sym e)
+              (stopped-stays edition (first .ending) s first n);
         }

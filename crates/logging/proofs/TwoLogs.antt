@@ -6,6 +6,7 @@ use mathlib.Core.Path.{_≡_, refl, sym, ap, _∙_}
 use mathlib.Core.List.{List, [], _∷_, _++_}
 use native.Mathlib.Omega.{arith}
 use lib.ListN.{length, take, drop, take-append-drop}
+use Rattle.machine.specs.Edition.{third}
 use Rattle.machine.specs.Step.{stepOf}
 use Rattle.machine.specs.declared.Rule.{Rule}
 use Rattle.machine.specs.Rules.{ruleOf, ruleNumber, fetchedWord}
@@ -18,7 +19,7 @@ use Rattle.run.specs.Noninterference.{NoneBefore, Premises}
 use Rattle.run.proofs.RunLaws.{steps-made-at-most, steps-made-are-done, done-steps-are-made}
 use Rattle.run.proofs.Acceptance.{accepted-with-fewer, call-is-run, call-makes-at-most, call-steps-are-run-steps}
 use Rattle.run.proofs.Noninterference.{none-before-fewer, visible-swapped, both, both-step, both-stop}
-use Rattle.logging.specs.Log.{nextRule, entryOf, entriesOf}
+use Rattle.logging.specs.Log.{nextRuleBy, entryOf, entryBy, entriesOf, entriesBy}
 use Rattle.logging.specs.LoggedRun.{Logged, loggedRunOf}
 use Rattle.logging.specs.LoggedCall.{loggedCallOf}
 use Rattle.logging.specs.TwoLogs.{LoggedPremises, SameEntries, LogAlike, LogsDoNotTell}
@@ -39,7 +40,7 @@ at-most-by-each (suc a) b f = f a (omega arith)
 logged-steps : (s : Start) (log : List ℕ) (n : ℕ) → admissionOf s n ≡ Accepted
     → loggedCallOf s log n .steps ≡ callOf s (fitting n (length log)) .steps
 logged-steps s log n a =
-    rw (accepted-logged-call s log n a)
+    rw (accepted-logged-call third s log n a)
     (omega (
       arith,
       at-most-by-each (loggedRunOf s log n .steps) (runOf s (fitting n (length log)) .steps) made,
@@ -49,14 +50,14 @@ logged-steps s log n a =
   where
     made : (k : ℕ) → k < loggedRunOf s log n .steps → k < runOf s (fitting n (length log)) .steps
     made k h =
-        let w : MadeWithRoom s log n k = logged-were-made s log n k h in
+        let w : MadeWithRoom third s log n k = logged-were-made third s log n k h in
         done-steps-are-made stepOf s _ (suc k) (omega (arith, w .room, w .made, steps-made-at-most stepOf s n))
         (steps-made-are-done stepOf s n (suc k) (w .made))
 
     logged : (k : ℕ) → k < runOf s (fitting n (length log)) .steps → k < loggedRunOf s log n .steps
     logged k h =
         let l : k < fitting n (length log) = omega (arith, h, steps-made-at-most stepOf s (fitting n (length log))) in
-        made-are-logged s log n k (record {
+        made-are-logged third s log n k (record {
           made = done-steps-are-made stepOf s n (suc k) (omega arith) (steps-made-are-done stepOf s _ (suc k) h);
           room = omega (arith, l);
         })
@@ -70,7 +71,7 @@ same-entry pc₁ pc₂ r₁ r₂ w₁ w₂ p q w = rw (p, w, q) refl
 -- What two runs under the premises log in step k.
 entry-agrees : (s₁ s₂ : Start) (n : ℕ) → Premises s₁ s₂ n → (k : ℕ) → k < callOf s₁ n .steps → NoneBefore s₁ k
     → entryOf s₁ (runOf s₁ k) ≡ entryOf s₂ (runOf s₂ k)
-unfolding entryOf nextRule
+unfolding entryBy nextRuleBy
 entry-agrees s₁ s₂ n p k h c =
     let b = both s₁ s₂ n p k (omega arith) c .related in
     let l : k ≤ n = omega (arith, h, call-makes-at-most stepOf s₁ n (p .accepted₁)) in
@@ -109,11 +110,11 @@ module _ (s₁ s₂ : Start) (log₁ log₂ : List ℕ) (n : ℕ) (p : LoggedPre
     abbrev m : ℕ
     m = fitting n (length log₁)
 
-    w₁ : Written s₁ log₁ l₁
-    w₁ = rw (accepted-logged-call s₁ log₁ n (p .accepted₁)) (written s₁ log₁ n)
+    w₁ : Written third s₁ log₁ l₁
+    w₁ = rw (accepted-logged-call third s₁ log₁ n (p .accepted₁)) (written third s₁ log₁ n)
 
-    w₂ : Written s₂ log₂ l₂
-    w₂ = rw (accepted-logged-call s₂ log₂ n (p .accepted₂)) (written s₂ log₂ n)
+    w₂ : Written third s₂ log₂ l₂
+    w₂ = rw (accepted-logged-call third s₂ log₂ n (p .accepted₂)) (written third s₂ log₂ n)
 
     steps₁ : l₁ .steps ≡ callOf s₁ m .steps
     steps₁ = logged-steps s₁ log₁ n (p .accepted₁)
@@ -136,7 +137,7 @@ module _ (s₁ s₂ : Start) (log₁ log₂ : List ℕ) (n : ℕ) (p : LoggedPre
     logged-too k h c = omega (arith, steps₂, both-step s₁ s₂ m premises k (omega (arith, steps₁)) c .0)
 
     entries-agree : (k : ℕ) → k ≤ l₁ .steps → ((j : ℕ) → j < k → NoneBefore s₁ j) → entriesOf s₁ k ≡ entriesOf s₂ k
-    unfolding entriesOf
+    unfolding entriesBy
     entries-agree zero h c = refl
     entries-agree (suc k) h c =
         cc (
@@ -146,9 +147,9 @@ module _ (s₁ s₂ : Start) (log₁ log₂ : List ℕ) (n : ℕ) (p : LoggedPre
 
     same-entries : (k : ℕ) → k ≤ l₁ .steps → ((j : ℕ) → j < k → NoneBefore s₁ j) → SameEntries k l₁ l₂
     same-entries k h c =
-        log-of-fewer s₁ log₁ l₁ k w₁ h
+        log-of-fewer third s₁ log₁ l₁ k w₁ h
         ∙ (entries-agree k h c
-        ∙ sym (log-of-fewer s₂ log₂ l₂ k w₂
+        ∙ sym (log-of-fewer third s₂ log₂ l₂ k w₂
         (at-most-by-each k (l₂ .steps) (λ j l. logged-too j (omega arith) (c j l)))))
 
     -- Up to and including step k.
@@ -194,8 +195,8 @@ calls-log-alike s₁ s₂ log₁ log₂ n p e =
 logged-is-called : (s : Start) (log : List ℕ) (n j : ℕ) → admissionOf s n ≡ Accepted
     → j < loggedCallOf s log n .steps → j < callOf s n .steps
 logged-is-called s log n j a h =
-    let l : j < loggedRunOf s log n .steps = rw (accepted-logged-call s log n a) at h in
-    omega (arith, logged-were-made s log n j l .made, call-steps-are-run-steps stepOf s n a)
+    let l : j < loggedRunOf s log n .steps = rw (accepted-logged-call third s log n a) at h in
+    omega (arith, logged-were-made third s log n j l .made, call-steps-are-run-steps stepOf s n a)
 
 carried-over : (s₁ s₂ : Start) (log₁ log₂ : List ℕ) (n : ℕ) → Premises s₁ s₂ n → LoggedPremises s₁ s₂ log₁ log₂ n
 carried-over s₁ s₂ log₁ log₂ n p = record {

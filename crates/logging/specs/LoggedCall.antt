@@ -1,6 +1,7 @@
 -- The call of a logged run: turned down as the run is, with the log untouched; or run.
 use Prim.Native.Nat.{ℕ}
 use mathlib.Core.List.{List}
+use Rattle.machine.specs.Edition.{Edition, third, second}
 use Rattle.run.specs.declared.Admission.{Admission}
 use Rattle.run.specs.declared.Admission.the-variants.{Accepted, Rejected}
 use Rattle.run.specs.declared.Ending.the-variants.{Refused}
@@ -9,14 +10,21 @@ use Rattle.run.specs.Refusals.{admissionOf, endingStop}
 use Rattle.logging.specs.declared.LoggedAnswer.{LoggedAnswer}
 use Rattle.logging.specs.declared.LoggedEnding.{LoggedEnding}
 use Rattle.logging.specs.declared.LoggedEnding.the-variants.{Run, LogFull}
-use Rattle.logging.specs.LoggedRun.{Logged, withLog, loggedRunOf}
+use Rattle.logging.specs.LoggedRun.{Logged, withLog, loggedRunBy}
 
-unfoldable pub loggedAdmitted : Admission → Start → List ℕ → ℕ → Logged
-loggedAdmitted Accepted s log n = loggedRunOf s log n
-loggedAdmitted (Rejected r) s log n = withLog (Run (Refused r)) (begin s) log 0
+unfoldable pub loggedAdmittedBy : Edition → Admission → Start → List ℕ → ℕ → Logged
+loggedAdmittedBy edition Accepted s log n = loggedRunBy edition s log n
+loggedAdmittedBy edition (Rejected r) s log n = withLog (Run (Refused r)) (begin s) log 0
 
-unfoldable pub loggedCallOf : Start → List ℕ → ℕ → Logged
-loggedCallOf s log n = loggedAdmitted (admissionOf s n) s log n
+unfoldable pub loggedCallBy : Edition → Start → List ℕ → ℕ → Logged
+loggedCallBy edition s log n = loggedAdmittedBy edition (admissionOf s n) s log n
+
+-- The call of a logged run by document 01's step, and by the second edition's.
+abbrev pub loggedCallOf : Start → List ℕ → ℕ → Logged
+loggedCallOf = loggedCallBy third
+
+abbrev pub secondLoggedCallOf : Start → List ℕ → ℕ → Logged
+secondLoggedCallOf = loggedCallBy second
 
 -- The stop's number: 3 for log full, after the three of a run.
 abbrev pub loggedStop : LoggedEnding → ℕ

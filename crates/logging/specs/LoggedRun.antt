@@ -1,16 +1,18 @@
 -- The logged run of n steps, by its last step, from the definitions of the run: each step is the run's own, and its
--- entry is made from that step.
+-- entry is made from that step. It is defined by either edition, as the log is.
 use Prim.Native.Nat.{ℕ, zero, suc, _+_}
 use mathlib.Core.Bool.{cond}
 use mathlib.Core.List.{List}
 use lib.Seq.{sets}
 use Rattle.machine.specs.declared.Machine.{Machine}
+use Rattle.machine.specs.Edition.{Edition, third}
+use Rattle.machine.specs.Step.{stepBy}
 use Rattle.run.specs.declared.Ending.{Ending}
 use Rattle.run.specs.declared.Ending.the-variants.{Done, Halted, OutputFull, Refused}
-use Rattle.run.specs.Run.{Start, End, begin, stepMade, isHalted, isFull}
+use Rattle.run.specs.Run.{Start, End, begin, stepMadeBy, isHalted, isFullBy}
 use Rattle.logging.specs.declared.LoggedEnding.{LoggedEnding}
 use Rattle.logging.specs.declared.LoggedEnding.the-variants.{Run, LogFull}
-use Rattle.logging.specs.Log.{entryOf, lacksRoom}
+use Rattle.logging.specs.Log.{entryBy, lacksRoom}
 
 -- What a logged run answers and leaves: what a run does, the log with the count of its words written, and how it ended.
 pub record Logged : Type 0 where
@@ -64,24 +66,36 @@ stoppedBy w l = withLog w (runIn l) (l .log) (l .words)
 
 -- The next step made, and its entry written after those of the steps before: "a lent output or log is written from its
 -- start, the rest stays as lent".
-unfoldable pub stepLogged : Start → Logged → Logged
-stepLogged s l =
-    withLog (Run Done) (stepMade s (runIn l)) (sets (l .log) (l .words) (entryOf s (runIn l))) (l .words + 3)
+unfoldable pub stepLoggedBy : Edition → Start → Logged → Logged
+stepLoggedBy edition s l =
+    withLog (Run Done) (stepMadeBy (stepBy edition) s (runIn l))
+    (sets (l .log) (l .words) (entryBy edition s (runIn l))) (l .words + 3)
 
 -- The stops, in their order: done, halted, log full, output full. "A further stop, log full, stands between halted and
 -- output full."
-unfoldable pub oneMoreLogged : LoggedEnding → Start → Logged → Logged
-oneMoreLogged (Run Done) s l =
+unfoldable pub oneMoreLoggedBy : Edition → LoggedEnding → Start → Logged → Logged
+oneMoreLoggedBy edition (Run Done) s l =
     cond (isHalted (runIn l)) (stoppedBy (Run Halted) l)
     (cond (lacksRoom (l .log) (l .words)) (stoppedBy LogFull l)
-    (cond (isFull s (runIn l)) (stoppedBy (Run OutputFull) l) (stepLogged s l)))
-oneMoreLogged (Run Halted) s l = l
-oneMoreLogged (Run OutputFull) s l = l
-oneMoreLogged (Run (Refused r)) s l = l
-oneMoreLogged LogFull s l = l
+    (cond (isFullBy (stepBy edition) s (runIn l)) (stoppedBy (Run OutputFull) l) (stepLoggedBy edition s l)))
+oneMoreLoggedBy edition (Run Halted) s l = l
+oneMoreLoggedBy edition (Run OutputFull) s l = l
+oneMoreLoggedBy edition (Run (Refused r)) s l = l
+oneMoreLoggedBy edition LogFull s l = l
 
-unfoldable pub loggedRunOf : Start → List ℕ → ℕ → Logged
-loggedRunOf s log zero = beginLogged s log
-loggedRunOf s log (suc n) =
-    let l : Logged = loggedRunOf s log n in
-    oneMoreLogged (l .ending) s l
+unfoldable pub loggedRunBy : Edition → Start → List ℕ → ℕ → Logged
+loggedRunBy edition s log zero = beginLogged s log
+loggedRunBy edition s log (suc n) =
+    let l : Logged = loggedRunBy edition s log n in
+    oneMoreLoggedBy edition (l .ending) s l
+
+-- ---- by the third edition
+
+abbrev pub stepLogged : Start → Logged → Logged
+stepLogged = stepLoggedBy third
+
+abbrev pub oneMoreLogged : LoggedEnding → Start → Logged → Logged
+oneMoreLogged = oneMoreLoggedBy third
+
+abbrev pub loggedRunOf : Start → List ℕ → ℕ → Logged
+loggedRunOf = loggedRunBy third

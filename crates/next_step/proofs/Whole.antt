@@ -25,7 +25,7 @@ use Rattle.machine.specs.Step.{performBy, obeyedBy, interruptedOrObeyedBy, afte
 use Rattle.machine.proofs.Tests.{either-branch}
 use Rattle.touched.proofs.TouchedWords.{step-reads-at-most-three}
 use Rattle.run.specs.Run.{begin}
-use Rattle.logging.specs.Log.{nextRule, entryOf}
+use Rattle.logging.specs.Log.{nextRuleBy, entryBy}
 use Rattle.next_step.specs.Told.{addressesOf}
 use Rattle.next_step.specs.Whole.{wordsIn, StepsToldWhole, ToldAsLogged}
 
@@ -110,5 +110,5 @@ steps-told-whole e keys m mem = record {
 }
 
 pub told-as-logged : ToldAsLogged
-unfolding entryOf nextRule begin
-told-as-logged s = refl
+unfolding entryBy nextRuleBy begin
+told-as-logged e s = refl

@@ -5,9 +5,9 @@ use Rattle.word.specs.Reading.{readOf}
 use Rattle.word.specs.FixedBits.{fixedOf}
 use Rattle.machine.specs.Rules.{fetchedWordBy}
 use Rattle.run.proofs.Opened.{opened as run-opened}
-use Rattle.logging.specs.Log.{nextRule, entryOf, lacksRoom}
-use Rattle.logging.specs.LoggedRun.{beginLogged, stoppedBy, stepLogged, oneMoreLogged, loggedRunOf}
-use Rattle.logging.specs.LoggedCall.{loggedAdmitted, loggedCallOf}
+use Rattle.logging.specs.Log.{nextRuleBy, entryBy, lacksRoom}
+use Rattle.logging.specs.LoggedRun.{beginLogged, stoppedBy, stepLoggedBy, oneMoreLoggedBy, loggedRunBy}
+use Rattle.logging.specs.LoggedCall.{loggedAdmittedBy, loggedCallBy}
 use Rattle.object.specs.File.{bytesOf}
 use Rattle.object.specs.Calls.{beyondMemory, saveRefusal, saveAccepted, saveOf}
 use Rattle.start.proofs.Opened.{opened as start-opened}
@@ -65,8 +65,8 @@ unfolding vectorWord vectorsFrom vectorTable wrongSize tooShort vectorsOf routin
 monitor-in-place = record { vectors = refl; fits-exactly = refl; sizes = refl; installed = refl; routines = refl }
 
 last-step-logged : LastStepLogged
-unfolding run-opened fetchedWordBy nextRule entryOf lacksRoom beginLogged stoppedBy stepLogged oneMoreLogged
-    loggedRunOf loggedAdmitted loggedCallOf
+unfolding run-opened fetchedWordBy nextRuleBy entryBy lacksRoom beginLogged stoppedBy stepLoggedBy oneMoreLoggedBy
+    loggedRunBy loggedAdmittedBy loggedCallBy
 last-step-logged = record { made = refl; written = refl; log = refl }
 
 pub buffers-hold : BuffersHold

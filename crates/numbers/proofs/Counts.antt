@@ -9,13 +9,13 @@ use Rattle.run.specs.OneAlteredWord.{takes, replaces}
 use Rattle.run.specs.SecondEdition.{exclusionsAt}
 use Rattle.run.proofs.Opened.{opened}
 use Rattle.touched.specs.Altered.{isAmong}
-use Rattle.logging.specs.Log.{nextRule, entryOf, lacksRoom}
-use Rattle.logging.specs.LoggedRun.{beginLogged, stoppedBy, stepLogged, oneMoreLogged, loggedRunOf}
-use Rattle.logging.specs.LoggedCall.{loggedAdmitted, loggedCallOf}
+use Rattle.logging.specs.Log.{nextRuleBy, entryBy, lacksRoom}
+use Rattle.logging.specs.LoggedRun.{beginLogged, stoppedBy, stepLoggedBy, oneMoreLoggedBy, loggedRunBy}
+use Rattle.logging.specs.LoggedCall.{loggedAdmittedBy, loggedCallBy}
 use Rattle.numbers.specs.Counts.{LongRuns, ManySteps, FirstEntries, CountsHold}
 
 long-runs : LongRuns
-unfolding opened fetchedWordBy nextRule entryOf lacksRoom stoppedBy stepLogged oneMoreLogged
+unfolding opened fetchedWordBy nextRuleBy entryBy lacksRoom stoppedBy stepLoggedBy oneMoreLoggedBy
 long-runs = record {
   due = refl;
   made = refl;
@@ -33,9 +33,9 @@ long-runs = record {
 }
 
 many-steps : ManySteps
-unfolding opened fetchedWordBy nextRule entryOf lacksRoom beginLogged stoppedBy stepLogged oneMoreLogged loggedRunOf
-    loggedAdmitted loggedCallOf causeAt readsAt writesAt takes replaces isAmong instructionExclusions accessesOf
-    addressExclusions accessExclusions obeyedExclusions takenExclusions exclusionsOf exclusionsAt
+unfolding opened fetchedWordBy nextRuleBy entryBy lacksRoom beginLogged stoppedBy stepLoggedBy oneMoreLoggedBy
+    loggedRunBy loggedAdmittedBy loggedCallBy causeAt readsAt writesAt takes replaces isAmong instructionExclusions
+    accessesOf addressExclusions accessExclusions obeyedExclusions takenExclusions exclusionsOf exclusionsAt
 many-steps = record {
   steps = refl;
   ending = refl;
@@ -53,7 +53,7 @@ many-steps = record {
 }
 
 first-entries : FirstEntries
-unfolding opened fetchedWordBy nextRule entryOf
+unfolding opened fetchedWordBy nextRuleBy entryBy
 first-entries = record { each = refl }
 
 pub counts-hold : CountsHold

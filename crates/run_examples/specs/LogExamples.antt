@@ -2,15 +2,18 @@
 -- logged as stands in the examples of crates/machine under the same name.
 use Prim.Native.Nat.{ℕ}
 use mathlib.Core.Path.{_≡_}
+use mathlib.Core.Bool.{true}
 use mathlib.Core.List.{List, [], _∷_, map}
 use lib.ListN.{replicate}
+use Rattle.machine.specs.Edition.{Edition, third, second}
+use Rattle.run.specs.Fresh.{freshOf}
 use Rattle.run.specs.declared.Ending.the-variants.{Done, Halted, OutputFull, Refused}
 use Rattle.run.specs.declared.Refusal.the-variants.{MemorySize}
 use Rattle.run.specs.Call.{startOf}
 use Rattle.run.specs.CallExamples.{storing}
 use Rattle.logging.specs.declared.LoggedEnding.{LoggedEnding}
 use Rattle.logging.specs.declared.LoggedEnding.the-variants.{Run, LogFull}
-use Rattle.logging.specs.LoggedRun.{Logged, loggedRunOf}
+use Rattle.logging.specs.LoggedRun.{Logged, loggedRunOf, loggedRunBy}
 use Rattle.logging.specs.LoggedCall.{loggedCallOf, loggedStop}
 
 -- The steps made, the words written, the log, and how the run ended.
@@ -23,6 +26,11 @@ toldOf l = told (l .steps) (l .words) (l .log) (l .ending)
 -- n steps from x0400 of STR R0, R1, #0 to DDR, which stands everywhere, with this MCR, output and log.
 abbrev pub logs : ℕ → List ℕ → List ℕ → ℕ → Told
 logs mcr output log n = toldOf (loggedRunOf (startOf (storing mcr) (replicate 65536 0x7040) [] [] output) log n)
+
+-- One step in User mode from here, where TRAP x25 stands everywhere, by an edition: its log.
+abbrev pub trapLogged : Edition → ℕ → List ℕ
+trapLogged edition pc =
+    loggedRunBy edition (startOf (freshOf pc true 0xFDFF) (replicate 65536 0xF025) [] [] []) (1 ∷ 2 ∷ 3 ∷ []) 1 .log
 
 -- Every case of an ending.
 abbrev pub endings : List LoggedEnding
@@ -45,5 +53,11 @@ pub record LogExamplesHold : Type 0 where
   -- A refused call leaves the log as lent.
   pub refused : toldOf (loggedCallOf (startOf (storing 0x8000) [] [] [] []) (1 ∷ 2 ∷ 3 ∷ []) 1)
       ≡ told 0 0 (1 ∷ 2 ∷ 3 ∷ []) (Run (Refused MemorySize))
+  -- By the second edition a TRAP is an instruction and no fetch is denied; by the third it is an entry, and a denied
+  -- fetch has no word.
+  pub trap : trapLogged third 0x3000 ≡ 0x3000 ∷ 0xF025 ∷ 1 ∷ []
+  pub trap-by-the-second : trapLogged second 0x3000 ≡ 0x3000 ∷ 0xF025 ∷ 0 ∷ []
+  pub denied-fetch : trapLogged third 0x0400 ≡ 0x0400 ∷ 0 ∷ 4 ∷ []
+  pub none-denied-by-the-second : trapLogged second 0x0400 ≡ 0x0400 ∷ 0xF025 ∷ 0 ∷ []
   -- The number of each stop: done 0, halted 1, output full 2, log full 3, and 0 where refused.
   pub stops : map loggedStop endings ≡ 0 ∷ 1 ∷ 2 ∷ 0 ∷ 3 ∷ []

@@ -30,12 +30,12 @@ use Rattle.run.specs.AlteredWords.{Variants, SameEnds}
 use Rattle.run.proofs.AlteredWords.{wider-ends, halts-alike, ended-alike, begin-alike, steps-alike, full-alike}
 use Rattle.run.proofs.AlteredWords.{made-alike}
 use Rattle.run.proofs.RunKeeps.{every-run-keeps}
-use Rattle.logging.specs.Log.{nextRule, entryOf, lacksRoom}
+use Rattle.logging.specs.Log.{nextRule, nextRuleBy, entryOf, entryBy, lacksRoom}
 use Rattle.logging.specs.declared.LoggedEnding.{LoggedEnding}
 use Rattle.logging.specs.declared.LoggedEnding.the-variants.{Run, LogFull}
-use Rattle.logging.specs.LoggedRun.{Logged, runEnding, runIn, beginLogged, stoppedBy, stepLogged, oneMoreLogged}
-use Rattle.logging.specs.LoggedRun.{loggedRunOf}
-use Rattle.logging.specs.LoggedCall.{loggedAdmitted, loggedCallOf}
+use Rattle.logging.specs.LoggedRun.{Logged, runEnding, runIn, beginLogged, stoppedBy, stepLogged}
+use Rattle.logging.specs.LoggedRun.{stepLoggedBy, oneMoreLogged, oneMoreLoggedBy, loggedRunOf, loggedRunBy}
+use Rattle.logging.specs.LoggedCall.{loggedAdmittedBy, loggedCallOf, loggedCallBy}
 use Rattle.logging.specs.BesideTheRun.{AsTheRun}
 use Rattle.logging.proofs.BesideTheRun.{logged-run-is-the-run}
 use Rattle.logging.proofs.LoggedLaws.{Tracks, goes-with, was-full, tracks}
@@ -55,8 +55,8 @@ run-is-logged s n =
       length-replicate {A = ℕ} (3 * n) 0,
     )))
   where
-    t : AsTheRun s (replicate (3 * n) 0) n (loggedCallOf s (replicate (3 * n) 0) n)
-    t = logged-run-is-the-run s (replicate (3 * n) 0) n
+    t : AsTheRun third s (replicate (3 * n) 0) n (loggedCallOf s (replicate (3 * n) 0) n)
+    t = logged-run-is-the-run third s (replicate (3 * n) 0) n
 
 -- ---- sets of words
 
@@ -113,21 +113,21 @@ module _ (secret : ℕ → Bool) (Invariant : Machine → List ℕ → Type 0) w
 
     logged-run-stands : (s : Start) → Invariant (s .machine) (s .memory) → (log : List ℕ) (n : ℕ)
         → Kept (s .memory) (runIn (loggedRunOf s log n))
-    logged-run-stands s i log n = go (tracks s log n)
+    logged-run-stands s i log n = go (tracks third s log n)
       where
-        go : Tracks s n (loggedRunOf s log n) → Kept (s .memory) (runIn (loggedRunOf s log n))
+        go : Tracks third s n (loggedRunOf s log n) → Kept (s .memory) (runIn (loggedRunOf s log n))
         go (goes-with w f e) = subst (Kept (s .memory)) (sym e) (run-stands s i n)
         go (was-full f e l h r) = subst (Kept (s .memory)) (sym e) (run-stands s i (loggedRunOf s log n .steps))
 
     -- Where a call is turned down, it keeps everything.
     pub logged-call-keeps : (s : Start) → Invariant (s .machine) (s .memory) → (log : List ℕ) (n : ℕ)
         → Kept (s .memory) (runIn (loggedCallOf s log n))
-    unfolding loggedCallOf
+    unfolding loggedCallBy
     logged-call-keeps s i log n = go (admissionOf s n)
       where
-        go : (a : Admission) → Kept (s .memory) (runIn (loggedAdmitted a s log n))
-        go Accepted = unfold loggedAdmitted in logged-run-stands s i log n
-        go (Rejected r) = unfold loggedAdmitted begin in record { invariant = i; kept = λ a h. refl }
+        go : (a : Admission) → Kept (s .memory) (runIn (loggedAdmittedBy third a s log n))
+        go Accepted = unfold loggedAdmittedBy in logged-run-stands s i log n
+        go (Rejected r) = unfold loggedAdmittedBy begin in record { invariant = i; kept = λ a h. refl }
 
     pub call-keeps : (s : Start) → Invariant (s .machine) (s .memory) → (n : ℕ) → Kept (s .memory) (callOf s n)
     call-keeps s i n =
@@ -164,7 +164,7 @@ module _ (secret : ℕ → Bool) (Invariant : Machine → List ℕ → Type 0) w
         fetched-alike :
             fetchedWord (nextRule s₁ e₁) (e₁ .machine) (e₁ .memory)
             ≡ fetchedWord (nextRule s₁ e₁) (e₁ .machine) (e₂ .memory)
-        unfolding fetchedWordBy nextRule
+        unfolding fetchedWordBy nextRuleBy
         fetched-alike =
             go (isInterrupt (ruleOf (nextStep s₁ e₁ .cause))) refl (denied (e₁ .machine .psr) (e₁ .machine .pc)) refl
           where
@@ -179,7 +179,7 @@ module _ (secret : ℕ → Bool) (Invariant : Machine → List ℕ → Type 0) w
                 (first-of secret (e₁ .machine .pc) (nextStep s₁ e₁ .reads) (pc-is-read x d) (first-is-keeps .reads))
 
         entries-alike : entryOf s₁ e₁ ≡ entryOf s₂ e₂
-        unfolding entryOf nextRule
+        unfolding entryBy nextRuleBy
         entries-alike =
             let rule : ruleOf (nextStep s₁ e₁ .cause) ≡ ruleOf (nextStep s₂ e₂ .cause) =
             ap ruleOf (next-alike .cause) in
@@ -197,7 +197,7 @@ module _ (secret : ℕ → Bool) (Invariant : Machine → List ℕ → Type 0) w
 
         logged-step-alike : Invariant (l₁ .machine) (l₁ .memory)
             → SameAnswers secret (stepLogged s₁ l₁) (stepLogged s₂ l₂)
-        unfolding stepLogged stepMadeBy
+        unfolding stepLoggedBy stepMadeBy
         logged-step-alike i =
             let log : l₁ .log ≡ l₂ .log = a .log in
             let words : l₁ .words ≡ l₂ .words = a .words in
@@ -208,7 +208,7 @@ module _ (secret : ℕ → Bool) (Invariant : Machine → List ℕ → Type 0) w
         -- Where the run is done, and has not stopped.
         goes-on-alike : Invariant (l₁ .machine) (l₁ .memory)
             → SameAnswers secret (oneMoreLogged (Run Done) s₁ l₁) (oneMoreLogged (Run Done) s₂ l₂)
-        unfolding oneMoreLogged
+        unfolding oneMoreLoggedBy
         goes-on-alike i =
             same-test-same-branch (SameAnswers secret) (isHalted (runIn l₁)) (isHalted (runIn l₂))
             (halts-alike (a .run)) (λ h. stopped-alike (Run Halted))
@@ -224,10 +224,10 @@ module _ (secret : ℕ → Bool) (Invariant : Machine → List ℕ → Type 0) w
         by-stops : (w : LoggedEnding) → Invariant (l₁ .machine) (l₁ .memory)
             → SameAnswers secret (oneMoreLogged w s₁ l₁) (oneMoreLogged w s₂ l₂)
         by-stops (Run Done) i = goes-on-alike i
-        by-stops (Run Halted) i = unfold oneMoreLogged in a
-        by-stops (Run OutputFull) i = unfold oneMoreLogged in a
-        by-stops (Run (Refused r)) i = unfold oneMoreLogged in a
-        by-stops LogFull i = unfold oneMoreLogged in a
+        by-stops (Run Halted) i = unfold oneMoreLoggedBy in a
+        by-stops (Run OutputFull) i = unfold oneMoreLoggedBy in a
+        by-stops (Run (Refused r)) i = unfold oneMoreLoggedBy in a
+        by-stops LogFull i = unfold oneMoreLoggedBy in a
 
         one-more-alike : Invariant (l₁ .machine) (l₁ .memory)
             → SameAnswers secret (oneMoreLogged (l₁ .ending) s₁ l₁) (oneMoreLogged (l₂ .ending) s₂ l₂)
@@ -239,7 +239,7 @@ module _ (secret : ℕ → Bool) (Invariant : Machine → List ℕ → Type 0) w
 
       logged-runs-alike : Invariant (s₁ .machine) (s₁ .memory) → (log : List ℕ) (n : ℕ)
           → SameAnswers secret (loggedRunOf s₁ log n) (loggedRunOf s₂ log n)
-      unfolding loggedRunOf
+      unfolding loggedRunBy
       logged-runs-alike i log zero = unfold beginLogged begin in
           record { run = begin-alike v; log = refl; words = refl; ending = refl }
       logged-runs-alike i log (suc n) =
@@ -260,12 +260,13 @@ module _ (secret : ℕ → Bool) (Invariant : Machine → List ℕ → Type 0) w
 
       pub logged-calls-alike : Invariant (s₁ .machine) (s₁ .memory) → (log : List ℕ) (n : ℕ)
           → SameAnswers secret (loggedCallOf s₁ log n) (loggedCallOf s₂ log n)
-      unfolding loggedCallOf
+      unfolding loggedCallBy
       logged-calls-alike i log n = rw (← same-admission n) (go (admissionOf s₁ n))
         where
-          go : (a : Admission) → SameAnswers secret (loggedAdmitted a s₁ log n) (loggedAdmitted a s₂ log n)
-          go Accepted = unfold loggedAdmitted in logged-runs-alike i log n
-          go (Rejected r) = unfold loggedAdmitted begin endedBy in
+          go : (a : Admission)
+              → SameAnswers secret (loggedAdmittedBy third a s₁ log n) (loggedAdmittedBy third a s₂ log n)
+          go Accepted = unfold loggedAdmittedBy in logged-runs-alike i log n
+          go (Rejected r) = unfold loggedAdmittedBy begin endedBy in
               record { run = ended-alike (begin-alike v) (Refused r); log = refl; words = refl; ending = refl }
 
       pub calls-alike : Invariant (s₁ .machine) (s₁ .memory) → (n : ℕ) → SameEnds secret (callOf s₁ n) (callOf s₂ n)

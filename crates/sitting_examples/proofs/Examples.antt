@@ -12,9 +12,9 @@ use Rattle.run.specs.Fresh.{freshOf}
 use Rattle.run.proofs.Opened.{opened}
 use Rattle.machine.specs.Rules.{fetchedWordBy}
 use Rattle.logging.specs.declared.LoggedEnding.the-variants.{Run}
-use Rattle.logging.specs.Log.{nextRule, entryOf, lacksRoom}
-use Rattle.logging.specs.LoggedRun.{beginLogged, stoppedBy, stepLogged, oneMoreLogged, loggedRunOf}
-use Rattle.logging.specs.LoggedCall.{loggedAdmitted, loggedCallOf}
+use Rattle.logging.specs.Log.{nextRuleBy, entryBy, lacksRoom}
+use Rattle.logging.specs.LoggedRun.{beginLogged, stoppedBy, stepLoggedBy, oneMoreLoggedBy, loggedRunBy}
+use Rattle.logging.specs.LoggedCall.{loggedAdmittedBy, loggedCallBy}
 use Rattle.monitor.specs.Vectors.{vectorWord, vectorsFrom, vectorTable}
 use Rattle.monitor.specs.Routines.{routineWords, monitorWords}
 use Rattle.monitor.specs.Install.{installOf}
@@ -52,8 +52,8 @@ prying-alike v w =
 
 -- To unfold this is to compute with the monitor in memory.
 unfoldable pub computing : Unit {0}
-unfolding opened fetchedWordBy nextRule entryOf lacksRoom beginLogged stoppedBy stepLogged oneMoreLogged
-    loggedRunOf loggedAdmitted loggedCallOf fresh used stackElsewhere supervisor monitored prying
+unfolding opened fetchedWordBy nextRuleBy entryBy lacksRoom beginLogged stoppedBy stepLoggedBy oneMoreLoggedBy
+    loggedRunBy loggedAdmittedBy loggedCallBy fresh used stackElsewhere supervisor monitored prying
     showing unguarded interruptible packing vectorWord vectorsFrom
     vectorTable routineWords monitorWords installOf startAt answerTo answerAfter
 computing = tt

@@ -294,6 +294,22 @@ pub type StepCall = unsafe extern "C" fn(
     output_len: usize,
 ) -> Report;
 
+/// The type of [`lc3_run_logged`] and of [`lc3_run_logged_second`].
+pub type LoggedCall = unsafe extern "C" fn(
+    record: Record,
+    memory: *mut u16,
+    memory_len: usize,
+    times: *const u64,
+    times_len: usize,
+    bytes: *const u8,
+    bytes_len: usize,
+    output: *mut u8,
+    output_len: usize,
+    log: *mut u16,
+    log_len: usize,
+    n: u64,
+) -> LoggedAnswer;
+
 /// The type of [`lc3_tell`] and of [`lc3_tell_second`].
 pub type TellCall = unsafe extern "C" fn(
     record: Record,
@@ -451,6 +467,26 @@ unsafe extern "C" {
         output: *mut u8,
         output_len: usize,
     ) -> Report;
+
+    /// Runs up to `n` steps by the rules of the second edition, and logs each.
+    ///
+    /// # Safety
+    ///
+    /// As for [`lc3_run_logged`].
+    pub fn lc3_run_logged_second(
+        record: Record,
+        memory: *mut u16,
+        memory_len: usize,
+        times: *const u64,
+        times_len: usize,
+        bytes: *const u8,
+        bytes_len: usize,
+        output: *mut u8,
+        output_len: usize,
+        log: *mut u16,
+        log_len: usize,
+        n: u64,
+    ) -> LoggedAnswer;
 
     /// Tells what the next step of [`lc3_run`] does, and makes none.
     ///

@@ -14,7 +14,9 @@ pub mod sittings;
 
 use crate::reference::machine;
 use cases::{Case, FAMILIES};
-use fanthrig::ffi::{self, Answer, LoggedAnswer, Report, RunCall, StepCall, TellCall, Told};
+use fanthrig::ffi::{
+    self, Answer, LoggedAnswer, LoggedCall, Report, RunCall, StepCall, TellCall, Told,
+};
 use fanthrig::Record;
 use std::env;
 use std::time::{SystemTime, UNIX_EPOCH};
@@ -270,9 +272,31 @@ impl Buffers {
         self.run_logged_after(record, 0, 0, log.get_mut(), n)
     }
 
-    /// The same with the keys and the parts of output and log that earlier calls left.
+    /// Calls `lc3_run_logged_second` likewise.
+    pub fn run_logged_second(
+        &mut self,
+        record: Record,
+        log: &mut Lent<u16>,
+        n: u64,
+    ) -> LoggedAnswer {
+        self.run_logged_by(ffi::lc3_run_logged_second, record, 0, 0, log.get_mut(), n)
+    }
+
+    /// Calls `lc3_run_logged` with the keys and the parts of output and log that earlier calls left.
     pub fn run_logged_after(
         &mut self,
+        record: Record,
+        keys: usize,
+        shown: usize,
+        log: &mut [u16],
+        n: u64,
+    ) -> LoggedAnswer {
+        self.run_logged_by(ffi::lc3_run_logged, record, keys, shown, log, n)
+    }
+
+    fn run_logged_by(
+        &mut self,
+        call: LoggedCall,
         record: Record,
         keys: usize,
         shown: usize,
@@ -283,7 +307,7 @@ impl Buffers {
         let (memory, output) = (self.memory.get_mut(), &mut self.output.get_mut()[shown..]);
         // SAFETY: as in `run`; the log is a slice of its own.
         unsafe {
-            ffi::lc3_run_logged(
+            call(
                 record,
                 memory.as_mut_ptr(),
                 memory.len(),

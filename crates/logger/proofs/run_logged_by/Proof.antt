@@ -1,13 +1,13 @@
--- `logger::run_logged` meets its contract: the tests answer as the definition does, and the rest is a callee's; an
+-- `logger::run_logged_by` meets its contract: the tests answer as the definition does, and the rest is a callee's; an
 -- accepted call has what the run requires.
 use mathlib.Core.Path.{refl, sym, _∙_}
 use Rattle.run.specs.Run.{begin}
 use Rattle.run.specs.Call.{startOf}
 use Rattle.run.proofs.Acceptance.{accepted-is-acceptable}
-use Rattle.logging.specs.LoggedCall.{loggedAdmitted, loggedCallOf}
+use Rattle.logging.specs.LoggedCall.{loggedAdmittedBy, loggedCallBy}
 use borrow.Author.Needs.{needs}
-use Rattle.logger.proofs.run_logged.Statement.{statement}
-use Rattle.logger.proofs.run_logged.Tie as tie
+use Rattle.logger.proofs.run_logged_by.Statement.{statement}
+use Rattle.logger.proofs.run_logged_by.Tie as tie
 
 run-accepted-requires : tie.Need-run-accepted-requires
 run-accepted-requires c κs =
@@ -22,7 +22,7 @@ run-accepted-requires c κs =
     (k .size, (k .equal, k .clock))
 
 returns : tie.Need-returns
-unfolding loggedCallOf loggedAdmitted
+unfolding loggedCallBy loggedAdmittedBy
 returns c =
     let after-run-accepted : tie.After-run-accepted = search in
     let after-enum-told : tie.After-enum-told = search in
@@ -35,7 +35,7 @@ returns c =
     rw (← admission .ensures (a .output .now), enum-told .given .1) (run-accepted .ensures)
 
 returns-2 : tie.Need-returns-2
-unfolding loggedCallOf loggedAdmitted begin
+unfolding loggedCallBy loggedAdmittedBy begin
 returns-2 c =
     let after-admission : tie.After-admission = search in
     let start : tie.Start = search in
@@ -44,8 +44,8 @@ returns-2 c =
     let a = start .args in
     rw (← admission .ensures (a .output .now), admission2 .given .1, c .refused .ensures) refl
 
-pub run-logged-spec : {M : Type 1} → statement M
-run-logged-spec =
+pub run-logged-by-spec : {M : Type 1} → statement M
+run-logged-by-spec =
     tie.close
     (tie.spec (λ c κs. search needs) (λ c. search needs) run-accepted-requires (λ c. search needs)
     (λ c κs. search needs) (λ c. search needs) (λ c. search needs) (λ c. search needs) returns (λ c. search needs)
