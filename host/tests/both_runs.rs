@@ -13,7 +13,7 @@ use reference::bus::{DDR, DSR, KBDR, KBSR, REGISTERS};
 use reference::machine::{self, Event, CAUSES};
 use std::time::Instant;
 use support::cases::{self, Case};
-use support::{assert_same_buffers, for_cases_by, pages, sittings, Buffers, Rng};
+use support::{assert_same_buffers, for_cases_by, pages, rings, sittings, Buffers, Rng};
 
 /// The steps from which on a call of the long run has windows, and how many it has.
 const WINDOW_STEPS: u64 = 256;
@@ -171,9 +171,13 @@ impl Bench {
 /// Sittings from which on everything that is counted is to be met.
 const ENOUGH: u64 = 10_000;
 
-/// A sitting of one kind or the other; a first call in forty goes to the border of a refusal.
+/// A sitting of one of three kinds; a first call in forty goes to the border of a refusal.
 fn make(rng: &mut Rng) -> Case {
-    let mut case = if rng.once_in(3) { sittings::sitting(rng) } else { pages::sitting(rng) };
+    let mut case = match rng.below(30) {
+        0 | 1 => rings::sitting(rng),
+        2..=10 => sittings::sitting(rng),
+        _ => pages::sitting(rng),
+    };
     if rng.once_in(40) {
         cases::spoil(rng, &mut case);
     }

@@ -10,6 +10,7 @@ pub mod lines;
 pub mod pages;
 pub mod pairs;
 pub mod program;
+pub mod rings;
 pub mod sittings;
 
 use crate::reference::machine;
