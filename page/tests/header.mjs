@@ -9,7 +9,7 @@ const calls = [...header.matchAll(/^[a-z]\w+ \*?lc3_(\w+)\(/gm)].map(([, name]) 
 const camel = (name) => name.replace(/_(\w)/g, (_, letter) => letter.toUpperCase());
 const module = await compiled(), exported = WebAssembly.Module.exports(module).map(({ name }) => name);
 
-assert.equal(calls.length, 21);
+assert.equal(calls.length, 22);
 assert.deepEqual(exported.filter((name) => name.startsWith("lc3_")).sort(), calls.map((name) => `lc3_${name}`).sort());
 assert.deepEqual(WebAssembly.Module.imports(module), []);
 for (const name of calls) assert.equal(typeof fanthrig.Library.prototype[camel(name)], "function", name);

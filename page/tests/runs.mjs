@@ -115,10 +115,15 @@ class Run {
         this.compare();
     }
 
+    logged(room) {
+        const call = this.second ? "runLoggedSecond" : "runLogged";
+        return library[call](record.at, this.lend(), log.at, room, this.n);
+    }
+
     byLoggedRun() {
         const room = this.log.length + SPARE;
         log.set(new Uint8Array(2 * room));
-        const answer = library.runLogged(record.at, this.lend(), log.at, room, this.n);
+        const answer = this.logged(room);
         assert.deepEqual([...COUNTS, "logged"].map((name) => answer[name]), [...this.answer, this.log.length]);
         assert(same(log.get().subarray(0, 2 * this.log.length), bytesOf(this.log)), "log");
         assert(log.get().subarray(2 * this.log.length).every((byte) => byte === 0), "rest of the log");
@@ -131,13 +136,13 @@ class Run {
         const room = 3 * (this.steps >> 1) + (this.steps % 3);
         if (this.refusal || this.steps < 2) return;
         log.set(new Uint8Array(2 * room));
-        const answer = library.runLogged(record.at, this.lend(), log.at, room, this.n), kept = record.get().slice();
+        const answer = this.logged(room), kept = record.get().slice();
         const made = Math.floor(room / 3), words = memory.get().slice(), shown = output.get().slice();
         const stop = made < this.steps ? 3 : this.answer[5];
         assert.deepEqual([answer.steps, answer.logged, answer.stop], [made, 3 * made, stop]);
         assert(same(log.get().subarray(0, 6 * made), bytesOf(this.log.subarray(0, 3 * made))), "short log");
         log.check();
-        library.run(record.at, this.lend(), BigInt(made));
+        library[this.second ? "runSecond" : "run"](record.at, this.lend(), BigInt(made));
         assert(same(fields(record.get()), fields(kept)), "record of a short run");
         assert(same(memory.get(), words) && same(output.get(), shown), "memory or output of a short run");
         met.calls++;
@@ -181,7 +186,7 @@ class Run {
         const step = this.second ? "stepSecond" : "step";
         if (this.refusal) this.byRefusedStep(step);
         else if (this.log) this.bySteps(step);
-        if (this.log && !this.second) {
+        if (this.log) {
             this.byLoggedRun();
             this.byShortLog();
         }
