@@ -1,2 +1,3 @@
 -- Buffers that a caller lends.
 pub mod Lent
+pub mod Examples

@@ -1,0 +1,2 @@
+-- The examples of lent buffers.
+pub mod Examples
