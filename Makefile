@@ -139,7 +139,8 @@ build/proved: crates.txt $(shell find crates -name '*.rt' -o -name '*.antt')
 	@$(PROGRESS) build/proved.log tools/prove.py staticlib $(EXPORTS)
 	@touch $@
 
-$(ARCHIVES): build/proved ;
+BITCODE = $(EXPORTS:%=build/wasm/%.bc)
+$(ARCHIVES) $(BITCODE): build/proved ;
 
 # The archives' objects under names of their own.
 build/libfanthrig.a: build/proved
@@ -156,17 +157,12 @@ build/$(SONAME): build/libfanthrig.a
 build/libfanthrig.so: build/$(SONAME)
 	ln -sf $(SONAME) $@
 
-# For browsers and hosts in JavaScript: the LLVM modules of the archives, compiled by the kit for WebAssembly.
+# For browsers and hosts in JavaScript: the LLVM modules that the archives are compiled from, compiled by the kit for
+# WebAssembly.
 page: build/page/lc3.html build/fanthrig.mjs
 
-BITCODE = $(EXPORTS:%=build/wasm/%.bc)
-$(BITCODE): build/wasm/%.bc: target/staticlib/lib%.a tools/bitcode
+build/fanthrig.wasm: build/proved tools/wasm include/$(HEADER)
 	@$(KIT)
-	@env $(SCRATCH) tools/long_slices.py tools/bitcode $*
-
-# Two at a time, as the archives are.
-build/fanthrig.wasm: $(ARCHIVES) tools/bitcode tools/wasm include/$(HEADER)
-	@$(MAKE) --no-print-directory -j2 $(BITCODE)
 	tools/wasm $@ $(BITCODE)
 
 build/fanthrig.mjs: tools/page.py $(wildcard page/lib/*)

@@ -1,5 +1,6 @@
 #!/usr/bin/env python3
-"""prove.py staticlib NAME..: proves what these crates rest on and writes their archives.
+"""prove.py staticlib NAME..: proves what these crates rest on, writes their archives, and keeps the
+LLVM modules that these are compiled from in build/wasm.
 
 It does what `rt staticlib` does for each of them, in less time: rt proves crates level by level,
 and waits for a whole level. Here a crate begins as soon as all that it rests on is proved, those
@@ -12,6 +13,7 @@ seen when its own turn came. What each rt says is printed when it ends.
 import concurrent.futures
 import os
 import pathlib
+import platform
 import re
 import shutil
 import subprocess
@@ -21,6 +23,13 @@ from typing import Dict, List, NamedTuple, Set
 
 ROOT = pathlib.Path.cwd()
 ROOMS = ROOT / "build" / "apart"
+MODULES = ROOT / "build" / "wasm"
+# The compiler of the kit, but that it keeps the LLVM module that it is handed. rt hands it no
+# environment, so that the paths are written into it.
+CLANG = """#!/bin/sh
+for word in "$@"; do case $word in *.bc) cp "$word" "{module}" ;; esac; done
+exec "{clang}" "$@"
+"""
 # What each rt says at its end of the one crate that it was to prove.
 LAST = re.compile(r"^rt: ok, 1 crates proved\n", re.MULTILINE)
 
@@ -93,6 +102,22 @@ def costs(jobs: Dict[Job, Set[Job]]) -> Dict[Job, int]:
     return cost
 
 
+def kit_that_keeps(room: pathlib.Path) -> pathlib.Path:
+    """A kit that is the installed one but for that compiler. The module will be room/module.bc."""
+    guide = subprocess.run(["rt", "doc"], stdout=subprocess.PIPE, text=True, check=True).stdout
+    kit = room / "kit"
+    place, copy = pathlib.Path(guide.strip()).resolve().parent.parent, kit
+    for name in ("on", platform.machine(), "toolchain", "bin", "clang"):
+        copy.mkdir()
+        for path in place.iterdir():
+            if path.name != name:
+                (copy / path.name).symlink_to(path)
+        place, copy = place / name, copy / name
+    copy.write_text(CLANG.format(module=room / "module.bc", clang=place))
+    copy.chmod(0o755)
+    return kit
+
+
 def run(job: Job) -> Ended:
     """Has rt do a job, in a folder of its own."""
     room = ROOMS / job.command / job.crate
@@ -101,10 +126,13 @@ def run(job: Job) -> Ended:
     for path in ("crates", "target/rlib", "target/stamp"):
         (room / path).symlink_to(ROOT / path)
     (room / "crates.txt").write_text(line_of(job.crate))
+    environment = {**os.environ, "RT_JOBS": "1"}
+    if job.command == "staticlib":
+        environment["RATTLE_HOME"] = str(kit_that_keeps(room))
     ran = subprocess.run(
         ["rt", job.command, job.crate],
         cwd=room,
-        env={**os.environ, "RT_JOBS": "1"},
+        env=environment,
         stdout=subprocess.PIPE,
         stderr=subprocess.STDOUT,
         text=True,
@@ -112,6 +140,7 @@ def run(job: Job) -> Ended:
     archive = f"target/staticlib/lib{job.crate}.a"
     if job.command == "staticlib" and ran.returncode == 0:
         os.replace(room / archive, ROOT / archive)
+        os.replace(room / "module.bc", MODULES / f"{job.crate}.bc")
     # Of a failed job the folder stays: it has the prover's messages whole.
     if ran.returncode == 0:
         shutil.rmtree(room)
@@ -146,6 +175,7 @@ def main() -> int:
     began = time.monotonic()
     for folder in ("rlib", "stamp", "staticlib"):
         (ROOT / "target" / folder).mkdir(parents=True, exist_ok=True)
+    MODULES.mkdir(parents=True, exist_ok=True)
     jobs = jobs_for(graph(), sys.argv[2:])
     status = prove(jobs, (os.cpu_count() or 1) + 1)
     if not status:

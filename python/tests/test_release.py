@@ -121,7 +121,7 @@ class WithoutTheKit(unittest.TestCase):
         away = ("MAKEFLAGS", "MFLAGS", "MAKELEVEL")
         environment = {key: value for key, value in os.environ.items() if key not in away}
         proofs = ("-W", "crates.txt", "build/proved")
-        page = ("-o", "build/proved", "-W", "tools/bitcode", "build/wasm/lc3_version.bc")
+        page = ("-o", "build/proved", "-W", "tools/wasm", "build/fanthrig.wasm")
         for words in (proofs, page):
             said = subprocess.run(
                 ["make", "-s", *words],
