@@ -19,9 +19,9 @@ EXPORTS = lc3_machine lc3_step lc3_step_second lc3_logging lc3_telling lc3_long 
     lc3_objects lc3_monitor lc3_certify lc3_version
 ARCHIVES = $(EXPORTS:%=target/staticlib/lib%.a)
 # How many crates rt proves at a time, or wrong programs it tries. It waits for all of them before it begins the next
-# ones, so that ten keep two cores busier than two would; each takes up to 1.9 GB. tools/long_slices.py says why so many
-# cost no more than two.
-export RT_JOBS ?= $(shell awk '/^MemTotal:/ { print ($$2 < 12000000) ? 4 : ($$2 < 22000000) ? 6 : 10 }' /proc/meminfo)
+# ones, so that twelve keep two cores busier than two would; each takes up to 1.9 GB, most of them below 1. That so many
+# cost no more than two: tools/long_slices.py.
+export RT_JOBS ?= $(shell awk '/^MemTotal:/ { print ($$2 < 12000000) ? 4 : ($$2 < 22000000) ? 6 : 12 }' /proc/meminfo)
 # The prover's allocator, mimalloc, is to keep the memory that it has freed, and not to give it back in the meantime,
 # and to ask for large pages, where the system has them: a check takes less time by that, and little more memory.
 export MIMALLOC_PURGE_DELAY ?= -1
