@@ -1,2 +1,2 @@
--- The laws of the loop over the steps of a logged run.
-pub mod LoopLaws
+-- The laws of a logged run after the steps for which its log has room.
+pub mod StopLaws

@@ -13,7 +13,6 @@ ghost use Rattle.run.specs.Call.{startOf};
 ghost use Rattle.logging.specs.declared.LoggedEnding.the-variants.{Run};
 ghost use Rattle.logging.specs.LoggedCall.{loggedEndOf, loggedCallBy, loggedCallOf};
 
-pub mod entries;
 pub mod stepping;
 
 // A call that is turned down leaves everything, the log included, as it was handed in.

@@ -24,7 +24,7 @@ use Rattle.logging.specs.BesideTheRun.{AsTheRun, LoggedRunIsTheRun}
 use Rattle.logging.proofs.LoggedLaws.{Tracks, goes-with, was-full, run-is-not-log-full, tracks, Written}
 use Rattle.logging.proofs.LoggedLaws.{written}
 
-no-room : (log : List ℕ) (words : ℕ) → lacksRoom log words ≡ true → length log < words + 3
+pub no-room : (log : List ℕ) (words : ℕ) → lacksRoom log words ≡ true → length log < words + 3
 unfolding lacksRoom
 no-room log words h = ltb-true (length log) (words + 3) h
 

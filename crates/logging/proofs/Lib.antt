@@ -3,3 +3,4 @@ pub mod LoggedLaws
 pub mod BesideTheRun
 pub mod LogSplits
 pub mod TwoLogs
+pub mod WithRoom

@@ -207,7 +207,7 @@ written edition s log (suc n) = go (loggedRunBy edition s log n) (tracks edition
 
 -- ---- the entries of fewer steps
 
-entries-length : (edition : Edition) (s : Start) (k : ℕ) → length (entriesBy edition s k) ≡ 3 * k
+pub entries-length : (edition : Edition) (s : Start) (k : ℕ) → length (entriesBy edition s k) ≡ 3 * k
 unfolding entriesBy
 entries-length edition s zero = refl
 entries-length edition s (suc k) =
@@ -274,16 +274,3 @@ module _ (edition : Edition) (s : Start) (log : List ℕ) (k : ℕ) (l : Logged)
     stands-log-full n h x y =
         sym (logged-stays edition s log n (suc k) (stoppedBy LogFull l) h (next-logged ∙ rw (x, y) refl)
         (unfold stoppedBy in refl))
-
-    pub stands-full : (n : ℕ) → k < n → isHalted (runIn l) ≡ false → lacksRoom (l .log) (l .words) ≡ false
-        → isFullBy (stepBy edition) s (runIn l) ≡ true → stoppedBy (Run OutputFull) l ≡ loggedRunBy edition s log n
-    unfolding oneMoreLoggedBy
-    stands-full n h x y z =
-        sym (logged-stays edition s log n (suc k) (stoppedBy (Run OutputFull) l) h (next-logged ∙ rw (x, y, z) refl)
-        (unfold stoppedBy in refl))
-
-    pub stands-on : isHalted (runIn l) ≡ false → lacksRoom (l .log) (l .words) ≡ false
-        → isFullBy (stepBy edition) s (runIn l) ≡ false
-        → stepLoggedBy edition s l ≡ loggedRunBy edition s log (suc k)
-    unfolding oneMoreLoggedBy
-    stands-on x y z = sym (next-logged ∙ rw (x, y, z) refl)

@@ -1,7 +1,7 @@
--- `logger::entries::rule_number` meets its contract: each rule has its number.
+-- `runner::entries::rule_number` meets its contract: each rule has its number.
 use borrow.Author.Needs.{needs}
-use Rattle.logger.proofs.entries.rule_number.Statement.{statement}
-use Rattle.logger.proofs.entries.rule_number.Tie as tie
+use Rattle.runner.proofs.entries.rule_number.Statement.{statement}
+use Rattle.runner.proofs.entries.rule_number.Tie as tie
 
 instruction : tie.Need-returns
 instruction c = rw (c .enum-told .given .1)
