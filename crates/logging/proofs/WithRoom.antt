@@ -1,5 +1,5 @@
--- The log as a loop writes it, one entry after the other; and with room for its steps the logged run is the run, with the
--- entries of the steps made.
+-- The log as a loop writes it, one entry after the other; and with room for its steps the logged run is the run, with
+-- the entries of the steps made.
 use Prim.Native.Nat.{ℕ, zero, suc, _+_, _*_, _≤_}
 use native.Mathlib.Nat.{add-zero}
 use native.Mathlib.Numerals.{add-one}
