@@ -109,10 +109,10 @@ host: host-python host-c host-counts host-rust
 
 host-c: lib
 	host/c/run.sh
-	host/bench/symbols.sh lc3_run '*::go' '*::run_accepted' '*::quiet_steps'
+	host/bench/symbols.sh lc3_run '*::run_steps' '*::run_accepted' '*::fast_steps'
 	host/bench/symbols.sh lc3_run_logged '*::run_accepted'
-	host/bench/symbols.sh lc3_run_long '*::go' '*::visit' '*::read_word'
-	host/bench/symbols.sh lc3_run_second '*::go' '*::run_accepted'
+	host/bench/symbols.sh lc3_run_long '*::run_long_steps' '*::run_cached' '*::read_word'
+	host/bench/symbols.sh lc3_run_second '*::run_steps' '*::run_accepted'
 	host/bench/symbols.sh lc3_step
 	host/bench/symbols.sh lc3_step_second
 

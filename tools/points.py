@@ -4,8 +4,8 @@
 A place is named in a proof by a chain: `c .before .before .register` is what the second step before
 the place has bound as `register`. An edit of the function shifts the chains after it. For each need
 this prints its name, the place, and what each link of its chain binds, the nearest first, so that a
-chain can be written or mended by counting. FUNCTION is a path in the crate, as stepping/go; without
-one, every function is printed.
+chain can be written or mended by counting. FUNCTION is a path in the crate, as stepping/run_steps;
+without one, every function is printed.
 
 `rt goals CRATE` writes what is read here.
 """

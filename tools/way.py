@@ -1,7 +1,7 @@
 #!/usr/bin/env python3
 """way.py [CALLS FILES]: the way of an ADD, from `lc3_run` down to the last function that it enters.
 
-For the quiet step and for the ordinary one this prints the functions from `lc3_run` to those that
+For the fast step and for the ordinary one this prints the functions from `lc3_run` to those that
 deal with ADD, the deepest chain of calls below them, and the files in which all of that stands.
 With two numbers it prints the counts alone, and fails where a way has more calls or files than
 they say.
@@ -33,7 +33,7 @@ class Arm(NamedTuple):
 
 
 WAYS: Dict[str, Sequence[Arm]] = {
-    "quiet step": [Arm("quiet_step::try_step", "1 =>", "2 =>")],
+    "fast step": [Arm("fast_step::try_step", "1 =>", "2 =>")],
     "ordinary step": [
         Arm("word::reading::read", "1 =>", "2 =>"),
         Arm("step::planning::plan_for", "Instruction::AddRegister", "Instruction::Ld"),

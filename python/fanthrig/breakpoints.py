@@ -5,7 +5,7 @@ from __future__ import annotations
 from typing import Iterable, Iterator, MutableSet, NoReturn
 
 from .exclusive import Exclusive
-from .records import WORD_LIMIT, whole
+from .records import WORD_LIMIT, checked_int
 
 
 class Breakpoints(MutableSet[int]):
@@ -25,7 +25,8 @@ class Breakpoints(MutableSet[int]):
     def __init__(self, use: Exclusive, addresses: Iterable[int] = ()) -> None:
         """The addresses, and the use of the sitting that they belong to."""
         self._use = use
-        self._addresses = {whole(address, WORD_LIMIT, "a breakpoint") for address in addresses}
+        checked = (checked_int(address, WORD_LIMIT, "a breakpoint") for address in addresses)
+        self._addresses = set(checked)
 
     def __reduce__(self) -> NoReturn:
         """Whoever copies breakpoints alone is told what to do."""
@@ -54,7 +55,7 @@ class Breakpoints(MutableSet[int]):
 
     def add(self, address: int) -> None:
         """Sets a breakpoint."""
-        number = whole(address, WORD_LIMIT, "a breakpoint")
+        number = checked_int(address, WORD_LIMIT, "a breakpoint")
         with self._use:
             self._addresses.add(number)
 

@@ -25,7 +25,8 @@ from .buffers import BYTE, NUMBER, TIME, WORD, Lending
 from .constants import MAX_LINE, MEMORY_WORDS, VECTOR_WORDS
 from .exclusive import Exclusive
 from .records import LONG_LIMIT, WORD_LIMIT, Certified, Finding, Instruction, LoggedRun, Reading
-from .records import Reason, Record, Refused, Report, Routines, Run, Started, Stop, Told, whole
+from .records import Reason, Record, Refused, Report, Routines, Run, Started, Stop, Told
+from .records import checked_int
 
 if TYPE_CHECKING:
     from _typeshed import ReadableBuffer, WriteableBuffer
@@ -61,7 +62,7 @@ def start(
     >>> hex(started.record.pc), started.words, hex(memory[0x3000])
     ('0x3000', 1, '0xf025')
     """
-    stack = whole(user_stack, WORD_LIMIT, "user_stack")
+    stack = checked_int(user_stack, WORD_LIMIT, "user_stack")
     with Lending() as lending:
         parts = lending.read(file, BYTE, "file") + lending.write(memory, WORD, "memory")
         answer = LIBRARY.lc3_start(*parts, bool(user), stack)
@@ -84,7 +85,7 @@ def start_user(file: ReadableBuffer, memory: WriteableBuffer, user_stack: int) -
     fanthrig.records.Refused: refused (21): the file does not lie in x3000 to xFDFF, where a \
 candidate's belongs: give it another origin, or take fewer words
     """
-    stack = whole(user_stack, WORD_LIMIT, "user_stack")
+    stack = checked_int(user_stack, WORD_LIMIT, "user_stack")
     with Lending() as lending:
         parts = lending.read(file, BYTE, "file") + lending.write(memory, WORD, "memory")
         answer = LIBRARY.lc3_start_user(*parts, stack)
@@ -112,7 +113,7 @@ def _run_by(
     n: int,
 ) -> Run:
     """Runs by the call of one of the editions."""
-    struct, steps = record.to_c(), whole(n, LONG_LIMIT, "n")
+    struct, steps = record.to_c(), checked_int(n, LONG_LIMIT, "n")
     with Lending() as lending:
         answer = call(struct, *_lend_run(lending, memory, times, keys, output), steps)
     _accepted(answer.refusal, answer.index)
@@ -248,7 +249,7 @@ def _logged_by(
     n: int,
 ) -> LoggedRun:
     """Runs and logs by the call of one of the editions."""
-    struct, steps = record.to_c(), whole(n, LONG_LIMIT, "n")
+    struct, steps = record.to_c(), checked_int(n, LONG_LIMIT, "n")
     with Lending() as lending:
         buffers = _lend_run(lending, memory, times, keys, output)
         room = lending.write(log, WORD, "log")
@@ -360,7 +361,7 @@ def read(word: int) -> Reading:
     >>> read(0x8001).mask
     1
     """
-    reading = LIBRARY.lc3_read(whole(word, WORD_LIMIT, "word"))
+    reading = LIBRARY.lc3_read(checked_int(word, WORD_LIMIT, "word"))
     return Reading(Instruction.from_c(reading.instruction), reading.mask)
 
 
@@ -396,7 +397,7 @@ def line(word: int, output: Any = None) -> Any:
     >>> output[:line(0xF025, output)]
     bytearray(b'TRAP x25\\n')
     """
-    number = whole(word, WORD_LIMIT, "word")
+    number = checked_int(word, WORD_LIMIT, "word")
     text = bytearray(MAX_LINE) if output is None else output
     with Lending() as lending:
         counted = LIBRARY.lc3_line(number, *lending.write(text, BYTE, "output"))
@@ -410,7 +411,7 @@ def line_length(word: int) -> int:
     >>> line_length(0x14E7)
     15
     """
-    return int(LIBRARY.lc3_line_length(whole(word, WORD_LIMIT, "word")))
+    return int(LIBRARY.lc3_line_length(checked_int(word, WORD_LIMIT, "word")))
 
 
 @overload
@@ -430,7 +431,7 @@ def page(memory: Any, first: int, count: int, output: Any = None) -> Any:
     >>> page(memory, 0x3000, 2)
     'ADD R0, R0, #1\\nBRnzp #-2\\n'
     """
-    first, count = whole(first, WORD_LIMIT, "first"), whole(count, LONG_LIMIT, "count")
+    first, count = checked_int(first, WORD_LIMIT, "first"), checked_int(count, LONG_LIMIT, "count")
     # No page that is accepted is longer, and a count that is refused asks for no room.
     text = bytearray(min(count, MEMORY_WORDS) * MAX_LINE) if output is None else output
     with Lending() as lending:
@@ -458,7 +459,8 @@ def save(memory: Any, origin: int, words: int, output: Any = None) -> Any:
     >>> save(memory, 0x3000, 1).hex(" ", 2)
     '3000 f025'
     """
-    origin, words = whole(origin, WORD_LIMIT, "origin"), whole(words, LONG_LIMIT, "words")
+    origin = checked_int(origin, WORD_LIMIT, "origin")
+    words = checked_int(words, LONG_LIMIT, "words")
     file = bytearray(2 + 2 * min(words, MEMORY_WORDS)) if output is None else output
     with Lending() as lending:
         lent = lending.read(memory, WORD, "memory")
@@ -536,7 +538,7 @@ def certify(
     >>> certify(array("H"), b"", 0x2FFE, array("H", bytes(16)), array("I"), array("I"))
     Certified(finding=<Finding.VECTOR: 3>, address=0, state=0)
     """
-    stack = whole(lowest, WORD_LIMIT, "lowest")
+    stack = checked_int(lowest, WORD_LIMIT, "lowest")
     with Lending() as lending:
         words = lending.read(memory, WORD, "memory") + lending.read(kinds, BYTE, "kinds")
         places = lending.read(watched, WORD, "watched")

@@ -6,7 +6,7 @@ from functools import wraps
 from threading import Lock, get_ident, main_thread
 from typing import Any, Callable, TypeVar, cast
 
-from .interrupts import Held
+from .interrupts import DeferredSigint
 
 Method = TypeVar("Method", bound=Callable[..., Any])
 
@@ -43,7 +43,7 @@ middle of a call, has not finished with it; a sitting is for one call at a time
 
     def __init__(self) -> None:
         """Nobody uses it."""
-        self._lock, self._held = Lock(), Held()
+        self._lock, self._held = Lock(), DeferredSigint()
         self._holds = False
 
     def __enter__(self) -> Exclusive:

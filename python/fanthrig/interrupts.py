@@ -16,7 +16,7 @@ Handler = Callable[[int, "FrameType | None"], Any]
 NUMBERS = tuple(sorted(int(number) for number in signal.valid_signals()))
 
 
-class Held:
+class DeferredSigint:
     """Holds back the handlers in Python of all signals.
 
     A handler runs between any two instructions of Python's main thread, and may raise. A run
@@ -32,7 +32,7 @@ class Held:
     for Python goes on by itself with what a signal has interrupted.
 
     >>> usual = signal.signal(signal.SIGUSR1, lambda number, frame: print("handled"))
-    >>> held = Held()
+    >>> held = DeferredSigint()
     >>> held.hold()
     >>> signal.raise_signal(signal.SIGUSR1)
     >>> held.caught == [signal.SIGUSR1]

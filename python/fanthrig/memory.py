@@ -7,7 +7,7 @@ from typing import Callable, Iterable, Iterator, NamedTuple, NoReturn, Union, ov
 
 from .calls import line, page
 from .constants import MEMORY_WORDS
-from .records import WORD_LIMIT, as_word, whole
+from .records import WORD_LIMIT, as_word, checked_int
 from .words import word
 
 # A word as a number, or as a line of text.
@@ -123,7 +123,7 @@ class Memory:
     def _address(address: int) -> int:
         """An address, or the ``IndexError`` of a number that is none."""
         try:
-            return whole(address, WORD_LIMIT, "an address")
+            return checked_int(address, WORD_LIMIT, "an address")
         except ValueError as error:
             raise IndexError(str(error)) from None
 
@@ -134,6 +134,6 @@ class Memory:
             raise ValueError("a range of memory has no steps")
         first = 0 if part.start is None else part.start
         end = MEMORY_WORDS if part.stop is None else part.stop
-        if not 0 <= whole(first, MEMORY_WORDS, "the first address") <= end <= MEMORY_WORDS:
+        if not 0 <= checked_int(first, MEMORY_WORDS, "the first address") <= end <= MEMORY_WORDS:
             raise IndexError(f"{first} to {end} is no range of memory")
         return first, end

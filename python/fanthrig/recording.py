@@ -46,7 +46,7 @@ from typing import Any, Sequence, Union
 from ._library import RecordStruct
 from .constants import MAX_CLOCK, MEMORY_WORDS
 from .machine import MEMORY_BYTES, Machine
-from .records import LONG_LIMIT, SHORT_FIELDS, WORD_LIMIT, Edition, Record, Refused, whole
+from .records import LONG_LIMIT, SHORT_FIELDS, WORD_LIMIT, Edition, Record, Refused, checked_int
 from .steps import NAMES
 from .strict_json import strict_json
 from .writing import write_file
@@ -323,7 +323,7 @@ def _whole(value: Any, greatest: int, name: str) -> int:
     """A number of the file. JSON's ``true`` is none, though Python takes it for 1."""
     if isinstance(value, bool):
         raise TypeError(f"{name} must be a whole number, not {value!r}")
-    return whole(value, greatest, name)
+    return checked_int(value, greatest, name)
 
 
 def _record(data: Any) -> Record:

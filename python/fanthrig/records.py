@@ -183,12 +183,12 @@ file is an origin and words, of two bytes each
         return f"{before}refused ({self.number.value}): {self.text}"
 
 
-def whole(value: Any, greatest: int, name: str) -> int:
+def checked_int(value: Any, greatest: int, name: str) -> int:
     """A number from 0 to the greatest, or a ``TypeError`` or ``ValueError`` that names it.
 
     ctypes cuts a number to its field; a host that hands in 65,536 shall not get 0.
 
-    >>> whole(70000, 0xFFFF, "pc")
+    >>> checked_int(70000, 0xFFFF, "pc")
     Traceback (most recent call last):
     ValueError: pc is 70000, and must be from 0 to 65535
     """
@@ -284,11 +284,11 @@ class Record:
         """The record as the library takes it; a field that does not fit is a ``ValueError``."""
         if len(self.regs) != 8:
             raise ValueError(f"regs has {len(self.regs)} registers, and must have 8")
-        struct = RecordStruct(clock=whole(self.clock, LONG_LIMIT, "clock"))
+        struct = RecordStruct(clock=checked_int(self.clock, LONG_LIMIT, "clock"))
         for number, value in enumerate(self.regs):
-            struct.regs[number] = whole(value, WORD_LIMIT, f"regs[{number}]")
+            struct.regs[number] = checked_int(value, WORD_LIMIT, f"regs[{number}]")
         for name in SHORT_FIELDS:
-            setattr(struct, name, whole(getattr(self, name), WORD_LIMIT, name))
+            setattr(struct, name, checked_int(getattr(self, name), WORD_LIMIT, name))
         return struct
 
     def take(self, struct: RecordStruct) -> None:
@@ -489,7 +489,8 @@ class Routines:
     def to_c(self) -> RoutinesStruct:
         """The routines as the library takes them."""
         names = [f.name for f in fields(self)]
-        return RoutinesStruct(*(whole(getattr(self, name), WORD_LIMIT, name) for name in names))
+        numbers = (checked_int(getattr(self, name), WORD_LIMIT, name) for name in names)
+        return RoutinesStruct(*numbers)
 
     @classmethod
     def from_c(cls, struct: RoutinesStruct) -> Routines:

@@ -36,7 +36,7 @@ from .programs import object_bytes, read_program
 from .recording import REPLAY_STEPS, Alteration, End, Program, Recording, RecordingError
 from .recording import RegisterAlteration, Typed, WordsAlteration
 from .records import LONG_LIMIT, WORD_LIMIT, Edition, Mode, Record, Refusal, Refused, Stop
-from .records import as_word, whole
+from .records import as_word, checked_int
 from .routines import Leaves, Over, before_last, call_of
 from .snapshots import MARK_EVERY, thinned
 from .steps import NAMES, TracedStep, value_of
@@ -251,7 +251,7 @@ fewer than two: an object file is an origin and words, of two bytes each
         the candidate's file that was loaded last, clock 0, an empty display and no keys. Mode and
         stack are those of the last start unless they are given. In User mode PC is in x3000 to
         xFDFF unless it may be ``anywhere``; without a word on that, as the sitting was made."""
-        at = whole(self._origin if pc is None else pc, WORD_LIMIT, "pc")
+        at = checked_int(self._origin if pc is None else pc, WORD_LIMIT, "pc")
         mode = self._mode if mode is None else Mode(mode)
         stack = self._stack if stack is None else stack
         file, words = at.to_bytes(2, "big"), self._machine.words
@@ -426,7 +426,7 @@ fewer than two: an object file is an origin and words, of two bytes each
 
     def press(self, keys: bytes, at: int) -> None:
         """Presses keys at a time on the clock, whether the ones before were read or not."""
-        pressed, at = memoryview(keys).tobytes(), whole(at, LONG_LIMIT, "at")
+        pressed, at = memoryview(keys).tobytes(), checked_int(at, LONG_LIMIT, "at")
         with self._use:
             if at < self.clock:
                 raise Refused(Refusal.TIME)
@@ -534,7 +534,7 @@ fewer than two: an object file is an origin and words, of two bytes each
     @display_limit.setter
     def display_limit(self, limit: int | None) -> None:
         """Sets the limit, or takes it away."""
-        number = None if limit is None else whole(limit, LONG_LIMIT, "display_limit")
+        number = None if limit is None else checked_int(limit, LONG_LIMIT, "display_limit")
         with self._use:
             self._machine.limit = number
 
@@ -665,7 +665,7 @@ PSR x8001 -> x0001, Saved_USP x0000 -> xFDFF, x2FFE x0000 -> x3002, x2FFF x0000 
         """The clock at which a run of so many steps is over."""
         if steps is None:
             return MAX_CLOCK
-        end = self.clock + whole(steps, LONG_LIMIT, "steps")
+        end = self.clock + checked_int(steps, LONG_LIMIT, "steps")
         if end > MAX_CLOCK:
             raise Refused(Refusal.STEPS)
         return end
@@ -798,7 +798,7 @@ PSR x8001 -> x0001, Saved_USP x0000 -> xFDFF, x2FFE x0000 -> x3002, x2FFF x0000 
         >>> sitting.back(), sitting["R0"], sitting.back(9_999_998), sitting["R0"]
         (1, 19264, 9999998, 1)
         """
-        clock = self.clock - whole(steps, LONG_LIMIT, "steps")
+        clock = self.clock - checked_int(steps, LONG_LIMIT, "steps")
         with self._use:
             self._begin()
             before = self.clock
@@ -811,7 +811,7 @@ PSR x8001 -> x0001, Saved_USP x0000 -> xFDFF, x2FFE x0000 -> x3002, x2FFF x0000 
         ``ValueError``."""
         self._begin()
         start = self._marks[0].snapshot.clock
-        if not start <= whole(clock, LONG_LIMIT, "clock") <= self.clock:
+        if not start <= checked_int(clock, LONG_LIMIT, "clock") <= self.clock:
             raise ValueError(f"step {clock} is none from {start} to {self.clock}")
         self._go_back(clock)
 
@@ -940,7 +940,7 @@ PSR x8001 -> x0001, Saved_USP x0000 -> xFDFF, x2FFE x0000 -> x3002, x2FFF x0000 
         >>> [hex(step.pc) for step in sitting.last_steps(2)]
         ['0x3001', '0x3000']
         """
-        whole(count, LONG_LIMIT, "count")
+        checked_int(count, LONG_LIMIT, "count")
         with self._use:
             if not self._marks:
                 return []
@@ -970,7 +970,7 @@ PSR x8001 -> x0001, Saved_USP x0000 -> xFDFF, x2FFE x0000 -> x3002, x2FFF x0000 
         >>> [step.line for step in sitting.last_program_steps(10)]
         ['ADD R0, R0, #1', 'TRAP x21', 'TRAP x25']
         """
-        whole(count, LONG_LIMIT, "count")
+        checked_int(count, LONG_LIMIT, "count")
         with self._use:
             if not self._marks or not count:
                 return []
@@ -979,7 +979,7 @@ PSR x8001 -> x0001, Saved_USP x0000 -> xFDFF, x2FFE x0000 -> x3002, x2FFF x0000 
 
     def last_program_clocks(self, count: int) -> list[int]:
         """The numbers of these steps, as far as they are in the log."""
-        whole(count, LONG_LIMIT, "count")
+        checked_int(count, LONG_LIMIT, "count")
         with self._use:
             if not self._marks or not count:
                 return []
@@ -1145,7 +1145,7 @@ PSR x8001 -> x0001, Saved_USP x0000 -> xFDFF, x2FFE x0000 -> x3002, x2FFF x0000 
         of more steps than ``most`` is not replayed."""
         if not isinstance(recording, Recording):
             recording = Recording.load(recording)
-        if recording.steps > whole(most, LONG_LIMIT, "most"):
+        if recording.steps > checked_int(most, LONG_LIMIT, "most"):
             raise RecordingError(f"the sitting has {recording.steps} steps, more than {most}")
         sitting = cls.of(recording)
         report = sitting.run(recording.steps)

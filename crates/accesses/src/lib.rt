@@ -7,7 +7,15 @@ use claims::states::remember_at;
 use claims::states::watched_at;
 use claims::values::low_word;
 use claims::values::wide;
-use parts::words::next;
+use machine::addresses::DDR;
+use machine::addresses::DSR;
+use machine::addresses::KBDR;
+use machine::addresses::KBSR;
+use machine::addresses::MCR;
+use machine::addresses::PSR;
+use machine::addresses::TIR;
+use machine::addresses::TSR;
+use step_parts::words::next;
 ghost use mathlib.Core.Path.{_≡_};
 ghost use mathlib.Core.Bool.{_||_};
 ghost use mathlib.Core.List.{List};
@@ -24,28 +32,28 @@ ghost use Rattle.accesses.specs.Leads.{Leads};
 fn is_device(a: u16) -> bool
     ensures { λ r. ⌜ r ≡ isDevice a ⌝ }
 {
-    if a == 0xFE00 {
+    if a == KBSR {
         return true;
     }
-    if a == 0xFE02 {
+    if a == KBDR {
         return true;
     }
-    if a == 0xFE04 {
+    if a == DSR {
         return true;
     }
-    if a == 0xFE06 {
+    if a == DDR {
         return true;
     }
-    if a == 0xFE08 {
+    if a == TSR {
         return true;
     }
-    if a == 0xFE0A {
+    if a == TIR {
         return true;
     }
-    if a == 0xFFFC {
+    if a == PSR {
         return true;
     }
-    a == 0xFFFE
+    a == MCR
 }
 
 // What a load at a gives.
@@ -204,10 +212,10 @@ pub fn stores_at(
     ensures { λ to. ⌜ Leads (claimWith (now (memory .entry)) (now (kinds .entry)) lowest (now (watched .entry)))
         to (stateOf (now (t .exit))) (λ c. storesAt c pc (valueOf v) a (stateOf (now (t .entry)))) ⌝ }
 {
-    if a == 0xFE06 {
+    if a == DDR {
         return next(pc);
     }
-    if a == 0xFFFE {
+    if a == MCR {
         return next(pc);
     }
     if !is_storable(memory, kinds, lowest, a) {

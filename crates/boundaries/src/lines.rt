@@ -133,7 +133,7 @@ pub(crate) fn attempt(
     n: u64,
 ) {
     let mut output = BLANK;
-    let a = runner::run(m, memory, times, bytes, &mut output, n);
+    let a = run_loop::run(m, memory, times, bytes, &mut output, n);
     column(text);
     print_answer(a.report, unaltered(m, a.machine, memory, &output));
 }

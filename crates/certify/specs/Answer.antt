@@ -10,8 +10,8 @@ use lib.ListN.{length, getD}
 use Rattle.machine.specs.declared.Devices.{Devices}
 use Rattle.machine.specs.declared.Machine.{Machine}
 use Rattle.machine.specs.Psr.{inUserMode}
-use Rattle.touched.specs.Touched.{SameWordAt}
-use Rattle.touched.specs.Altered.{SameOutside}
+use Rattle.footprint.specs.Footprint.{SameWordAt}
+use Rattle.footprint.specs.Altered.{SameOutside}
 use Rattle.start.specs.Start.{userStartedOf}
 use Rattle.sitting.specs.Sitting.{stackFrom, Call, answerAfter, TellsNothing}
 use Rattle.sitting.specs.Test.{passes}

@@ -5,6 +5,8 @@ use crate::finding::wrong;
 use claims::cells::kind_at;
 use claims::cells::word_at;
 use claims::states::accepts;
+use machine::addresses::KEYBOARD_VECTOR;
+use machine::addresses::TIMER_VECTOR;
 ghost use mathlib.Core.Path.{_≡_};
 ghost use mathlib.Core.Bool.{true};
 ghost use mathlib.Core.List.{List};
@@ -111,12 +113,12 @@ pub fn wrong_vectors(memory: &[u16], kinds: &[u8], ends: &[u32], table: &[u32]) 
     if finding != 0 {
         return of_traps;
     }
-    let of_keyboard = wrong_interrupt(memory, kinds, ends, table, 0x0180);
+    let of_keyboard = wrong_interrupt(memory, kinds, ends, table, KEYBOARD_VECTOR);
     let finding = of_keyboard.finding;
     if finding != 0 {
         return of_keyboard;
     }
-    wrong_interrupt(memory, kinds, ends, table, 0x0181)
+    wrong_interrupt(memory, kinds, ends, table, TIMER_VECTOR)
 }
 
 fn smaller(a: usize, b: usize) -> usize

@@ -99,7 +99,7 @@ pub fn and_with(v: u32, d: u32) -> u32
     ensures { λ r. ⌜ valueOf r ≡ andWith (valueOf v) d ⌝ }
 {
     if v / 65536 == 2 {
-        return 131072 + wide(parts::words::bit_and(low_word(v), low_word(d)));
+        return 131072 + wide(step_parts::words::bit_and(low_word(v), low_word(d)));
     }
     if d == 0 {
         return 131072;
@@ -122,5 +122,5 @@ pub fn not_of(v: u32) -> u32
     if v / 65536 != 2 {
         return 65536;
     }
-    131072 + wide(parts::words::complement(low_word(v)))
+    131072 + wide(step_parts::words::complement(low_word(v)))
 }

@@ -128,11 +128,11 @@ fn one_step(m: Machine, memory: &mut [u16], times: &[u64], bytes: &[u8], at: usi
     requires { ⌜ length (now times) ≡ length (now bytes) ⌝ }
 {
     let mut shown = [0u8; 1];
-    runner::run(m, memory, &times[at..], &bytes[at..], &mut shown, 1)
+    run_loop::run(m, memory, &times[at..], &bytes[at..], &mut shown, 1)
 }
 
 // The same, with a line where the step leaves User mode.
-fn told_step(m: Machine, memory: &mut [u16], times: &[u64], bytes: &[u8], at: usize) -> Answer
+fn printed_step(m: Machine, memory: &mut [u16], times: &[u64], bytes: &[u8], at: usize) -> Answer
     requires { ⌜ at ≤ length (now times) ⌝ }
     requires { ⌜ length (now times) ≡ length (now bytes) ⌝ }
 {
@@ -167,7 +167,7 @@ pub(crate) fn sit_beside(
     let mut same = 0;
     let mut steps = 0;
     while steps < STEPS {
-        let a = told_step(m, memory, times, bytes, at);
+        let a = printed_step(m, memory, times, bytes, at);
         let b = one_step(o, other, times, bytes, at);
         let r = a.report;
         let ending = r.ending;

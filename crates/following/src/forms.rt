@@ -14,7 +14,7 @@ use claims::values::not_of;
 use claims::values::sum_of;
 use claims::values::sum_with;
 use claims::values::wide;
-use parts::words::next;
+use step_parts::words::next;
 use ways::Way;
 use ways::jump::target_of;
 use word::fields::offset;

@@ -1,4 +1,4 @@
-// The single step (M3.5) for hosts in C and Rust, on a record that the host keeps: the by-value step of `single`,
+// The single step (M3.5) for hosts in C and Rust, on a record that the host keeps: the by-value step of `single_step`,
 // answered as a run is. It has an archive of its own, with the one call of the step in it and no loop, so that the
 // compiler inlines all of it. Nothing is required of a caller.
 use answers::Lc3Report;
@@ -20,7 +20,7 @@ pub extern "C" fn lc3_step(
         ≡ answerOf (callOf (startOf (now (m .entry)) (now (memory .entry)) (now (times .entry)) (now (bytes .entry))
         (now (output .entry))) 1) ⌝ }
 {
-    let a = single::one_step(false, *m, memory, times, bytes, output);
+    let a = single_step::one_step(false, *m, memory, times, bytes, output);
     *m = a.machine;
     a.report
 }

@@ -19,7 +19,7 @@ pub extern "C" fn lc3_step_second(
         ≡ answerOf (secondCallOf (startOf (now (m .entry)) (now (memory .entry)) (now (times .entry))
         (now (bytes .entry)) (now (output .entry))) 1) ⌝ }
 {
-    let a = single::one_step(true, *m, memory, times, bytes, output);
+    let a = single_step::one_step(true, *m, memory, times, bytes, output);
     *m = a.machine;
     a.report
 }

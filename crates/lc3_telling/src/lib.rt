@@ -5,7 +5,7 @@ use machine::Machine;
 use next_step::Addresses;
 use next_step::Told;
 use run::Report;
-use runner::entries::rule_number;
+use run_loop::entries::rule_number;
 ghost use mathlib.Core.Path.{_≡_};
 ghost use mathlib.Core.List.{List};
 ghost use Prim.Native.Nat.{ℕ};

@@ -1,11 +1,11 @@
 -- No step makes one of the mistakes that invite: each of the steps is computed.
 use mathlib.Core.Path.{refl}
-use Rattle.machine.specs.Mistakes.{NoInvitedMistake}
+use Rattle.machine.specs.Mistakes.{NoTypicalMistake}
 use Rattle.machine.proofs.Opened.{opened}
 
-pub no-invited-mistake : NoInvitedMistake
+pub no-typical-mistake : NoTypicalMistake
 unfolding opened
-no-invited-mistake = record {
+no-typical-mistake = record {
   vector-after-pushes = refl;
   both-pops-from-supervisor-stack = refl;
   check-before-read = refl;

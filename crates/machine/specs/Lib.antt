@@ -1,6 +1,7 @@
 -- The machine of M2 to M10, one concept a file, in that order; then what the theorems say of a step, and the
 -- worked steps. What the two editions differ in stands in Edition.
 pub mod Words
+pub mod Memory
 pub mod Record
 pub mod Psr
 pub mod Outcome

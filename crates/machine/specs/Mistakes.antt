@@ -4,7 +4,7 @@ use Rattle.machine.specs.Outcome.{trap}
 use Rattle.machine.specs.Rows.{R, PC, PSR, Saved-SSP, Saved-USP, KBSR, word, reads, enters, interrupts}
 use Rattle.machine.specs.Rows.{accessException, user, supervisor, Hold}
 
-pub record NoInvitedMistake : Type 0 where
+pub record NoTypicalMistake : Type 0 where
   -- "Reading the vector before the pushes": TRAP x25 with the stack at the vector word takes PC from what it pushed.
   pub vector-after-pushes :
       Hold

@@ -1,10 +1,12 @@
 // The LC-3 machine: its record, and the types that its definitions share with the code.
-// What one step does is defined in specs/, in the order of M2 to M10; the crates `parts` and `step` compute it.
+// What one step does is defined in specs/, in the order of M2 to M10; the crates `step_parts` and `step` compute it.
 ghost use mathlib.Core.Path.{_≡_};
 ghost use mathlib.Core.List.{List};
 ghost use Prim.Native.Nat.{ℕ, _-_};
 ghost use Rattle.machine.specs.Record.{whole, withDevices, setKeyboard, setMcr, setBusy, setTimer};
 ghost use Rattle.machine.specs.Record.{freshDevices, zeroDevices};
+
+pub mod addresses;
 
 // What the devices keep. Code that touches no device hands it on whole. Defined bits: KBSR and the timer's status
 // xC000, KBDR x00FF, MCR x8000. `busy` counts the steps for which the display is still busy, at most 8. The timer's

@@ -23,7 +23,7 @@ use Rattle.machine.specs.Access.{checkedBy, loadToBy, storeAtBy, byPointerBy}
 use Rattle.machine.specs.Return.{popped, return}
 use Rattle.machine.specs.Step.{performBy, obeyedBy, interruptedOrObeyedBy, afterStart, ended, stepBy}
 use Rattle.machine.proofs.Tests.{either-branch}
-use Rattle.touched.proofs.TouchedWords.{step-reads-at-most-three}
+use Rattle.footprint.proofs.FootprintLaws.{step-reads-at-most-three}
 use Rattle.run.specs.Run.{begin}
 use Rattle.logging.specs.Log.{nextRuleBy, entryBy}
 use Rattle.next_step.specs.Told.{addressesOf}

@@ -8,6 +8,7 @@ ghost use mathlib.Core.Path.{_≡_};
 ghost use mathlib.Core.List.{List};
 ghost use Prim.Native.Nat.{ℕ};
 ghost use lib.ListN.{length};
+ghost use Rattle.machine.specs.Memory.{IsMemory};
 ghost use Rattle.machine.specs.Edition.{editionOf};
 ghost use Rattle.machine.specs.Keys.{keysDue};
 ghost use Rattle.machine.specs.Rules.{isInterrupt, fetchedWordBy};
@@ -75,29 +76,29 @@ fn is_interrupt(rule: Rule) -> bool
 
 // The word fetched by a step of this rule: 0 at an interrupt, and where the fetch is denied.
 fn fetched_word(second: bool, rule: Rule, m: Machine, memory: &[u16]) -> u16
-    requires { ⌜ length (now memory) ≡ 65536 ⌝ }
+    requires { ⌜ IsMemory (now memory) ⌝ }
     ensures { λ r. ⌜ r ≡ fetchedWordBy (editionOf second) rule m (now (memory .entry)) ⌝ }
 {
     if is_interrupt(rule) {
         return 0;
     }
-    if parts::protection::is_denied(second, m.psr, m.pc) {
+    if step_parts::protection::is_denied(second, m.psr, m.pc) {
         return 0;
     }
-    parts::memory::word_at(memory, m.pc)
+    step_parts::memory::word_at(memory, m.pc)
 }
 
 // The next step of a machine that is not halted: keys arrive and the timer's count falls, as in every step.
 fn tell_step(second: bool, m: Machine, memory: &[u16], times: &[u64], bytes: &[u8]) -> Told
-    requires { ⌜ length (now memory) ≡ 65536 ⌝ }
+    requires { ⌜ IsMemory (now memory) ⌝ }
     requires { ⌜ length (now times) ≡ length (now bytes) ⌝ }
     ensures { λ r. ⌜ r ≡ toldOf (editionOf second) m (now (memory .entry)) (stepBy (editionOf second)
         (keysDue (m .clock) (now (times .entry)) (now (bytes .entry))) m (now (memory .entry))) ⌝ }
 {
     let regs = m.regs;
-    let a = parts::keys::arrive(machine::control_of(m), m.clock, times, bytes, 0);
-    let c = parts::timer::count_down(a.control);
-    let pending = parts::interrupts::pending_interrupt(c);
+    let a = step_parts::keys::arrive(machine::control_of(m), m.clock, times, bytes, 0);
+    let c = step_parts::timer::count_down(a.control);
+    let pending = step_parts::interrupts::pending_interrupt(c);
     let touched = touching::interrupt_or_obey(second, c, &regs, memory, pending);
     let rule = touched.rule;
     let word = fetched_word(second, rule, m, memory);
@@ -110,7 +111,7 @@ fn tell_step(second: bool, m: Machine, memory: &[u16], times: &[u64], bytes: &[u
 
 // What the next step of a call that is accepted does. The one stop that no step decides is tested: halted.
 fn tell_accepted(second: bool, m: Machine, memory: &[u16], times: &[u64], bytes: &[u8]) -> Told
-    requires { ⌜ length (now memory) ≡ 65536 ⌝ }
+    requires { ⌜ IsMemory (now memory) ⌝ }
     requires { ⌜ length (now times) ≡ length (now bytes) ⌝ }
     ensures { λ r. ⌜ ((output : List ℕ) → r ≡ toldNext (editionOf second)
         (startOf m (now (memory .entry)) (now (times .entry)) (now (bytes .entry)) output)) ⌝ }

@@ -1,6 +1,14 @@
 // Lists of at most three addresses.
 use crate::Addresses;
-use parts::words::before;
+use machine::addresses::DDR;
+use machine::addresses::DSR;
+use machine::addresses::KBDR;
+use machine::addresses::KBSR;
+use machine::addresses::MCR;
+use machine::addresses::PSR;
+use machine::addresses::TIR;
+use machine::addresses::TSR;
+use step_parts::words::before;
 ghost use mathlib.Core.Path.{_≡_};
 ghost use mathlib.Core.Bool.{cond};
 ghost use mathlib.Core.List.{[], _∷_};
@@ -45,8 +53,8 @@ fn is_device(second: bool, a: u16) -> bool
     ensures { λ r. ⌜ r ≡ isDeviceBy (editionOf second) a ⌝ }
 {
     match a {
-        0xFE00 | 0xFE02 | 0xFE04 | 0xFE06 | 0xFE08 | 0xFE0A | 0xFFFE => true,
-        0xFFFC => !second,
+        KBSR | KBDR | DSR | DDR | TSR | TIR | MCR => true,
+        PSR => !second,
         _ => false,
     }
 }

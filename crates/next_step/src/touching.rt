@@ -1,5 +1,5 @@
-// The lent words that each plan takes and stores to, and by which rule: the accesses of crate `parts` without their
-// effects. Each address is checked first.
+// The lent words that each plan takes and stores to, and by which rule: the accesses of crate `step_parts` without
+// their effects. Each address is checked first.
 use crate::Touched;
 use crate::lists::below;
 use crate::lists::none;
@@ -9,18 +9,21 @@ use machine::Control;
 use machine::Pending;
 use machine::Plan;
 use machine::Rule;
-use parts::devices::after_load;
-use parts::devices::load;
-use parts::entry::interrupt_rule;
-use parts::memory::word_at;
-use parts::protection::is_denied;
-use parts::words::next;
-use parts::words::register;
+use machine::addresses::ACCESS_VECTOR;
+use machine::addresses::ILLEGAL_VECTOR;
+use machine::addresses::PRIVILEGE_VECTOR;
 use step::planning::plan_for;
+use step_parts::devices::after_load;
+use step_parts::devices::load;
+use step_parts::entry::interrupt_rule;
+use step_parts::memory::word_at;
+use step_parts::protection::is_denied;
+use step_parts::words::next;
+use step_parts::words::register;
 ghost use mathlib.Core.Path.{_≡_};
 ghost use mathlib.Core.List.{List};
 ghost use Prim.Native.Nat.{ℕ};
-ghost use lib.ListN.{length};
+ghost use Rattle.machine.specs.Memory.{IsMemory};
 ghost use Rattle.machine.specs.Record.{whole};
 ghost use Rattle.machine.specs.Edition.{editionOf, trapped};
 ghost use Rattle.machine.specs.Outcome.{Reason, vectorOf};
@@ -74,7 +77,7 @@ fn load_to(second: bool, c: Control, regs: &[u16; 8], a: u16) -> Touched
         ≡ touchedIn (loadToBy (editionOf second) r a (whole (now (regs .entry)) clock c) memory)) ⌝ }
 {
     if is_denied(second, c.psr, a) {
-        return enter(c, regs, 0x0102, Rule::Access);
+        return enter(c, regs, ACCESS_VECTOR, Rule::Access);
     }
     let reads = prepend_lent(second, a, none());
     let writes = none();
@@ -90,7 +93,7 @@ fn store_at(second: bool, c: Control, regs: &[u16; 8], a: u16) -> Touched
         ≡ touchedIn (storeAtBy (editionOf second) v a (whole (now (regs .entry)) clock c) memory)) ⌝ }
 {
     if is_denied(second, c.psr, a) {
-        return enter(c, regs, 0x0102, Rule::Access);
+        return enter(c, regs, ACCESS_VECTOR, Rule::Access);
     }
     let reads = none();
     let writes = prepend_lent(second, a, none());
@@ -117,12 +120,12 @@ fn after_pointer(second: bool, a: u16, t: Touched) -> Touched
 
 // LDI: the pointer is loaded, then the word that it points to.
 fn load_by(second: bool, c: Control, regs: &[u16; 8], memory: &[u16], a: u16) -> Touched
-    requires { ⌜ length (now memory) ≡ 65536 ⌝ }
+    requires { ⌜ IsMemory (now memory) ⌝ }
     ensures { λ t. ⌜ ((clock r : ℕ) → t ≡ touchedIn (byPointerBy (editionOf second) a
         (loadToBy (editionOf second) r) (whole (now (regs .entry)) clock c) (now (memory .entry)))) ⌝ }
 {
     if is_denied(second, c.psr, a) {
-        return enter(c, regs, 0x0102, Rule::Access);
+        return enter(c, regs, ACCESS_VECTOR, Rule::Access);
     }
     let p = load(second, c, memory, a);
     after_pointer(second, a, load_to(second, after_load(c, a), regs, p))
@@ -130,12 +133,12 @@ fn load_by(second: bool, c: Control, regs: &[u16; 8], memory: &[u16], a: u16) ->
 
 // STI: the pointer is loaded, then the word that it points to is replaced.
 fn store_by(second: bool, c: Control, regs: &[u16; 8], memory: &[u16], a: u16) -> Touched
-    requires { ⌜ length (now memory) ≡ 65536 ⌝ }
+    requires { ⌜ IsMemory (now memory) ⌝ }
     ensures { λ t. ⌜ ((clock v : ℕ) → t ≡ touchedIn (byPointerBy (editionOf second) a
         (storeAtBy (editionOf second) v) (whole (now (regs .entry)) clock c) (now (memory .entry)))) ⌝ }
 {
     if is_denied(second, c.psr, a) {
-        return enter(c, regs, 0x0102, Rule::Access);
+        return enter(c, regs, ACCESS_VECTOR, Rule::Access);
     }
     let p = load(second, c, memory, a);
     after_pointer(second, a, store_at(second, after_load(c, a), regs, p))
@@ -173,11 +176,11 @@ fn return_from_interrupt(c: Control, regs: &[u16; 8]) -> Touched
             writes,
         };
     }
-    enter(c, regs, 0x0100, Rule::Privilege)
+    enter(c, regs, PRIVILEGE_VECTOR, Rule::Privilege)
 }
 
 fn perform(second: bool, c: Control, regs: &[u16; 8], memory: &[u16], plan: Plan) -> Touched
-    requires { ⌜ length (now memory) ≡ 65536 ⌝ }
+    requires { ⌜ IsMemory (now memory) ⌝ }
     ensures { λ t. ⌜ ((clock : ℕ) → t ≡ touchedIn (performBy (editionOf second) plan
         (whole (now (regs .entry)) clock c) (now (memory .entry)))) ⌝ }
 {
@@ -190,20 +193,20 @@ fn perform(second: bool, c: Control, regs: &[u16; 8], memory: &[u16], plan: Plan
         Plan::Store(_, a) => store_at(second, c, regs, a),
         Plan::StoreBy(_, a) => store_by(second, c, regs, memory, a),
         Plan::Call(vector) => trap(second, c, regs, vector),
-        Plan::Illegal => enter(c, regs, 0x0101, Rule::Illegal),
+        Plan::Illegal => enter(c, regs, ILLEGAL_VECTOR, Rule::Illegal),
         Plan::Return => return_from_interrupt(c, regs),
     }
 }
 
 // The fetch is checked as any access is, and uses the lent word at any address.
 fn obey(second: bool, c: Control, regs: &[u16; 8], memory: &[u16]) -> Touched
-    requires { ⌜ length (now memory) ≡ 65536 ⌝ }
+    requires { ⌜ IsMemory (now memory) ⌝ }
     ensures { λ t. ⌜ ((clock : ℕ) → t ≡ touchedIn (obeyedBy (editionOf second)
         (whole (now (regs .entry)) clock c) (now (memory .entry)))) ⌝ }
 {
     let pc = c.pc;
     if is_denied(second, c.psr, pc) {
-        return enter(c, regs, 0x0102, Rule::Access);
+        return enter(c, regs, ACCESS_VECTOR, Rule::Access);
     }
     let word = word_at(memory, pc);
     let plan = plan_for(second, regs, pc, c.psr, word::reading::read(word));
@@ -225,7 +228,7 @@ pub fn interrupt_or_obey(
     memory: &[u16],
     pending: Pending,
 ) -> Touched
-    requires { ⌜ length (now memory) ≡ 65536 ⌝ }
+    requires { ⌜ IsMemory (now memory) ⌝ }
     ensures { λ t. ⌜ ((clock : ℕ) → t ≡ touchedIn (interruptedOrObeyedBy (editionOf second) pending
         (whole (now (regs .entry)) clock c) (now (memory .entry)))) ⌝ }
 {

@@ -8,7 +8,7 @@ use Rattle.run.specs.AlteredWords.{readsAt, writesAt}
 use Rattle.run.specs.OneAlteredWord.{takes, replaces}
 use Rattle.run.specs.SecondEdition.{exclusionsAt}
 use Rattle.run.proofs.Opened.{opened}
-use Rattle.touched.specs.Altered.{isAmong}
+use Rattle.footprint.specs.Altered.{isAmong}
 use Rattle.logging.specs.Log.{nextRuleBy, entryBy, lacksRoom}
 use Rattle.logging.specs.LoggedRun.{beginLogged, stoppedBy, stepLoggedBy, oneMoreLoggedBy, loggedRunBy}
 use Rattle.logging.specs.LoggedCall.{loggedAdmittedBy, loggedCallBy}

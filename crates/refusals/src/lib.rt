@@ -53,7 +53,7 @@ fn undefined_devices(d: Devices) -> bool
 fn undefined_record(m: Machine) -> bool
     ensures { λ r. ⌜ r ≡ undefinedRecord m ⌝ }
 {
-    let psr = parts::psr::defined_psr(m.psr);
+    let psr = step_parts::psr::defined_psr(m.psr);
     if psr != m.psr {
         return true;
     }

@@ -11,8 +11,8 @@ use Rattle.machine.specs.Outcome.{Outcome}
 use Rattle.machine.specs.Step.{Step, stepBy}
 use Rattle.machine.specs.Keeping.{Keeping}
 use Rattle.machine.proofs.StepLaws.{step-keeps}
-use Rattle.touched.specs.Altered.{stillAltered, NoneAltered, SameButAltered, AlteredWordsUnread}
-use Rattle.touched.proofs.AlteredWords.{altered-words-unread, none-altered-all-same}
+use Rattle.footprint.specs.Altered.{stillAltered, NoneAltered, SameButAltered, AlteredWordsUnread}
+use Rattle.footprint.proofs.AlteredWords.{altered-words-unread, none-altered-all-same}
 use Rattle.run.specs.declared.Ending.{Ending}
 use Rattle.run.specs.declared.Ending.the-variants.{Done, OutputFull}
 use Rattle.run.specs.Run.{Start, End, begin, endedBy, arriving, nextStepBy, stepMadeBy, isHalted, isFullBy, runBy}

@@ -64,7 +64,7 @@ module _ (clock : ℕ) (times : List ℕ) where
       sym
       (time-below-last clock (before i) times i (f .listed) (ltb-false (getD times i 0) clock b)
       (ltb-true (getD times i 0) (before i)
-      (same-test i b ∙ other-holds (belowClock clock times i) (belowPrevious times i) (f .guilty) b))
+      (same-test i b ∙ other-holds (belowClock clock times i) (belowPrevious times i) (f .offending) b))
       ∙ all-before-pass i (omega (arith, f .listed)) (f .none-before))
 
   answered-accepted : NoOffence clock times → from 0 ≡ Accepted
@@ -83,7 +83,7 @@ module _ (clock : ℕ) (times : List ℕ) where
       go (belowClock clock times k) refl (belowPrevious times k) refl (answer-says n (suc k) (omega arith))
     where
       first : offends clock times k ≡ true → FirstOffence clock times k
-      first guilty = record { listed = omega arith; guilty = guilty; none-before = h }
+      first offending = record { listed = omega arith; offending = offending; none-before = h }
 
       go : (c : Bool) → belowClock clock times k ≡ c → (p : Bool) → belowPrevious times k ≡ p
           → (((j : ℕ) → j < suc k → offends clock times j ≡ false) → Says clock times (from 0))

@@ -10,7 +10,7 @@ use lib.Seq.{getD-set-other}
 use borrow.Author.Tests.{eqb-true, eqb-false, ne-eqb}
 use Rattle.machine.specs.Step.{Step, stepBy}
 use Rattle.machine.proofs.Tests.{or-is-false}
-use Rattle.touched.specs.Altered.{isAmong, stillAltered, NoneAltered}
+use Rattle.footprint.specs.Altered.{isAmong, stillAltered, NoneAltered}
 use Rattle.run.specs.declared.Admission.the-variants.{Accepted}
 use Rattle.run.specs.declared.Ending.the-variants.{OutputFull}
 use Rattle.run.specs.Run.{Start, End}

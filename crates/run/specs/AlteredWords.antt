@@ -7,7 +7,7 @@ use mathlib.Core.Bool.{Bool, false}
 use mathlib.Core.List.{List}
 use Rattle.machine.specs.Edition.{Edition}
 use Rattle.machine.specs.Step.{Step, stepBy}
-use Rattle.touched.specs.Altered.{SameOutside, stillAltered, NoneAltered}
+use Rattle.footprint.specs.Altered.{SameOutside, stillAltered, NoneAltered}
 use Rattle.run.specs.declared.Admission.the-variants.{Accepted}
 use Rattle.run.specs.declared.Ending.the-variants.{OutputFull}
 use Rattle.run.specs.Run.{Start, End, nextStepBy}

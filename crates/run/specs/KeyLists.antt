@@ -28,7 +28,7 @@ offends clock times i = belowClock clock times i || belowPrevious times i
 -- Entry i is the least that offends.
 pub record FirstOffence (clock : ℕ) (times : List ℕ) (i : ℕ) : Type 0 where
   pub listed : i < length times
-  pub guilty : offends clock times i ≡ true
+  pub offending : offends clock times i ≡ true
   pub none-before : (j : ℕ) → j < i → offends clock times j ≡ false
 
 abbrev pub NoOffence : ℕ → List ℕ → Type 0

@@ -6,7 +6,7 @@ use lib.Dec.{eqb}
 use lib.ListN.{set}
 use Rattle.machine.specs.Edition.{Edition}
 use Rattle.machine.specs.Step.{Step, stepBy}
-use Rattle.touched.specs.Altered.{isAmong}
+use Rattle.footprint.specs.Altered.{isAmong}
 use Rattle.run.specs.declared.Admission.the-variants.{Accepted}
 use Rattle.run.specs.declared.Ending.the-variants.{OutputFull}
 use Rattle.run.specs.Run.{Start}

@@ -5,7 +5,7 @@ use mathlib.Core.Bool.{Bool, true, false}
 use native.Mathlib.Omega.{arith}
 use native.Mathlib.Decide.{decLe}
 use Rattle.machine.specs.Step.{Step, stepOf}
-use Rattle.touched.specs.Altered.{isAmong}
+use Rattle.footprint.specs.Altered.{isAmong}
 use Rattle.run.specs.Run.{Start}
 use Rattle.run.specs.Call.{callOf}
 use Rattle.run.specs.AlteredWords.{readsAt, writesAt}

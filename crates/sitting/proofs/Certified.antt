@@ -10,7 +10,7 @@ use lib.Dec.{eqb}
 use Rattle.machine.specs.declared.Machine.{Machine}
 use Rattle.machine.specs.declared.Devices.{Devices}
 use Rattle.machine.proofs.Tests.{either-branch}
-use Rattle.touched.specs.Altered.{SameOutside}
+use Rattle.footprint.specs.Altered.{SameOutside}
 use Rattle.run.specs.declared.Ending.{Ending}
 use Rattle.run.specs.Run.{Start}
 use Rattle.run.specs.AlteredWords.{Variants}

@@ -10,8 +10,8 @@ use lib.Dec.{leb, ltb}
 use lib.ListN.{length, length-append, length-drop}
 use Rattle.machine.specs.Psr.{inUserMode}
 use Rattle.machine.specs.Protection.{privileged}
-use Rattle.touched.specs.Touched.{SameWordAt}
-use Rattle.touched.specs.Altered.{SameOutside}
+use Rattle.footprint.specs.Footprint.{SameWordAt}
+use Rattle.footprint.specs.Altered.{SameOutside}
 use Rattle.object.specs.File.{originIn, wordsIn}
 use Rattle.object.specs.Calls.{wrongSize, loadRefusal, loadAccepted, loadOf}
 use Rattle.object.proofs.Acceptance.{accepted-is-readable, readable-is-loaded}

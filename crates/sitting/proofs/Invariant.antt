@@ -20,8 +20,8 @@ use Rattle.machine.specs.Devices.{KBDR, TSR, kbsrAfterLoad, timerStatusAfterLoa
 use Rattle.machine.specs.Step.{afterTick, ended, afterStart}
 use Rattle.machine.proofs.MemoryParts.{UserAddress}
 use Rattle.machine.proofs.Tests.{both-true}
-use Rattle.touched.specs.Touched.{Each}
-use Rattle.touched.specs.Altered.{NoneAltered}
+use Rattle.footprint.specs.Footprint.{Each}
+use Rattle.footprint.specs.Altered.{NoneAltered}
 use Rattle.sitting.specs.Values.{implies, allImply}
 use Rattle.sitting.specs.Test.{Cell, fixed, State, Claim, cellAt, isHidden, covers, accepts, passes}
 use Rattle.sitting.specs.Certified.{isSecretIn, Loaded}

@@ -34,7 +34,7 @@ use Rattle.machine.specs.Step.{performBy, perform, obeyedBy, obeyed}
 use Rattle.machine.proofs.MemoryParts.{UserAddress}
 use Rattle.machine.proofs.StepLaws.{codesOf-below}
 use Rattle.machine.proofs.Tests.{both-true}
-use Rattle.touched.specs.Altered.{NoneAltered}
+use Rattle.footprint.specs.Altered.{NoneAltered}
 use Rattle.monitor.proofs.Modes.{plain-word, always-taken, taken-by-sign, supervisor-mode}
 use Rattle.monitor.proofs.Modes.{allowed-in-supervisor-mode, by-plain-pointer}
 use Rattle.sitting.specs.Values.{Value, unset, any, is, high, low, sum, allowed, sumWith, sumOf, andWith, andOf}

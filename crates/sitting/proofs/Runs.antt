@@ -15,10 +15,10 @@ use Rattle.machine.specs.Rules.{ruleOf, isInterrupt, fetchedWordBy, fetchedWord
 use Rattle.machine.specs.Step.{stepOf}
 use Rattle.machine.proofs.Tests.{same-test-same-branch}
 use Rattle.machine.proofs.RuleLaws.{interrupt-by-rule, log-tells}
-use Rattle.touched.specs.Touched.{Each, NoneOf, SameWordAt}
-use Rattle.touched.specs.Altered.{stillAltered, NoneAltered, SameButAltered}
-use Rattle.touched.proofs.AlteredWords.{altered-words-unread}
-use Rattle.touched.proofs.TouchedWords.{step-writes}
+use Rattle.footprint.specs.Footprint.{Each, NoneOf, SameWordAt}
+use Rattle.footprint.specs.Altered.{stillAltered, NoneAltered, SameButAltered}
+use Rattle.footprint.proofs.AlteredWords.{altered-words-unread}
+use Rattle.footprint.proofs.FootprintLaws.{step-writes}
 use Rattle.run.specs.declared.Admission.{Admission}
 use Rattle.run.specs.declared.Admission.the-variants.{Accepted, Rejected}
 use Rattle.run.specs.declared.Ending.the-variants.{Done, Halted, OutputFull, Refused}

@@ -7,8 +7,8 @@ use mathlib.Core.Bool.{Bool, true, false}
 use mathlib.Core.List.{List, [], _∷_}
 use lib.ListN.{length}
 use Rattle.machine.specs.Protection.{privileged}
-use Rattle.touched.specs.Touched.{SameWordAt}
-use Rattle.touched.specs.Altered.{SameOutside}
+use Rattle.footprint.specs.Footprint.{SameWordAt}
+use Rattle.footprint.specs.Altered.{SameOutside}
 use Rattle.object.specs.File.{originIn, wordsIn}
 use Rattle.start.specs.Start.{Starting, startedOf, userStartedOf}
 use Rattle.logging.specs.LoggedRun.{Logged}

@@ -13,8 +13,8 @@ use Rattle.machine.specs.declared.Machine.{Machine}
 use Rattle.machine.specs.declared.Devices.{Devices}
 use Rattle.machine.specs.Psr.{inUserMode}
 use Rattle.machine.specs.Record.{withMcr}
-use Rattle.touched.specs.Touched.{SameWordAt}
-use Rattle.touched.specs.Altered.{SameOutside}
+use Rattle.footprint.specs.Footprint.{SameWordAt}
+use Rattle.footprint.specs.Altered.{SameOutside}
 use Rattle.run.specs.Run.{Start, End}
 use Rattle.run.specs.Call.{startOf, callOf}
 use Rattle.run.specs.AlteredWords.{SameEnds}

@@ -6,7 +6,7 @@ use mathlib.Core.List.{List, [], _∷_}
 use lib.ListN.{getD, set, replicate, length-set}
 use lib.Seq.{getD-set-other}
 use Rattle.machine.specs.Rows.{withWord}
-use Rattle.touched.specs.Altered.{SameOutside}
+use Rattle.footprint.specs.Altered.{SameOutside}
 use Rattle.run.specs.declared.Ending.the-variants.{Halted}
 use Rattle.run.specs.Fresh.{freshOf}
 use Rattle.run.proofs.Opened.{opened}

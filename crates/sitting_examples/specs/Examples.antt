@@ -8,7 +8,7 @@ use Rattle.machine.specs.declared.Machine.{Machine}
 use Rattle.machine.specs.declared.Devices.{Devices}
 use Rattle.machine.specs.Record.{withDevices}
 use Rattle.machine.specs.Rows.{withWord}
-use Rattle.touched.specs.Altered.{SameOutside}
+use Rattle.footprint.specs.Altered.{SameOutside}
 use Rattle.run.specs.declared.Ending.the-variants.{Halted}
 use Rattle.run.specs.Fresh.{freshOf}
 use Rattle.logging.specs.declared.LoggedEnding.the-variants.{Run}

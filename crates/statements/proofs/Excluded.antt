@@ -21,7 +21,7 @@ use Rattle.machine.specs.Step.{afterStart}
 use Rattle.machine.specs.Exclusions.{Exclusion, lea, trap, jsrr-r7, privileged-address, psr-address}
 use Rattle.machine.specs.Exclusions.{instructionExclusions, addressExclusions, accessExclusions, obeyedExclusions}
 use Rattle.machine.specs.Exclusions.{takenExclusions, exclusionsOf}
-use Rattle.touched.specs.Altered.{isAmong}
+use Rattle.footprint.specs.Altered.{isAmong}
 use Rattle.statements.specs.Excluded.{instructionAt, accessesAt, Named, EachNamed, OnlyNamed, ExclusionsAreNamed}
 
 both-named : (m : Machine) (mem : List ℕ) (xs ys : List Exclusion) → EachNamed m mem xs → EachNamed m mem ys

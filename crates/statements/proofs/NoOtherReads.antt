@@ -30,8 +30,8 @@ use Rattle.machine.specs.Return.{popped, return}
 use Rattle.machine.specs.Plan.{planBy}
 use Rattle.machine.specs.Step.{performBy, obeyedBy, interruptedOrObeyedBy, ended, afterStart, stepBy}
 use Rattle.machine.proofs.Tests.{either-branch}
-use Rattle.touched.specs.Touched.{Each}
-use Rattle.touched.specs.Altered.{isAmong}
+use Rattle.footprint.specs.Footprint.{Each}
+use Rattle.footprint.specs.Altered.{isAmong}
 use Rattle.statements.specs.NoOtherReads.{readsOfPlan, vectorsOf, StepReadsNoOther}
 
 -- ---- addresses in lists

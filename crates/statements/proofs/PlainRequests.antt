@@ -23,8 +23,8 @@ use Rattle.machine.specs.Plan.{planBy}
 use Rattle.machine.specs.Exclusions.{Exclusion, lea, trap, jsrr-r7, privileged-address, psr-address, accessesOf}
 use Rattle.machine.specs.Exclusions.{exclusionsOf}
 use Rattle.machine.specs.Step.{Step, afterStart, stepBy}
-use Rattle.touched.specs.Touched.{Each, NoneOf}
-use Rattle.touched.specs.Altered.{isAmong}
+use Rattle.footprint.specs.Footprint.{Each, NoneOf}
+use Rattle.footprint.specs.Altered.{isAmong}
 use Rattle.run.specs.declared.Admission.the-variants.{Accepted}
 use Rattle.run.specs.Run.{Start, End, arriving, nextStepBy}
 use Rattle.run.specs.Refusals.{admissionOf}

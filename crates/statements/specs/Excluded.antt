@@ -18,7 +18,7 @@ use Rattle.machine.specs.Plan.{planBy}
 use Rattle.machine.specs.Step.{afterStart}
 use Rattle.machine.specs.Exclusions.{Exclusion, lea, trap, jsrr-r7, privileged-address, psr-address, accessesOf}
 use Rattle.machine.specs.Exclusions.{exclusionsOf}
-use Rattle.touched.specs.Altered.{isAmong}
+use Rattle.footprint.specs.Altered.{isAmong}
 
 -- The instruction at PC, and the addresses of its pointer and data accesses.
 abbrev pub instructionAt : Machine → List ℕ → Instruction

@@ -1,4 +1,4 @@
--- What a step reads, from above: `StepReads` (crates/touched) would stay true of a step that claimed to read more.
+-- What a step reads, from above: `StepReads` (crates/footprint) would stay true of a step that claimed to read more.
 -- M28.2 names the reads: a step "fetches, loads, pops or takes a vector or pointer".
 use Prim.Native.Nat.{ℕ}
 use mathlib.Core.Path.{_≡_}
@@ -16,8 +16,8 @@ use Rattle.machine.specs.Outcome.{vectorOf, Cause, instruction, entered, Outcom
 use Rattle.machine.specs.Devices.{loadedValueBy}
 use Rattle.machine.specs.Plan.{planBy}
 use Rattle.machine.specs.Step.{afterStart, stepBy}
-use Rattle.touched.specs.Touched.{Each}
-use Rattle.touched.specs.Altered.{isAmong}
+use Rattle.footprint.specs.Footprint.{Each}
+use Rattle.footprint.specs.Altered.{isAmong}
 
 -- What an instruction may read, by its plan: a datum, a pointer and what it points to, the word at TRAP's vector, or
 -- what RTI pops. A store reads at most its pointer.

@@ -17,7 +17,7 @@ use Rattle.machine.specs.Words.{next, plus, register}
 use Rattle.machine.specs.Interrupts.{pendingInterrupt}
 use Rattle.machine.specs.Devices.{loadedValueBy}
 use Rattle.machine.specs.Step.{Step, afterStart, stepBy}
-use Rattle.touched.specs.Touched.{Each, NoneOf}
+use Rattle.footprint.specs.Footprint.{Each, NoneOf}
 use Rattle.run.specs.declared.Admission.the-variants.{Accepted}
 use Rattle.run.specs.declared.Ending.the-variants.{OutputFull}
 use Rattle.run.specs.Run.{Start, End, arriving, nextStepBy}

@@ -1,13 +1,13 @@
 // What each instruction asks for, from registers, PC and PSR alone.
 use machine::Plan;
-use parts::edition::jsrr_target;
-use parts::edition::lea_plan;
-use parts::psr::is_taken;
-use parts::words::bit_and;
-use parts::words::complement;
-use parts::words::next;
-use parts::words::register;
-use parts::words::sum;
+use step_parts::edition::jsrr_target;
+use step_parts::edition::lea_plan;
+use step_parts::psr::is_taken;
+use step_parts::words::bit_and;
+use step_parts::words::complement;
+use step_parts::words::next;
+use step_parts::words::register;
+use step_parts::words::sum;
 use word::Instruction;
 ghost use mathlib.Core.Path.{_≡_};
 ghost use mathlib.Core.Bool.{cond};

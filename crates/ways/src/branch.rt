@@ -162,11 +162,11 @@ pub fn branches(t: &mut [u32], ends: &[u32], table: &[u32], mask: u8, there: u16
         return accepts(t, ends, table, here);
     }
     if k == 2 {
-        let taken = parts::psr::is_taken(mask, codes_of(v % 65536));
+        let taken = step_parts::psr::is_taken(mask, codes_of(v % 65536));
         return accepts(t, ends, table, pick(taken, there, here));
     }
     if k == 3 {
-        let taken = parts::psr::is_taken(mask, 4);
+        let taken = step_parts::psr::is_taken(mask, 4);
         return accepts(t, ends, table, pick(taken, there, here));
     }
     if k == 5 {

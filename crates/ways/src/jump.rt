@@ -9,7 +9,7 @@ use claims::states::watched_at;
 use claims::values::kind_of;
 use claims::values::low_word;
 use claims::values::wide;
-use parts::words::next;
+use step_parts::words::next;
 ghost use mathlib.Core.Path.{_≡_};
 ghost use mathlib.Core.List.{List};
 ghost use Prim.Native.Nat.{ℕ, _%_, _≤_};

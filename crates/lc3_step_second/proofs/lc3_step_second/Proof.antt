@@ -1,11 +1,12 @@
--- `lc3_step_second` meets its contract, by the walk of single's `LentRecord` and the contract of `single::one_step`.
+-- `lc3_step_second` meets its contract, by the walk of single's `LentRecord` and the contract of
+-- `single_step::one_step`.
 use mathlib.Core.Bool.{true}
 use contract.Running.{givenOf, tables, tablesOf}
 use denote.Triple.Spec.{tripleOf}
 use denote.Triple.Table.{entered, cited}
-use Rattle.single.proofs.LentRecord.{Step, meets}
-use Rattle.single.proofs.one_step.Symbol.{name as #one-step, routine as one-step-routine}
-use Rattle.single.proofs.one_step.Met as one-step
+use Rattle.single_step.proofs.LentRecord.{Step, meets}
+use Rattle.single_step.proofs.one_step.Symbol.{name as #one-step, routine as one-step-routine}
+use Rattle.single_step.proofs.one_step.Met as one-step
 use Rattle.lc3_step_second.proofs.lc3_step_second as f
 use Rattle.lc3_step_second.proofs.lc3_step_second.Key.{name as #lc3-step-second}
 use Rattle.lc3_step_second.proofs.lc3_step_second.Statement as stated

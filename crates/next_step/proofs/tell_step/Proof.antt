@@ -10,7 +10,7 @@ use Rattle.machine.specs.Timer.{afterTimer}
 use Rattle.machine.specs.Interrupts.{pendingInterrupt}
 use Rattle.machine.specs.Rules.{fetchedWordBy}
 use Rattle.machine.specs.Step.{interruptedOrObeyedBy, afterStart, ended, stepBy}
-use Rattle.parts.specs.Delivery.{Arrival, arrivalOf}
+use Rattle.step_parts.specs.Delivery.{Arrival, arrivalOf}
 use Rattle.run.specs.declared.Ending.the-variants.{Done}
 use Rattle.next_step.specs.declared.Touched.{Touched}
 use Rattle.next_step.specs.Told.{touchedIn}

@@ -16,8 +16,8 @@ abbrev μ-loop : tie.MeasureT-loop
 loop-holds : tie.Need-loop-holds Inv-loop μ-loop
 loop-holds c = search needs
 
-told-step-requires : tie.Need-told-step-requires Inv-loop μ-loop
-told-step-requires c κs = search needs
+printed-step-requires : tie.Need-printed-step-requires Inv-loop μ-loop
+printed-step-requires c κs = search needs
 
 one-step-requires : tie.Need-one-step-requires Inv-loop μ-loop
 one-step-requires c κs = search needs
@@ -71,7 +71,7 @@ sit-beside-spec =
     Inv-loop
     μ-loop
     loop-holds
-    told-step-requires
+    printed-step-requires
     one-step-requires
     is-over-requires
     print-compared-requires

@@ -4,8 +4,8 @@ use borrow.Author.Needs.{needs}
 use Rattle.machine.specs.declared.Machine.{Machine}
 use Rattle.machine.specs.Outcome.{illegal, plainOutcome}
 use Rattle.machine.specs.Step.{performBy}
-use Rattle.parts.specs.Delivery.{delivered}
-use Rattle.parts.proofs.DeliveryLaws.{raise-delivered}
+use Rattle.step_parts.specs.Delivery.{delivered}
+use Rattle.step_parts.proofs.DeliveryLaws.{raise-delivered}
 use Rattle.step.proofs.obeying.perform.Statement.{statement}
 use Rattle.step.proofs.obeying.perform.Tie as tie
 

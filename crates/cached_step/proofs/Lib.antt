@@ -1,0 +1,5 @@
+-- What is proved of the cached step.
+pub mod FormLaws
+pub mod WindowLaws
+pub mod Theorems
+pub mod TurnLaws

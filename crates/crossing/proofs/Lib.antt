@@ -1,4 +1,0 @@
--- Laws of the kept steps that may leave the windows or change the mode.
-pub mod CodeLaws
-pub mod DeviceLaws
-pub mod ModeLaws

@@ -1,3 +1,0 @@
--- What a step that is handed windows answers and leaves, and what is proved of it.
-pub mod KeptStep
-pub mod Theorems

@@ -1,2 +1,0 @@
--- The laws of the look before a step.
-pub mod LookingLaws

@@ -1,2 +1,0 @@
--- What the look before a step promises.
-pub mod Looking

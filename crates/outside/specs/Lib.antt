@@ -1,2 +1,0 @@
--- Which quiet steps are made outside the windows, and what such a step and a stretch of them leave.
-pub mod Outside

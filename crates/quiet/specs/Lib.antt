@@ -1,2 +1,0 @@
--- What a quiet step answers and leaves.
-pub mod Quiet

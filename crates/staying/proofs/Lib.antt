@@ -1,2 +1,0 @@
--- The laws of kept steps one after the other.
-pub mod StayLaws

@@ -1,2 +1,0 @@
--- What kept steps that stay in their window promise.
-pub mod Staying

@@ -1,0 +1,2 @@
+-- The laws of cached steps one after the other.
+pub mod WindowLoopLaws

@@ -1,0 +1,2 @@
+-- What cached steps that stay in their window promise.
+pub mod WindowLoop

@@ -1,0 +1,2 @@
+-- The laws of the look before a step.
+pub mod WindowMovesLaws

@@ -1,0 +1,2 @@
+-- What the look before a step promises.
+pub mod WindowMoves
