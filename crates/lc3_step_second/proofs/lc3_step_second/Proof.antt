@@ -18,5 +18,5 @@ lc3-step-second-spec 𝓤 H 𝓜 𝓖 𝓡 =
     entered 𝓤 H (tripleOf 𝓤 H (𝓖 .A) f.signature (f.spec 𝓤 H (𝓖 .A) (𝓜 .mem) (𝓡 .run)))
     (tables 𝓤 H 𝓜 𝓡 code.env .C) (tables 𝓤 H 𝓜 𝓡 code.env .Λ) #lc3-step-second code.function (code.unfolded 𝓤 H 𝓜 𝓡)
     (meets 𝓤 H (𝓖 .A) (givenOf 𝓤 H 𝓜 𝓖) true #one-step (tablesOf 𝓤 H 𝓜 (tables 𝓤 H 𝓜 𝓡 code.env))
-    (cited 𝓤 H (Step 𝓤 H (𝓖 .A)) 𝓜 𝓡 code.env #one-step one-step-routine code.calls-single·one-step
+    (cited 𝓤 H (Step 𝓤 H (𝓖 .A)) 𝓜 𝓡 code.env #one-step one-step-routine code.calls-single-step·one-step
     (one-step.met 𝓤 H 𝓜 𝓖 𝓡)))
