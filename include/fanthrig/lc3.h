@@ -502,6 +502,7 @@ lc3_logged_answer lc3_run_logged_second(lc3_record record, uint16_t *memory, siz
  *   writes   the word that ST, STR or STI replaces; or the two that an entry pushes, PSR's first
  *
  * A word that the step does not read does not matter to it, and one that it does not write stays.
+ * By the second edition TRAP is an instruction as any, told with reason 0: it enters nothing.
  */
 lc3_told lc3_tell(lc3_record record, const uint16_t *memory, size_t memory_len,
                   const uint64_t *times, size_t times_len, const uint8_t *bytes, size_t bytes_len);
