@@ -83,7 +83,7 @@ demo:
 # The archives are built from the crates that `rt ci` has just proved. Its verdict is repeated as the last line of all.
 test:
 	@echo "Everything: formatting, all proofs from nothing, wrong programs that must be refused, and then the host tests."
-	@echo "That takes about 50 minutes on two cores."
+	@echo "That takes about 40 minutes on two cores."
 	@tools/prerequisites
 	@$(MAKE) --no-print-directory format lint
 	@$(PROGRESS) build/ci.log rt ci
