@@ -62,7 +62,7 @@ pub fn run_logged_by(
     }
 }
 
-// The logged run of n steps by the rules of document 01, the third edition's.
+// The logged run of n steps by the third edition's rules (M26).
 pub fn run_logged(
     m: Machine,
     memory: &mut [u16],

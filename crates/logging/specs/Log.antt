@@ -1,5 +1,5 @@
--- The log: "A logged run writes three words a step to a lent log." It is defined by either edition: what may be fetched
--- is the edition's to say. The names without `By` are those of document 01's step, the third edition's.
+-- The log (M26): "A logged run writes three words a step to a lent log." It is defined by either edition (M27.9): what
+-- may be fetched is the edition's to say. The names without `By` are those of the third edition's step.
 use Prim.Native.Nat.{ℕ, zero, suc, _+_}
 use mathlib.Core.Bool.{Bool}
 use mathlib.Core.List.{List, [], _∷_, _++_}

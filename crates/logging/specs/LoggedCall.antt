@@ -19,7 +19,7 @@ loggedAdmittedBy edition (Rejected r) s log n = withLog (Run (Refused r)) (begin
 unfoldable pub loggedCallBy : Edition → Start → List ℕ → ℕ → Logged
 loggedCallBy edition s log n = loggedAdmittedBy edition (admissionOf s n) s log n
 
--- The call of a logged run by document 01's step, and by the second edition's.
+-- The call of a logged run by the third edition's step (M26), and by the second's (M27.9).
 abbrev pub loggedCallOf : Start → List ℕ → ℕ → Logged
 loggedCallOf = loggedCallBy third
 
