@@ -1,5 +1,4 @@
 -- What is proved of the cached step.
-pub mod FormLaws
 pub mod WindowLaws
 pub mod Theorems
 pub mod TurnLaws

@@ -1,0 +1,2 @@
+-- The laws of a part of a stretch of the long run.
+pub mod PartLaws

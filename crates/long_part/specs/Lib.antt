@@ -1,0 +1,2 @@
+-- What a part of a stretch of the long run promises.
+pub mod Parts

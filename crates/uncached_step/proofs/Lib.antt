@@ -1,0 +1,2 @@
+-- The laws of a fast step outside the windows.
+pub mod StepLaws

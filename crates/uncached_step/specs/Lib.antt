@@ -1,0 +1,2 @@
+-- What a fast step outside the windows promises.
+pub mod UncachedStep

@@ -1,0 +1,4 @@
+-- Laws of a round of a cached run.
+pub mod StepLaws
+pub mod StopLaws
+pub mod RoundLaws

@@ -1,0 +1,2 @@
+-- What a round of a cached run promises.
+pub mod WindowRound
