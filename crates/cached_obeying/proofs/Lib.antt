@@ -1,0 +1,2 @@
+-- The law of what is delivered, with the windows.
+pub mod WindowLaws

@@ -1,0 +1,2 @@
+-- What a fetch with windows promises.
+pub mod CachedObeying
