@@ -156,7 +156,7 @@ fn attempt_in(
     requires { ⌜ size ≤ length (now memory) ⌝ }
 {
     let mut output = BLANK;
-    let a = run_loop::run(m, &mut memory[0..size], times, bytes, &mut output, n);
+    let a = run_call::run(m, &mut memory[0..size], times, bytes, &mut output, n);
     column(text);
     print_answer(a.report, unaltered(m, a.machine, memory, &output));
 }
