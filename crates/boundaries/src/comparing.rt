@@ -35,19 +35,30 @@ fn same_words(a: &[u16], b: &[u16]) -> bool {
     true
 }
 
+// Every number of the record but the registers and the clock.
+fn words_of(m: Machine) -> [u16; 11] {
+    let d = m.devices;
+    [
+        m.pc,
+        m.psr,
+        m.saved_ssp,
+        m.saved_usp,
+        d.kbsr,
+        d.kbdr,
+        d.mcr,
+        d.busy,
+        d.timer_status,
+        d.timer_interval,
+        d.timer_count,
+    ]
+}
+
 pub(crate) fn same_record(a: Machine, b: Machine) -> bool {
     let x = a.regs;
     let y = b.regs;
+    let v = words_of(a);
+    let w = words_of(b);
     let registers = same_words(&x, &y);
-    let control = a.pc == b.pc
-        && a.psr == b.psr
-        && a.saved_ssp == b.saved_ssp
-        && a.saved_usp == b.saved_usp;
-    let c = a.devices;
-    let d = b.devices;
-    let devices = c.kbsr == d.kbsr && c.kbdr == d.kbdr && c.mcr == d.mcr && c.busy == d.busy;
-    let timer = c.timer_status == d.timer_status
-        && c.timer_interval == d.timer_interval
-        && c.timer_count == d.timer_count;
-    registers && control && devices && timer && a.clock == b.clock
+    let words = same_words(&v, &w);
+    registers && words && a.clock == b.clock
 }

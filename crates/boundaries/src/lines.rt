@@ -6,6 +6,8 @@ use machine::Machine;
 use run::Ending;
 use run::Refusal;
 use run::Report;
+ghost use Prim.Native.Nat.{_≤_};
+ghost use lib.ListN.{length};
 
 // The output as it is lent.
 const BLANK: [u8; 16] = [0xAA; 16];
@@ -67,15 +69,29 @@ fn print_count(text: &[u8], n: u64) {
     io::print_decimal(1, n);
 }
 
-fn print_refusal(r: Refusal) {
+fn refusal_number(r: Refusal) -> u64 {
     match r {
-        Refusal::MemorySize => print(b"refused 11"),
-        Refusal::UndefinedRecord => print(b"refused 12"),
-        Refusal::TooManySteps => print(b"refused 13"),
-        Refusal::UnequalLists => print(b"refused 14"),
-        Refusal::TimeBelowClock(i) => print_count(b"refused 15 at entry ", i as u64),
-        Refusal::TimesOutOfOrder(i) => print_count(b"refused 19 at entry ", i as u64),
+        Refusal::MemorySize => 11,
+        Refusal::UndefinedRecord => 12,
+        Refusal::TooManySteps => 13,
+        Refusal::UnequalLists => 14,
+        Refusal::TimeBelowClock(_) => 15,
+        Refusal::TimesOutOfOrder(_) => 19,
     }
+}
+
+// The entry of the key lists that a refusal names, if it names one.
+fn print_entry(r: Refusal) {
+    match r {
+        Refusal::TimeBelowClock(i) => print_count(b" at entry ", i as u64),
+        Refusal::TimesOutOfOrder(i) => print_count(b" at entry ", i as u64),
+        _ => {}
+    }
+}
+
+fn print_refusal(r: Refusal) {
+    print_count(b"refused ", refusal_number(r));
+    print_entry(r);
 }
 
 fn print_ending(e: Ending) {
@@ -95,6 +111,14 @@ fn is_refused(e: Ending) -> bool {
     }
 }
 
+fn print_same(same: bool) {
+    if same {
+        print(b", all as handed in");
+    } else {
+        print(b", ALTERED");
+    }
+}
+
 // The rest of the line: how the call ended, its counts, and for a refusal whether all is as handed in.
 fn print_answer(r: Report, same: bool) {
     let ending = r.ending;
@@ -103,11 +127,7 @@ fn print_answer(r: Report, same: bool) {
     print_count(b", keys ", r.keys as u64);
     print_count(b", bytes ", r.shown as u64);
     if is_refused(ending) {
-        if same {
-            print(b", all as handed in");
-        } else {
-            print(b", ALTERED");
-        }
+        print_same(same);
     }
     print(b"\n");
 }
@@ -123,17 +143,29 @@ fn unaltered(m: Machine, after: Machine, memory: &[u16], output: &[u8]) -> bool 
     check::same(output, &BLANK)
 }
 
-// Makes the call and prints its line.
-pub(crate) fn attempt(
+// Makes the call with the first words of memory, and prints its line.
+fn attempt_in(
     text: &[u8],
     m: Machine,
     memory: &mut [u16],
+    size: usize,
     times: &[u64],
     bytes: &[u8],
     n: u64,
-) {
+)
+    requires { ⌜ size ≤ length (now memory) ⌝ }
+{
     let mut output = BLANK;
-    let a = run_loop::run(m, memory, times, bytes, &mut output, n);
+    let a = run_call::run(m, &mut memory[0..size], times, bytes, &mut output, n);
     column(text);
     print_answer(a.report, unaltered(m, a.machine, memory, &output));
+}
+
+// The same with so many words of memory.
+pub(crate) fn attempt(text: &[u8], m: Machine, size: usize, times: &[u64], bytes: &[u8], n: u64)
+    requires { ⌜ size ≤ 65537 ⌝ }
+{
+    let mut memory = [0u16; 65537];
+    fill(&mut memory);
+    attempt_in(text, m, &mut memory, size, times, bytes, n);
 }

@@ -128,7 +128,7 @@ fn one_step(m: Machine, memory: &mut [u16], times: &[u64], bytes: &[u8], at: usi
     requires { ⌜ length (now times) ≡ length (now bytes) ⌝ }
 {
     let mut shown = [0u8; 1];
-    run_loop::run(m, memory, &times[at..], &bytes[at..], &mut shown, 1)
+    run_call::run(m, memory, &times[at..], &bytes[at..], &mut shown, 1)
 }
 
 // The same, with a line where the step leaves User mode.

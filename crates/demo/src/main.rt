@@ -101,7 +101,7 @@ fn stolen(answers: &[u8]) -> u8 {
     start_file(answers, &mut memory, false);
     let started = start_file(&ATTACK, &mut memory, false);
     let mut shown = [0u8; 1];
-    run_loop::run(
+    run_call::run(
         started.machine,
         &mut memory,
         &TIMES[0..0],

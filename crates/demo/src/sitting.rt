@@ -100,7 +100,7 @@ fn call_on(
     requires { ⌜ at ≤ length (now times) ⌝ }
     requires { ⌜ length (now times) ≡ length (now bytes) ⌝ }
 {
-    let a = run_loop::run(m, memory, &times[at..], &bytes[at..], part, STEPS);
+    let a = run_call::run(m, memory, &times[at..], &bytes[at..], part, STEPS);
     row(call, a.machine, a.report, part);
     a
 }

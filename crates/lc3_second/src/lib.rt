@@ -6,7 +6,7 @@ use answers::answer_of;
 use answers::refused;
 use machine::Machine;
 use run::Admission;
-use run_loop::stepping::run_accepted;
+use run_call::run_accepted;
 ghost use mathlib.Core.Path.{_≡_};
 ghost use Rattle.run.specs.Call.{startOf, secondCallOf};
 ghost use Rattle.answers.specs.Answer.{answerOf, answered};

@@ -1,11 +1,11 @@
 // What the next step of a run does, told without making it, for hosts in C and Rust: by the third edition's rules, and
 // by the second's.
 use answers::report_of;
+use loop_parts::entries::rule_number;
 use machine::Machine;
 use next_step::Addresses;
 use next_step::Told;
 use run::Report;
-use run_loop::entries::rule_number;
 ghost use mathlib.Core.Path.{_≡_};
 ghost use mathlib.Core.List.{List};
 ghost use Prim.Native.Nat.{ℕ};

@@ -75,7 +75,7 @@ pub record RunsInPlace (m : Machine) : Type 0 where
       (record { machine = m; steps = 0x18081; keys = 0x8083; shown = 0x8085; index = 4; refusal = 5; stop = 6 })
       (8 ∷ []) (9 ∷ [])
       ≡ placed m 4 5 6
-  -- the run of crate `run_loop`, and the step of crate `single_step`
+  -- the run of crate `run_call`, and the step of crate `single_step`
   pub run : endOf (record { machine = m; report = report Halted }) (8 ∷ []) (9 ∷ []) ≡ ended m Halted
 
 -- ---- a logged run

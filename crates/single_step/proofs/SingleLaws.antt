@@ -14,9 +14,9 @@ use Rattle.step.specs.declared.Stepped.{Stepped}
 use Rattle.run.specs.declared.Ending.the-variants.{Done, Halted, OutputFull}
 use Rattle.run.specs.Run.{Start, End, begin, endedBy, isHalted, runBy}
 use Rattle.run.proofs.RunLaws.{one-more-makes-a-step, one-more-halts, one-more-fills}
-use Rattle.run_loop.specs.Stepping.{isFullDisplay, shownCount, movedTo, movesOf}
+use Rattle.loop_parts.specs.Stepping.{isFullDisplay, shownCount, movedTo, movesOf}
 use Rattle.fast_loop.specs.Standing.{standing}
-use Rattle.run_loop.proofs.LoopLaws.{Turned, was-full, was-made, each-turn-of-loop}
+use Rattle.loop_parts.proofs.LoopLaws.{Turned, was-full, was-made, each-turn-of-loop}
 
 module _ (edition : Edition) (s : Start) where
   pub single-halts : s .machine .devices .mcr < 0x8000 → endedBy Halted (begin s) ≡ runBy (stepBy edition) s 1

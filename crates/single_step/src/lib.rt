@@ -1,14 +1,14 @@
 // The single step by value: what a run with n = 1 answers, made with no loop. It has the run's refusals and stops, and
 // the step that every loop makes. The calls of hosts, on a record that is lent, are `one_step` by proofs/LentRecord.
 use answers::Lc3Report;
+use loop_parts::advance;
+use loop_parts::is_full;
+use loop_parts::shown_count;
 use machine::Machine;
 use run::Admission;
 use run::Answer;
 use run::Ending;
 use run::Report;
-use run_loop::stepping::advance;
-use run_loop::stepping::is_full;
-use run_loop::stepping::shown_count;
 ghost use mathlib.Core.Path.{_≡_};
 ghost use mathlib.Core.List.{List};
 ghost use Prim.Native.Nat.{ℕ, _+_, _^_, _≤_};

@@ -7,7 +7,7 @@ use Rattle.machine.specs.Edition.{editionOf}
 use Rattle.machine.specs.Record.{whole}
 use Rattle.run.specs.Run.{Start, begin, endedBy}
 use Rattle.run.specs.Call.{startOf}
-use Rattle.run_loop.specs.Stepping.{Moved, movedTo, movesOf}
+use Rattle.loop_parts.specs.Stepping.{Moved, movedTo, movesOf}
 use Rattle.single_step.proofs.SingleLaws.{single-halts, single-makes, single-fills}
 use borrow.Author.Needs.{needs}
 use Rattle.single_step.proofs.step_accepted.Statement.{statement}

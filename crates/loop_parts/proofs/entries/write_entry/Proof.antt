@@ -1,4 +1,4 @@
--- `run_loop::entries::write_entry` meets its contract: its three stores, one after the other.
+-- `loop_parts::entries::write_entry` meets its contract: its three stores, one after the other.
 use Prim.Native.Nat.{ℕ, suc, _+_}
 use native.Mathlib.Omega.{arith}
 use mathlib.Core.Path.{_≡_, refl}
@@ -6,8 +6,8 @@ use mathlib.Core.List.{List, [], _∷_}
 use lib.ListN.{set}
 use lib.Seq.{lt-length-set, sets}
 use borrow.Author.Needs.{needs}
-use Rattle.run_loop.proofs.entries.write_entry.Statement.{statement}
-use Rattle.run_loop.proofs.entries.write_entry.Tie as tie
+use Rattle.loop_parts.proofs.entries.write_entry.Statement.{statement}
+use Rattle.loop_parts.proofs.entries.write_entry.Tie as tie
 
 three-stores : (l : List ℕ) (at a b c : ℕ)
     → set (set (set l at a) (at + 1) b) (at + 2) c ≡ sets l at (a ∷ b ∷ c ∷ [])

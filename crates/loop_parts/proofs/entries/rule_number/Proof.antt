@@ -1,7 +1,7 @@
--- `run_loop::entries::rule_number` meets its contract: each rule has its number.
+-- `loop_parts::entries::rule_number` meets its contract: each rule has its number.
 use borrow.Author.Needs.{needs}
-use Rattle.run_loop.proofs.entries.rule_number.Statement.{statement}
-use Rattle.run_loop.proofs.entries.rule_number.Tie as tie
+use Rattle.loop_parts.proofs.entries.rule_number.Statement.{statement}
+use Rattle.loop_parts.proofs.entries.rule_number.Tie as tie
 
 instruction : tie.Need-returns
 instruction c = rw (c .enum-told .given .1)
