@@ -3,7 +3,7 @@
 use Prim.Native.Nat.{ℕ}
 use mathlib.Core.Path.{_≡_}
 use mathlib.Core.Bool.{true, false}
-use mathlib.Core.List.{List, [], _∷_, map}
+use mathlib.Core.List.{List, [], _∷_, _++_, map}
 use lib.ListN.{length, getD, replicate}
 use Rattle.word.specs.Mask.{placesOf}
 use Rattle.machine.specs.Record.{Timer}
@@ -16,7 +16,6 @@ use Rattle.machine.specs.Exclusions.{Exclusion, lea, jsrr-r7, privileged-addres
 use Rattle.machine.specs.Exclusions.{trap as trapMet}
 use Rattle.machine.specs.Rows.{Fact, R, PC, PSR, KBSR, TSR, key, word, Moment, applied, recordOf, memoryWith}
 use Rattle.machine.specs.Rows.{userMode, supervisorMode}
-use Rattle.machine.specs.Rows.{withWord as wordPut}
 use Rattle.run.specs.Call.{startOf}
 use Rattle.run.specs.OneAlteredWord.{withWord, only}
 use Rattle.rows.specs.OtherRecords.{elsewhere}
@@ -26,11 +25,7 @@ use Rattle.rows.specs.OtherRecords.{elsewhere}
 -- Each part begins and ends with a word of its own.
 abbrev pub bordered : List ℕ
 bordered =
-    wordPut
-    (wordPut
-    (wordPut (wordPut (wordPut (wordPut (replicate 65536 0) 0xFFFF 6) 0xFE00 5) 0xFDFF 4) 0x3000 3)
-    0x2FFF 2)
-    0x0000 1
+    1 ∷ replicate 0x2FFE 0 ++ 2 ∷ 3 ∷ replicate 0xCDFE 0 ++ 4 ∷ 5 ∷ replicate 0x01FE 0 ++ 6 ∷ []
 
 -- How long a list is, and its first and last words.
 abbrev pub borders : List ℕ → List ℕ → List ℕ
