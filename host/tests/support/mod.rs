@@ -128,6 +128,13 @@ impl<T: Copy + PartialEq> Lent<T> {
     }
 }
 
+/// Leaves bytes on the stack, where a call that begins now has its own variables: what reads a byte
+/// before it has written it comes to something else by that than on a stack of zeros.
+#[inline(never)]
+fn fill_stack(byte: u8) {
+    std::hint::black_box(&[byte; 32768]);
+}
+
 /// The four buffers that a call is lent.
 pub struct Buffers {
     pub memory: Lent<u16>,
@@ -226,6 +233,7 @@ impl Buffers {
     ) -> Answer {
         let (times, bytes) = (&self.times.get()[keys..], &self.bytes.get()[keys..]);
         let (memory, output) = (self.memory.get_mut(), &mut self.output.get_mut()[shown..]);
+        fill_stack(n as u8 | 1);
         // SAFETY: the pointers and lengths are those of four slices that do not overlap.
         unsafe {
             call(
@@ -252,6 +260,7 @@ impl Buffers {
     ) -> Report {
         let (times, bytes) = (&self.times.get()[keys..], &self.bytes.get()[keys..]);
         let (memory, output) = (self.memory.get_mut(), &mut self.output.get_mut()[shown..]);
+        fill_stack(record.pc as u8 | 1);
         // SAFETY: as in `run_by`; `record` is a reference of its own.
         unsafe {
             call(
