@@ -1,7 +1,7 @@
 -- What a host is told of the next step: refusal, index and stop, and the reason, as their numbers.
 use Rattle.machine.specs.Rules.{ruleNumber}
 use Rattle.run.specs.Refusals.{endingRefusal, endingIndex, endingStop}
-use Rattle.next_step.specs.declared.Told.{Told}
+use Rattle.telling.specs.declared.Told.{Told}
 use Rattle.lc3_telling.specs.declared.Lc3Told.{Lc3Told}
 
 abbrev pub toldAnswer : Told → Lc3Told

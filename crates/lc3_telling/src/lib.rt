@@ -3,15 +3,15 @@
 use answers::report_of;
 use loop_parts::entries::rule_number;
 use machine::Machine;
-use next_step::Addresses;
-use next_step::Told;
 use run::Report;
+use telling::Addresses;
+use telling::Told;
 ghost use mathlib.Core.Path.{_≡_};
 ghost use mathlib.Core.List.{List};
 ghost use Prim.Native.Nat.{ℕ};
 ghost use Rattle.machine.specs.Edition.{third, second};
 ghost use Rattle.run.specs.Call.{startOf};
-ghost use Rattle.next_step.specs.Told.{toldBy};
+ghost use Rattle.telling.specs.Told.{toldBy};
 ghost use Rattle.lc3_telling.specs.ToldAnswer.{toldAnswer};
 
 // What is told, 40 bytes: `refusal` and `index` as a run of one step answers them; `stop` is done, 0, or halted, 1.

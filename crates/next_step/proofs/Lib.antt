@@ -1,4 +1,2 @@
--- Laws that the functions' proofs cite; that nothing is left out; and the rows, computed.
+-- Laws that the functions' proofs cite.
 mod TouchLaws
-pub mod Whole
-pub mod ToldExamples

@@ -12,9 +12,9 @@ use Rattle.machine.specs.Outcome.{Outcome, touching, withReads}
 use Rattle.machine.specs.Devices.{KBSR, KBDR, DSR, DDR, TSR, TIR, PSR, isDeviceBy, lentWordBy, ddrStore, deviceStore}
 use Rattle.machine.specs.Devices.{storedBy}
 use Rattle.machine.proofs.Tests.{either-branch}
-use Rattle.next_step.specs.declared.Addresses.{Addresses}
-use Rattle.next_step.specs.declared.Touched.{Touched}
-use Rattle.next_step.specs.Told.{prepended, addressesOf, untouched, afterPointer, touchedIn}
+use Rattle.telling.specs.declared.Addresses.{Addresses}
+use Rattle.telling.specs.declared.Touched.{Touched}
+use Rattle.telling.specs.Told.{prepended, addressesOf, untouched, afterPointer, touchedIn}
 
 -- The lent word behind an address, before others and by itself.
 lent-first : (e : Edition) (a : ℕ) (l : List ℕ)

@@ -4,6 +4,8 @@ use machine::Machine;
 use machine::Rule;
 use run::Admission;
 use run::Ending;
+use telling::Told;
+use telling::Touched;
 ghost use mathlib.Core.Path.{_≡_};
 ghost use mathlib.Core.List.{List};
 ghost use Prim.Native.Nat.{ℕ};
@@ -14,33 +16,10 @@ ghost use Rattle.machine.specs.Keys.{keysDue};
 ghost use Rattle.machine.specs.Rules.{isInterrupt, fetchedWordBy};
 ghost use Rattle.machine.specs.Step.{stepBy};
 ghost use Rattle.run.specs.Call.{startOf};
-ghost use Rattle.next_step.specs.Told.{untold, toldOf, toldBy, toldNext};
+ghost use Rattle.telling.specs.Told.{untold, toldOf, toldBy, toldNext};
 
 pub mod lists;
 pub mod touching;
-
-// The addresses of lent words, in the order of the step: so many of the three, and the others 0.
-#[repr(C)]
-pub struct Addresses {
-    pub count: u16,
-    pub first: u16,
-    pub second: u16,
-    pub third: u16,
-}
-
-// By which rule a step is made, and the lent words that it takes and stores to.
-pub struct Touched {
-    pub rule: Rule,
-    pub reads: Addresses,
-    pub writes: Addresses,
-}
-
-// What is told: a step, where the ending is done, with the word that it fetches; or why none would be made.
-pub struct Told {
-    pub ending: Ending,
-    pub word: u16,
-    pub touched: Touched,
-}
 
 // No step would be made.
 fn nothing(ending: Ending) -> Told

@@ -1,5 +1,4 @@
 // Lists of at most three addresses.
-use crate::Addresses;
 use machine::addresses::DDR;
 use machine::addresses::DSR;
 use machine::addresses::KBDR;
@@ -9,6 +8,7 @@ use machine::addresses::PSR;
 use machine::addresses::TIR;
 use machine::addresses::TSR;
 use step_parts::words::before;
+use telling::Addresses;
 ghost use mathlib.Core.Path.{_≡_};
 ghost use mathlib.Core.Bool.{cond};
 ghost use mathlib.Core.List.{[], _∷_};
@@ -16,7 +16,7 @@ ghost use Prim.Native.Nat.{_+_, min};
 ghost use Rattle.machine.specs.Edition.{editionOf};
 ghost use Rattle.machine.specs.Words.{before};
 ghost use Rattle.machine.specs.Devices.{isDeviceBy};
-ghost use Rattle.next_step.specs.Told.{prepended, addressesOf};
+ghost use Rattle.telling.specs.Told.{prepended, addressesOf};
 
 pub fn none() -> Addresses
     ensures { λ r. ⌜ r ≡ addressesOf [] ⌝ }

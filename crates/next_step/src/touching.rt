@@ -1,6 +1,5 @@
 // The lent words that each plan takes and stores to, and by which rule: the accesses of crate `step_parts` without
 // their effects. Each address is checked first.
-use crate::Touched;
 use crate::lists::below;
 use crate::lists::none;
 use crate::lists::prepend;
@@ -20,6 +19,7 @@ use step_parts::memory::word_at;
 use step_parts::protection::is_denied;
 use step_parts::words::next;
 use step_parts::words::register;
+use telling::Touched;
 ghost use mathlib.Core.Path.{_≡_};
 ghost use mathlib.Core.List.{List};
 ghost use Prim.Native.Nat.{ℕ};
@@ -32,7 +32,7 @@ ghost use Rattle.machine.specs.Entry.{stackPointerOnEntry, entry};
 ghost use Rattle.machine.specs.Access.{loadToBy, storeAtBy, byPointerBy};
 ghost use Rattle.machine.specs.Return.{return};
 ghost use Rattle.machine.specs.Step.{performBy, obeyedBy, interruptedOrObeyedBy};
-ghost use Rattle.next_step.specs.Told.{afterPointer, touchedIn, untouched};
+ghost use Rattle.telling.specs.Told.{afterPointer, touchedIn, untouched};
 
 // An instruction that touches no lent word but the one fetched.
 fn untouched() -> Touched

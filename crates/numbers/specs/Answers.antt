@@ -22,7 +22,7 @@ use Rattle.object.specs.Calls.{loading}
 use Rattle.start.specs.Start.{starting}
 use Rattle.answers.specs.Answer.{Answered, answerOf, reportOf, reported, answered}
 use Rattle.lc3_logging.specs.LoggedAnswer.{LoggedAnswered, loggedAnswerOf, loggedAnswered}
-use Rattle.next_step.specs.declared.Addresses.{Addresses}
+use Rattle.telling.specs.declared.Addresses.{Addresses}
 use Rattle.lc3_telling.specs.ToldAnswer.{toldAnswer}
 use Rattle.lc3_objects.specs.Answers.{hostStarting}
 use Rattle.lc3_words.specs.Flat.{flat, flatReadOf}

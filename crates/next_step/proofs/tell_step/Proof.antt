@@ -12,8 +12,8 @@ use Rattle.machine.specs.Rules.{fetchedWordBy}
 use Rattle.machine.specs.Step.{interruptedOrObeyedBy, afterStart, ended, stepBy}
 use Rattle.step_parts.specs.Delivery.{Arrival, arrivalOf}
 use Rattle.run.specs.declared.Ending.the-variants.{Done}
-use Rattle.next_step.specs.declared.Touched.{Touched}
-use Rattle.next_step.specs.Told.{touchedIn}
+use Rattle.telling.specs.declared.Touched.{Touched}
+use Rattle.telling.specs.Told.{touchedIn}
 use borrow.Author.Needs.{needs}
 use Rattle.next_step.proofs.tell_step.Statement.{statement}
 use Rattle.next_step.proofs.tell_step.Tie as tie

@@ -7,7 +7,7 @@ use Rattle.machine.specs.Outcome.{access}
 use Rattle.machine.specs.Devices.{loadedValueBy, afterLoad}
 use Rattle.machine.specs.Entry.{raised}
 use Rattle.machine.specs.Access.{loadToBy, byPointerBy}
-use Rattle.next_step.specs.Told.{afterPointer, touchedIn}
+use Rattle.telling.specs.Told.{afterPointer, touchedIn}
 use Rattle.next_step.proofs.TouchLaws.{pointer-touches}
 use borrow.Author.Needs.{needs}
 use Rattle.next_step.proofs.touching.load_by.Statement.{statement}

@@ -9,8 +9,8 @@ use Rattle.machine.specs.Outcome.{access, withReads}
 use Rattle.machine.specs.Entry.{raised}
 use Rattle.machine.specs.Plan.{planBy}
 use Rattle.machine.specs.Step.{performBy, obeyedBy}
-use Rattle.next_step.specs.declared.Touched.{Touched}
-use Rattle.next_step.specs.Told.{prepended, touchedIn}
+use Rattle.telling.specs.declared.Touched.{Touched}
+use Rattle.telling.specs.Told.{prepended, touchedIn}
 use borrow.Author.Needs.{needs}
 use Rattle.next_step.proofs.touching.obey.Statement.{statement}
 use Rattle.next_step.proofs.touching.obey.Tie as tie

@@ -1,5 +1,5 @@
--- Nothing is left out of what is told: no step reads more than three words (crate touched), none writes more than two,
--- by the definitions of its parts.
+-- Nothing is left out of what is told: no step reads more than three words (crate `footprint`), and none writes more
+-- than two, by the definitions of its parts.
 use Prim.Native.Nat.{ℕ, _≤_}
 use native.Mathlib.Omega.{arith}
 use mathlib.Core.Path.{_≡_, refl}
@@ -26,8 +26,8 @@ use Rattle.machine.proofs.Tests.{either-branch}
 use Rattle.footprint.proofs.FootprintLaws.{step-reads-at-most-three}
 use Rattle.run.specs.Run.{begin}
 use Rattle.logging.specs.Log.{nextRuleBy, entryBy}
-use Rattle.next_step.specs.Told.{addressesOf}
-use Rattle.next_step.specs.Whole.{wordsIn, StepsToldWhole, ToldAsLogged}
+use Rattle.telling.specs.Told.{addressesOf}
+use Rattle.telling.specs.Whole.{wordsIn, StepsToldWhole, ToldAsLogged}
 
 three-are-told : (l : List ℕ) → length l ≤ 3 → wordsIn (addressesOf l) ≡ l
 three-are-told [] few = refl

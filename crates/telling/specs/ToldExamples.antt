@@ -9,9 +9,9 @@ use Rattle.machine.specs.Rows.{Moment, Fact, number, R, PC, PSR, KBSR, MCR, wor
 use Rattle.machine.specs.Rows.{supervisorMode, memoryWith}
 use Rattle.run.specs.Refusals.{endingRefusal, endingIndex, endingStop}
 use Rattle.run.specs.Call.{startOf}
-use Rattle.next_step.specs.declared.Addresses.{Addresses}
-use Rattle.next_step.specs.declared.Told.{Told}
-use Rattle.next_step.specs.Told.{addressesOf, toldNext, toldBy}
+use Rattle.telling.specs.declared.Addresses.{Addresses}
+use Rattle.telling.specs.declared.Told.{Told}
+use Rattle.telling.specs.Told.{addressesOf, toldNext, toldBy}
 
 -- In numbers: refusal, index and stop; the word and the reason; then how many words are read, and which, and written.
 abbrev pub listed : Addresses → List ℕ → List ℕ

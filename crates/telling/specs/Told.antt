@@ -17,9 +17,9 @@ use Rattle.run.specs.declared.Ending.{Ending}
 use Rattle.run.specs.declared.Ending.the-variants.{Done, Halted, Refused}
 use Rattle.run.specs.Run.{Start, begin, nextStepBy, isHalted}
 use Rattle.run.specs.Refusals.{admissionOf}
-use Rattle.next_step.specs.declared.Addresses.{Addresses}
-use Rattle.next_step.specs.declared.Touched.{Touched}
-use Rattle.next_step.specs.declared.Told.{Told}
+use Rattle.telling.specs.declared.Addresses.{Addresses}
+use Rattle.telling.specs.declared.Touched.{Touched}
+use Rattle.telling.specs.declared.Told.{Told}
 
 -- One address more, before the others. Of a longer list the first three are told; a step's is never longer.
 abbrev pub prepended : ℕ → Addresses → Addresses

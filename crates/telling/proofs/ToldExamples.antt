@@ -2,7 +2,7 @@
 use mathlib.Core.Path.{refl}
 use Rattle.machine.specs.Rules.{fetchedWordBy}
 use Rattle.run.proofs.Opened.{opened}
-use Rattle.next_step.specs.ToldExamples.{ToldExamplesHold}
+use Rattle.telling.specs.ToldExamples.{ToldExamplesHold}
 
 pub told-examples-hold : ToldExamplesHold
 unfolding opened fetchedWordBy

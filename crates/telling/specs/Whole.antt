@@ -11,9 +11,9 @@ use Rattle.machine.specs.Rules.{ruleNumber}
 use Rattle.machine.specs.Step.{stepBy}
 use Rattle.run.specs.Run.{Start, begin, nextStepBy}
 use Rattle.logging.specs.Log.{entryBy}
-use Rattle.next_step.specs.declared.Addresses.{Addresses}
-use Rattle.next_step.specs.declared.Told.{Told}
-use Rattle.next_step.specs.Told.{touchedIn, toldOf}
+use Rattle.telling.specs.declared.Addresses.{Addresses}
+use Rattle.telling.specs.declared.Told.{Told}
+use Rattle.telling.specs.Told.{touchedIn, toldOf}
 
 -- The list that is told.
 abbrev pub wordsIn : Addresses → List ℕ

@@ -1,0 +1,3 @@
+-- Nothing is left out of what is told; and the rows, computed.
+pub mod Whole
+pub mod ToldExamples
