@@ -1,24 +1,15 @@
 // The test of a claim about any class's monitor (crates/sitting/specs/Test.antt): where the finding is 0, a sitting
-// beside that monitor tells nothing of its secret words (specs/Answer.antt). Every argument is accepted.
-mod finding;
+// beside that monitor tells nothing of its secret words (specs/Answer.antt of crates/findings). Every argument is
+// accepted.
 mod rows;
 mod state;
-mod vectors;
 
-use crate::finding::wrong;
+use findings::Certified;
+use findings::finding::wrong;
 ghost use mathlib.Core.Path.{_≡_};
-ghost use Rattle.certify.specs.Finding.{certifyOf};
+ghost use Rattle.findings.specs.Finding.{certifyOf};
 
-// What is wrong first: 0 nothing; 1 watched is not eight words; 2 the words leave no room for the stack; 3 a vector,
-// 4 an interrupt's vector, 5 a word that may change, but has states; 6 what is known of the stack in a state; 7 the
-// instruction from a state. With the address of the word, and the number of the state in the table.
-#[repr(C)]
-pub struct Certified {
-    pub finding: u32,
-    pub address: u32,
-    pub state: u32,
-}
-
+// What is wrong first (crates/findings).
 pub fn certify(
     memory: &[u16],
     kinds: &[u8],

@@ -1,19 +1,19 @@
 // The rows of the table, one for each word from x0200 on.
-use crate::Certified;
-use crate::finding::nothing_wrong;
-use crate::finding::wrong;
 use crate::state::wrong_in;
 use claims::cells::kind_at;
 use claims::cells::word_at;
 use claims::states::end_in;
 use claims::states::start_of;
+use findings::Certified;
+use findings::finding::nothing_wrong;
+use findings::finding::wrong;
 ghost use mathlib.Core.Path.{_≡_};
 ghost use Prim.Native.Nat.{_+_, _-_, _*_, _/_, _≤_, _<_, min};
 ghost use lib.ListN.{length, getD, drop};
 ghost use Rattle.word.specs.Reading.{readOf};
 ghost use Rattle.sitting.specs.Test.{cellAt};
 ghost use Rattle.claims.specs.Encoding.{cellOf, cellsOf, statesOf, rowOf, startOf, claimOf};
-ghost use Rattle.certify.specs.Finding.{wrongInRow, wrongAt, wrongInRows};
+ghost use Rattle.findings.specs.Finding.{wrongInRow, wrongAt, wrongInRows};
 
 // The first of these states with which something is wrong.
 fn wrong_in_row(

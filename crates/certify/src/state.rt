@@ -1,12 +1,12 @@
 // One state of the table: its stack is known, and the instruction from it is harmless.
-use crate::Certified;
-use crate::finding::nothing_wrong;
-use crate::finding::wrong;
 use claims::cells::kind_at;
 use claims::states::register;
 use claims::states::wide;
 use claims::values::low_word;
 use claims::values::says_all;
+use findings::Certified;
+use findings::finding::nothing_wrong;
+use findings::finding::wrong;
 use following::instruction::is_harmless;
 ghost use mathlib.Core.Path.{_≡_};
 ghost use mathlib.Core.List.{List};
@@ -15,7 +15,7 @@ ghost use lib.ListN.{length, take, drop};
 ghost use Rattle.word.specs.Reading.{readOf};
 ghost use Rattle.sitting.specs.Test.{Row, isKept, allKept, sound, valueIn};
 ghost use Rattle.claims.specs.Encoding.{valueOf, valuesOf, stateOf, claimWith, claimOf};
-ghost use Rattle.certify.specs.Finding.{wrongIn};
+ghost use Rattle.findings.specs.Finding.{wrongIn};
 
 // What an interrupt's two words cannot change: nothing is known of a watched word, or it is one of the monitor's own,
 // or of the stack from R6 on.

@@ -3,8 +3,8 @@ use mathlib.Core.Path.{_≡_, refl}
 use Rattle.sitting.specs.Values.{valueBy}
 use Rattle.sitting.proofs.Ours.{testing}
 use Rattle.claims.specs.Encoding.{cellOf, cellsOf, valueOf, valuesOf, stateOf, statesOf, rowsOf}
-use Rattle.certify.specs.Finding.{nothingWrong, wrong, unless, orElse, wrongVector, wrongInterrupt, wrongVectors}
-use Rattle.certify.specs.Finding.{wrongIn, wrongInRow, wrongAt, wrongInRows, wrongWith, certifyOf}
+use Rattle.findings.specs.Finding.{nothingWrong, wrong, unless, orElse, wrongVector, wrongInterrupt, wrongVectors}
+use Rattle.findings.specs.Finding.{wrongIn, wrongInRow, wrongAt, wrongInRows, wrongWith, certifyOf}
 use Rattle.certify_examples.specs.Monitor.{classWords, classKinds, classWatched, classRows, endsFrom, joined}
 use Rattle.certify_examples.specs.Examples.{answerOf, answerFor, answerWith, rowsWith, LeaksAreFound}
 use Rattle.certify_examples.specs.Examples.{StoresAreFound, UnfollowedIsFound, OtherFindings, ExamplesHold}

@@ -7,8 +7,8 @@ use lib.ListN.{replicate, take}
 use Rattle.machine.specs.Rows.{withWord}
 use Rattle.sitting.specs.Test.{own, hidden, Claim}
 use Rattle.claims.specs.Encoding.{claimWith}
-use Rattle.certify.specs.declared.Certified.{Certified}
-use Rattle.certify.specs.Finding.{nothingWrong, wrong, wrongVectors, wrongAt, wrongInRows, wrongWith, certifyOf}
+use Rattle.findings.specs.declared.Certified.{Certified}
+use Rattle.findings.specs.Finding.{nothingWrong, wrong, wrongVectors, wrongAt, wrongInRows, wrongWith, certifyOf}
 use Rattle.certify_examples.specs.Monitor.{classWords, classKinds, classWatched, stateWith, entry, classRows}
 use Rattle.certify_examples.specs.Monitor.{endsFrom, joined}
 

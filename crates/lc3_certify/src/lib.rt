@@ -1,7 +1,7 @@
 // The test of any class's monitor for hosts in C and Rust. The call accepts every argument.
-use certify::Certified;
+use findings::Certified;
 ghost use mathlib.Core.Path.{_≡_};
-ghost use Rattle.certify.specs.Finding.{certifyOf};
+ghost use Rattle.findings.specs.Finding.{certifyOf};
 
 #[no_mangle]
 pub extern "C" fn lc3_certify(

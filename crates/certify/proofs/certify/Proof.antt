@@ -4,7 +4,7 @@ use native.Mathlib.Omega.{arith}
 use mathlib.Core.Path.{sym, _∙_}
 use borrow.Author.Tests.{not-true, not-false}
 use Rattle.claims.specs.Encoding.{rowsOf}
-use Rattle.certify.proofs.FindingLaws.{wrong-watched, wrong-room, vectors-wrong, rows-left}
+use Rattle.findings.proofs.FindingLaws.{wrong-watched, wrong-room, vectors-wrong, rows-left}
 use Rattle.certify.proofs.certify.Statement.{statement}
 use Rattle.certify.proofs.certify.Tie as tie
 

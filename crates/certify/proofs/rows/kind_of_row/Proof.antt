@@ -3,7 +3,7 @@ use borrow.Author.Needs.{needs}
 use Prim.Native.Nat.{_+_}
 use native.Mathlib.Omega.{arith}
 use Rattle.claims.specs.Encoding.{cellsOf}
-use Rattle.certify.proofs.Laws.{cell-past}
+use Rattle.findings.proofs.Laws.{cell-past}
 use Rattle.certify.proofs.rows.kind_of_row.Statement.{statement}
 use Rattle.certify.proofs.rows.kind_of_row.Tie as tie
 

@@ -5,7 +5,7 @@ use native.Mathlib.Omega.{arith}
 use mathlib.Core.Path.{_≡_, _∙_}
 use lib.ListN.{getD}
 use Rattle.claims.specs.Encoding.{rowOf, startOf, claimOf}
-use Rattle.certify.proofs.FindingLaws.{row-fixed, row-fetched, row-empty}
+use Rattle.findings.proofs.FindingLaws.{row-fixed, row-fetched, row-empty}
 use Rattle.certify.proofs.rows.wrong_at.Statement.{statement}
 use Rattle.certify.proofs.rows.wrong_at.Tie as tie
 

@@ -6,8 +6,8 @@ use mathlib.Core.Path.{_≡_, refl, sym, _∙_}
 use lib.ListN.{drop}
 use Rattle.word.specs.Reading.{readOf}
 use Rattle.claims.specs.Encoding.{statesOf, claimOf}
-use Rattle.certify.specs.Finding.{wrongInRow}
-use Rattle.certify.proofs.FindingLaws.{found-first, found-second, states-step, states-end}
+use Rattle.findings.specs.Finding.{wrongInRow}
+use Rattle.findings.proofs.FindingLaws.{found-first, found-second, states-step, states-end}
 use Rattle.certify.proofs.rows.wrong_in_row.Statement.{statement}
 use Rattle.certify.proofs.rows.wrong_in_row.Tie as tie
 

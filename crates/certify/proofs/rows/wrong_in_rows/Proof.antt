@@ -5,8 +5,8 @@ use native.Mathlib.Omega.{arith}
 use mathlib.Core.Path.{_≡_, refl, sym, _∙_}
 use lib.ListN.{length, drop}
 use Rattle.claims.specs.Encoding.{startOf, claimOf}
-use Rattle.certify.specs.Finding.{wrongInRows}
-use Rattle.certify.proofs.FindingLaws.{found-first, found-second, rows-step, rows-end}
+use Rattle.findings.specs.Finding.{wrongInRows}
+use Rattle.findings.proofs.FindingLaws.{found-first, found-second, rows-step, rows-end}
 use Rattle.certify.proofs.rows.wrong_in_rows.Statement.{statement}
 use Rattle.certify.proofs.rows.wrong_in_rows.Tie as tie
 

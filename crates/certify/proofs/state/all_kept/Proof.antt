@@ -9,7 +9,7 @@ use mathlib.Core.List.{List}
 use lib.ListN.{drop}
 use Rattle.sitting.specs.Test.{Row, allKept}
 use Rattle.claims.specs.Encoding.{valuesOf, claimWith}
-use Rattle.certify.proofs.Laws.{kept-step, kept-end}
+use Rattle.findings.proofs.Laws.{kept-step, kept-end}
 use Rattle.certify.proofs.state.all_kept.Statement.{statement}
 use Rattle.certify.proofs.state.all_kept.Tie as tie
 

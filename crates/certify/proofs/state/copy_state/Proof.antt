@@ -3,7 +3,7 @@ use borrow.Author.Needs.{needs}
 use Prim.Native.Nat.{_-_, _≤_}
 use native.Mathlib.Omega.{arith}
 use mathlib.Core.Path.{_≡_}
-use Rattle.certify.proofs.Laws.{Copied, none-copied, copied-more, all-copied}
+use Rattle.findings.proofs.Laws.{Copied, none-copied, copied-more, all-copied}
 use Rattle.certify.proofs.state.copy_state.Statement.{statement}
 use Rattle.certify.proofs.state.copy_state.Tie as tie
 

@@ -6,7 +6,7 @@ use lib.ListN.{getD}
 use Rattle.sitting.specs.Values.{any, implies}
 use Rattle.claims.specs.Encoding.{valueOf, claimWith}
 use Rattle.claims.proofs.ValueLaws.{value-any}
-use Rattle.certify.proofs.Laws.{kept-any, kept-own, kept-below, kept-stack}
+use Rattle.findings.proofs.Laws.{kept-any, kept-own, kept-below, kept-stack}
 use Rattle.certify.proofs.state.is_kept.Statement.{statement}
 use Rattle.certify.proofs.state.is_kept.Tie as tie
 

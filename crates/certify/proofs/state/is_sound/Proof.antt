@@ -4,7 +4,7 @@ use native.Mathlib.Omega.{arith}
 use mathlib.Core.Path.{_∙_}
 use lib.ListN.{drop}
 use Rattle.claims.specs.Encoding.{valuesOf, claimWith}
-use Rattle.certify.proofs.Laws.{sound-no, sound-below, sound-above, sound-kept, words-of}
+use Rattle.findings.proofs.Laws.{sound-no, sound-below, sound-above, sound-kept, words-of}
 use Rattle.certify.proofs.state.is_sound.Statement.{statement}
 use Rattle.certify.proofs.state.is_sound.Tie as tie
 

@@ -9,8 +9,8 @@ use Rattle.word.specs.Reading.{readOf}
 use Rattle.sitting.specs.Test.{sound}
 use Rattle.claims.specs.Encoding.{valueOf, stateOf, rowsOf, claimOf}
 use Rattle.claims.proofs.StateLaws.{value-in}
-use Rattle.certify.proofs.Laws.{sound-bound}
-use Rattle.certify.proofs.FindingLaws.{wrong-stack, wrong-instruction, state-holds}
+use Rattle.findings.proofs.Laws.{sound-bound}
+use Rattle.findings.proofs.FindingLaws.{wrong-stack, wrong-instruction, state-holds}
 use Rattle.certify.proofs.state.wrong_in.Statement.{statement}
 use Rattle.certify.proofs.state.wrong_in.Tie as tie
 
