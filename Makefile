@@ -88,7 +88,7 @@ test:
 	@$(MAKE) --no-print-directory format lint
 	@$(PROGRESS) build/ci.log rt ci
 	@$(MAKE) --no-print-directory lib page
-	@$(MAKE) --no-print-directory -j2 -O host page-test release-test
+	@$(MAKE) --no-print-directory -j3 -O host page-test release-test
 	@tail -n 1 build/ci.log
 
 format:

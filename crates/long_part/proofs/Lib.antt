@@ -1,2 +1,0 @@
--- The laws of a part of a stretch of the long run.
-pub mod PartLaws

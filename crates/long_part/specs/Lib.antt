@@ -1,2 +1,0 @@
--- What a part of a stretch of the long run promises.
-pub mod Parts

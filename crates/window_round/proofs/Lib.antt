@@ -1,4 +1,0 @@
--- Laws of a round of a cached run.
-pub mod StepLaws
-pub mod StopLaws
-pub mod RoundLaws

@@ -1,2 +1,0 @@
--- What a round of a cached run promises.
-pub mod WindowRound
