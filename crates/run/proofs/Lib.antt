@@ -2,6 +2,7 @@
 pub mod Opened
 pub mod RefusedCalls
 pub mod RunLaws
+pub mod StandingLaws
 pub mod RunKeeps
 pub mod Acceptance
 pub mod RefusalLaws

@@ -15,7 +15,7 @@ use Rattle.run.specs.declared.Ending.the-variants.{Done, Halted, OutputFull}
 use Rattle.run.specs.Run.{Start, End, begin, endedBy, isHalted, runBy}
 use Rattle.run.proofs.RunLaws.{one-more-makes-a-step, one-more-halts, one-more-fills}
 use Rattle.loop_parts.specs.Stepping.{isFullDisplay, shownCount, movedTo, movesOf}
-use Rattle.fast_loop.specs.Standing.{standing}
+use Rattle.run.specs.Standing.{standing}
 use Rattle.loop_parts.proofs.LoopLaws.{Turned, was-full, was-made, each-turn-of-loop}
 
 module _ (edition : Edition) (s : Start) where
