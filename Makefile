@@ -83,12 +83,12 @@ demo:
 # The archives are built from the crates that `rt ci` has just proved. Its verdict is repeated as the last line of all.
 test:
 	@echo "Everything: formatting, all proofs from nothing, wrong programs that must be refused, and then the host tests."
-	@echo "That takes about 40 minutes on two cores."
+	@echo "That takes about 32 minutes on two cores."
 	@tools/prerequisites
 	@$(MAKE) --no-print-directory format lint
 	@$(PROGRESS) build/ci.log rt ci
 	@$(MAKE) --no-print-directory lib page
-	@$(MAKE) --no-print-directory -j3 -O host page-test release-test
+	@$(MAKE) --no-print-directory -j4 -O release-test page-test host
 	@tail -n 1 build/ci.log
 
 format:
