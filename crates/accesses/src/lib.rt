@@ -1,5 +1,7 @@
 // What a load or a store of a monitor leads to, from what is known before it (crates/sitting/specs/Test.antt). Each
 // function answers an address: 0 where the instruction may not be obeyed, since no table accepts anything there.
+#![tactic(auto)]
+
 ghost use Rattle.std.specs.Prelude.{◌≡◌, ◌||◌, List, ℕ, length, ℤ};
 ghost use Rattle.word.specs.Field.{bits};
 ghost use Rattle.machine.specs.Devices.{is_device};

@@ -1,5 +1,7 @@
 // What every call answers to hosts in C and Rust. Refusals and stops are answered by their numbers, since an enum can't
 // cross to C.
+#![tactic(auto)]
+
 ghost use Rattle.std.specs.Prelude.{◌≡◌, List, ℕ};
 ghost use Rattle.run.specs.declared.Ending.TheVariants.{Refused};
 ghost use Rattle.run.specs.Run.{begin, ended_by};

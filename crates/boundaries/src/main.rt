@@ -1,5 +1,7 @@
 // The boundaries of a run, after M12: each refusal where it begins, one line for
 // each call. The gate compares what is printed with the file stdout.
+#![tactic(auto)]
+
 ghost use Rattle.std.specs.Prelude.{◌≤◌, length};
 
 use lines::{attempt, heading, record, title};

@@ -1,6 +1,8 @@
 // The test of a claim about any class's monitor (crates/sitting/specs/Test.antt): where the finding is 0, a sitting
 // beside that monitor tells nothing of its secret words (specs/Answer.antt of crates/findings). Every argument is
 // accepted.
+#![tactic(auto)]
+
 mod rows;
 mod state;
 

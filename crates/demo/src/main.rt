@@ -1,5 +1,7 @@
 // A sitting: the ready-made monitor and a candidate's program on the machine, with recorded keys, in several calls.
 // The gate compares what is printed with the file stdout.
+#![tactic(auto)]
+
 use beside::{count_different, same_record, sit_beside};
 use machine::Machine;
 use printing::{print, print_number, print_shown};

@@ -1,5 +1,7 @@
 // What is found wrong with a claim about any class's monitor, and what follows where nothing is (specs/Answer.antt).
 // The crate `certify` computes it.
+#![tactic(auto)]
+
 pub mod finding;
 
 // What is wrong first: 0 nothing; 1 watched is not eight words; 2 the words leave no room for the stack; 3 a vector,

@@ -1,5 +1,7 @@
 // Puts the ready-made monitor into lent memory: the words x0000 to x01FF, which lead to its routines, and the routines
 // from x0200 on. `vectors` makes such words for any routines.
+#![tactic(auto)]
+
 ghost use Rattle.std.specs.Prelude.{◌≡◌, ◌+◌, ◌≤◌, length};
 ghost use Rattle.std.proofs.Math.Seq.{paste};
 ghost use Rattle.monitor.specs.Vectors.{ours};

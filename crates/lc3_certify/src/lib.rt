@@ -1,4 +1,6 @@
 // The test of any class's monitor for hosts in C and Rust. The call accepts every argument.
+#![tactic(auto)]
+
 ghost use Rattle.std.specs.Prelude.{◌≡◌};
 ghost use Rattle.findings.specs.Finding.{certify_of};
 

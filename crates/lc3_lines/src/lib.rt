@@ -1,5 +1,7 @@
 // Lines of text for hosts in C and Rust: the line of a word (M16), its length (M20) and the lines of a range of
 // memory (M19). Every call accepts every argument; the refusals are those of include/fanthrig/lc3.h.
+#![tactic(auto)]
+
 ghost use Rattle.std.specs.Prelude.{◌≡◌, length};
 ghost use Rattle.lent.specs.Lent.{host_counted, written_whole};
 ghost use Rattle.line.specs.Line.{line_of};

@@ -1,6 +1,8 @@
 // The logged run for hosts in C and Rust, by the rules of either edition, in an archive of its own: its loop calls the
 // step, and two loops in one archive would cost both their inlining. The two calls share one loop, which is told the
 // edition: it is a function by itself then, and takes less than within a call whose edition is a constant.
+#![tactic(auto)]
+
 ghost use Rattle.std.specs.Prelude.{◌≡◌, List, ℕ};
 ghost use Rattle.run.specs.Call.{start_of};
 ghost use Rattle.logging.specs.LoggedRun.{run_ending};

@@ -1,5 +1,7 @@
 // The run for long sittings, for hosts in C and Rust. It answers and leaves what `lc3_run` does, for every call; it
 // takes less time where a program stays in loops. Nothing is required of a caller.
+#![tactic(auto)]
+
 ghost use Rattle.std.specs.Prelude.{◌≡◌};
 ghost use Rattle.run.specs.Call.{start_of, call_of};
 ghost use Rattle.answers.specs.Answer.{answer_of, answered};

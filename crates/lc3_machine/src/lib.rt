@@ -1,4 +1,6 @@
 // The run (M12, M13) for hosts in C and Rust. Nothing is required of a caller.
+#![tactic(auto)]
+
 ghost use Rattle.std.specs.Prelude.{◌≡◌};
 ghost use Rattle.run.specs.Call.{start_of, call_of};
 ghost use Rattle.answers.specs.Answer.{answer_of, answered};

@@ -1,5 +1,7 @@
 // The ready-made monitor for hosts in C and Rust. Every call accepts every argument; the refusals are those of
 // include/fanthrig/lc3.h.
+#![tactic(auto)]
+
 ghost use Rattle.std.specs.Prelude.{◌≡◌};
 ghost use Rattle.monitor.specs.Vectors.{ours};
 ghost use Rattle.monitor.specs.Install.{filling, vectors_of, install_of};

@@ -1,5 +1,7 @@
 // Object files for hosts in C and Rust: a file loaded into lent memory and started, a candidate's file too, and one
 // written from a range of memory. The calls accept every argument; the refusals are those of include/fanthrig/lc3.h.
+#![tactic(auto)]
+
 ghost use Rattle.std.specs.Prelude.{◌≡◌};
 ghost use Rattle.lent.specs.Lent.{host_counted};
 ghost use Rattle.object.specs.Calls.{save_of};

@@ -1,6 +1,8 @@
 // The run by the rules of the second edition, for hosts in C and Rust: answered as that of `lc3_machine` is. It has an
 // archive of its own: the edition is a constant in each archive, so that the compiler leaves out what the other edition
 // needs.
+#![tactic(auto)]
+
 ghost use Rattle.std.specs.Prelude.{◌≡◌};
 ghost use Rattle.run.specs.Call.{start_of, second_call_of};
 ghost use Rattle.answers.specs.Answer.{answer_of, answered};

@@ -1,6 +1,8 @@
 // The single step (M3.5) for hosts in C and Rust, on a record that the host keeps: the by-value step of `single_step`,
 // answered as a run is. It has an archive of its own, with the one call of the step in it and no loop, so that the
 // compiler inlines all of it. Nothing is required of a caller.
+#![tactic(auto)]
+
 ghost use Rattle.std.specs.Prelude.{◌≡◌};
 ghost use Rattle.run.specs.Call.{start_of, call_of};
 ghost use Rattle.answers.specs.Answer.{answer_of, reported};

@@ -1,5 +1,7 @@
 // The single step by the rules of the second edition, for hosts in C and Rust: as that of `lc3_step`, in an archive of
 // its own for the same reason.
+#![tactic(auto)]
+
 ghost use Rattle.std.specs.Prelude.{◌≡◌};
 ghost use Rattle.run.specs.Call.{start_of, second_call_of};
 ghost use Rattle.answers.specs.Answer.{answer_of, reported};

@@ -1,5 +1,7 @@
 // What the next step of a run does, told without making it, for hosts in C and Rust: by the third edition's rules, and
 // by the second's.
+#![tactic(auto)]
+
 ghost use Rattle.std.specs.Prelude.{◌≡◌, List, ℕ};
 ghost use Rattle.machine.specs.Edition.{third, second};
 ghost use Rattle.run.specs.Call.{start_of};

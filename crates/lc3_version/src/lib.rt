@@ -1,4 +1,6 @@
 // The version of the host interface, for hosts in C and Rust.
+#![tactic(auto)]
+
 ghost use Rattle.std.specs.Prelude.{◌≡◌};
 ghost use Rattle.lc3_version.specs.Version.{interface_version};
 

@@ -1,5 +1,7 @@
 // Instruction words for hosts in C and Rust: reading and writing, with an instruction as one flat record (M4, M11.3,
 // M11.4). Every call accepts every argument. The kinds and operands are those of include/fanthrig/lc3.h.
+#![tactic(auto)]
+
 pub mod flat;
 pub mod unflat;
 

@@ -1,4 +1,6 @@
 // The calls that write lines: that of one memory word (M16), and a whole page of them (M19).
+#![tactic(auto)]
+
 ghost use Rattle.std.specs.Prelude.{◌≡◌, leb, length};
 ghost use Rattle.lent.specs.Lent.{counted, written_whole};
 ghost use Rattle.line.specs.Line.{line_of};

@@ -1,4 +1,6 @@
 // Object files, read into lent memory and written from a range of it.
+#![tactic(auto)]
+
 ghost use Rattle.std.specs.Prelude.{◌≡◌};
 ghost use Rattle.lent.specs.Lent.{counted};
 ghost use Rattle.object.specs.Calls.{loading, load_accepted, load_of, save_accepted, save_of};

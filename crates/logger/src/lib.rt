@@ -1,5 +1,7 @@
 // The logged run: the run of n steps, with three words a step written to a lent log. What it is, and what is proved of
 // it, is in crate `logging`.
+#![tactic(auto)]
+
 ghost use Rattle.std.specs.Prelude.{◌≡◌};
 ghost use Rattle.machine.specs.Edition.{edition_of};
 ghost use Rattle.run.specs.declared.Ending.TheVariants.{Refused};

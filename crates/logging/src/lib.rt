@@ -1,5 +1,7 @@
 // What the definitions of the logged run and the code of crate `logger` share. What a logged run is, and what is proved
 // of it, is in specs/.
+#![tactic(auto)]
+
 use machine::Machine;
 use run::Ending;
 

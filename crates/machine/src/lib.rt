@@ -1,5 +1,7 @@
 // The LC-3 machine: its record, and the types that its definitions share with the code.
 // What one step does is defined in specs/, in the order of M2 to M10; the crates `step_parts` and `step` compute it.
+#![tactic(auto)]
+
 ghost use Rattle.std.specs.Prelude.{◌≡◌, List, ℕ, ◌-◌};
 ghost use Rattle.machine.specs.Record.{whole, with_devices, set_keyboard, set_mcr, set_busy, set_timer};
 ghost use Rattle.machine.specs.Record.{fresh_devices, zero_devices};

@@ -1,5 +1,7 @@
 // Lines by their operands. Each function writes a whole line: the mnemonic, the operands in the book's order, the line
 // feed.
+#![tactic(auto)]
+
 ghost use Rattle.std.specs.Prelude.{[], ◌∷◌, ◌++◌, ◌<◌};
 ghost use Rattle.text.specs.Characters.{line_feed};
 ghost use Rattle.text.specs.Operands.{register, signed_number};

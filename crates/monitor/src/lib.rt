@@ -1,5 +1,7 @@
 // What the monitor's definitions and the code of crate `installer` share. docs/monitor.lst is the monitor's listing.
 // The addresses that the words x0000 to x01FF lead to.
+#![tactic(auto)]
+
 #[repr(C)]
 #[derive(Drop)]
 pub struct Routines {

@@ -1,5 +1,7 @@
 // What the step that a run would make next does, told without making it: by which rule, the word fetched, and the lent
 // words that it takes and those that it stores to. Nothing that is lent is altered.
+#![tactic(auto)]
+
 ghost use Rattle.std.specs.Prelude.{◌≡◌, List, ℕ, length};
 ghost use Rattle.machine.specs.Memory.{IsMemory};
 ghost use Rattle.machine.specs.Edition.{edition_of};

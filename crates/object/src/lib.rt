@@ -1,5 +1,6 @@
 // Object files: the origin, then the words from there on, high byte first in each. Here is what reading one and writing
 // one answer; what they are is in specs/, and crates/loader has the code.
+#![tactic(auto)]
 
 // The origin and the number of words read, with 0; or zeros, with the number of the refusal.
 #[derive(Drop)]

@@ -1,4 +1,6 @@
 // How a run is turned down: 11 to 15 and 19, under the first that applies and never otherwise.
+#![tactic(auto)]
+
 ghost use Rattle.std.specs.Prelude.{◌≡◌, List, ℕ};
 ghost use Rattle.run.specs.Run.{begin, ended_by};
 ghost use Rattle.run.specs.Refusals.{undefined_timer, undefined_devices, undefined_record, times_admission, admission_of};

@@ -1,4 +1,6 @@
 // Load and start together. Here is what the calls answer; what they are is in specs/, and crates/starter has the code.
+#![tactic(auto)]
+
 use machine::Machine;
 
 // The record and the number of words loaded, with 0; or both all zero, with the number of the refusal.

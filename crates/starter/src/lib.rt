@@ -1,5 +1,7 @@
 // Load and start together: an object file is loaded into lent memory, and a fresh record stands at its origin. A
 // candidate's file is started in User mode, and loaded to User mode's words only.
+#![tactic(auto)]
+
 ghost use Rattle.std.specs.Prelude.{◌≡◌};
 ghost use Rattle.start.specs.Start.{starting, started_of, user_started_of};
 

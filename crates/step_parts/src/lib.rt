@@ -1,6 +1,8 @@
 // The parts of a step. The registers and memory are lent; the rest of the record, `Control`, goes by value. Each file
 // holds one concept of M5 to M10. Its definition is in crates/machine/specs under the same name; that of
 // `return_from` in Return.
+#![tactic(auto)]
+
 use machine::{Control, Rule};
 
 pub mod access;

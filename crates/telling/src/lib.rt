@@ -1,5 +1,7 @@
 // What is told of the step that a run would make next: the types that its definitions share with the code. The crate
 // `next_step` computes it.
+#![tactic(auto)]
+
 use machine::Rule;
 use run::Ending;
 

@@ -1,4 +1,6 @@
 // The vectors, and the room between the monitor's words and its stack.
+#![tactic(auto)]
+
 ghost use Rattle.std.specs.Prelude.{◌≡◌, true, List, ℕ, ◌≤◌, min, length};
 ghost use Rattle.sitting.specs.Test.{Row, cell_at, accepts, on_entry, leads_in, leads_back, room_holds};
 ghost use Rattle.claims.specs.Encoding.{cells_of, claim_with, claim_of};

@@ -27,4 +27,4 @@ negative_pattern h (negsuc n) f t = refl
 
 -- a signed number that a call gave, put into an instruction
 pub kept : (r n : ℤ) → mag r < 32768 → r ≡ n → to_z w16 (of_z w16 r) ≡ n
-kept r n p e = to_z-of_z (record { sfits = p }) ∙ e
+kept r n p e = to_z-of_z {w = w16} (record { sfits = p }) ∙ e

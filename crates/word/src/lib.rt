@@ -1,5 +1,7 @@
 // LC-3 instruction words, after M4; they are written in crate `writing`.
 // The forms are those of Figure A.2; names of fields are the figure's.
+#![tactic(auto)]
+
 pub mod fields;
 pub mod masks;
 pub mod reading;

@@ -7,6 +7,7 @@ use super::fields::extend;
 use super::{Instruction, fields};
 
 // The instruction that a word is: bits 15 to 12 are the opcode.
+#[tactic(auto, unfolding(crate::specs::Reading::read_of), using(crate::proofs::Casts::kept))]
 pub fn read(word: u16) -> Instruction
     ensures { result ≡ read_of word }
 {

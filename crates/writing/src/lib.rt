@@ -1,5 +1,7 @@
 // Writing an instruction as a word (M4.6, M11.3). An instruction with a
 // part out of range is refused with word 0; bits that Figure A.2 fixes are set as in the figure.
+#![tactic(auto)]
+
 ghost use Rattle.std.specs.Prelude.{◌≡◌, ◌≤◌};
 ghost use Rattle.word.specs.Writing.{write_of, refused};
 ghost use Rattle.writing.specs.Encoding.{field_form, registers_form, number_form, branch_form};
