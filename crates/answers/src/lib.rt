@@ -15,7 +15,7 @@ use run::{Answer, Ending, Refusal, Report};
 // What a run answers, 88 bytes: `refusal` is 0, or 11 to 15 or 19; `index` is the entry that offends under 15 and 19,
 // and else 0; `stop` is done 0, halted 1, output full 2, and 0 where refused.
 #[repr(C)]
-#[derive(Drop)]
+#[derive(Clone, Copy)]
 pub struct Lc3Answer {
     pub machine: Machine,
     pub steps: u64,
@@ -28,7 +28,7 @@ pub struct Lc3Answer {
 
 // What a single step answers beside the record that it alters, 40 bytes.
 #[repr(C)]
-#[derive(Drop)]
+#[derive(Clone, Copy)]
 pub struct Lc3Report {
     pub steps: u64,
     pub keys: u64,

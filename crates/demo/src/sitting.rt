@@ -16,7 +16,7 @@ const ROOM: usize = 4;
 const CALLS: u64 = 20;
 
 // How the sitting ended: the record, and how many bytes of the display are shown.
-#[derive(Drop)]
+#[derive(Clone, Copy)]
 pub struct Sat {
     pub machine: Machine,
     pub shown: usize,

@@ -8,7 +8,7 @@ pub mod finding;
 // 4 an interrupt's vector, 5 a word that may change, but has states; 6 what is known of the stack in a state; 7 the
 // instruction from a state. With the address of the word, and the number of the state in the table.
 #[repr(C)]
-#[derive(Drop)]
+#[derive(Clone, Copy)]
 pub struct Certified {
     pub finding: u32,
     pub address: u32,

@@ -19,7 +19,7 @@ use run::{Admission, Ending, Report};
 // What a logged run answers, 96 bytes: what a run does, and `logged`, the words written to the log. `stop` may be log
 // full, 3.
 #[repr(C)]
-#[derive(Drop)]
+#[derive(Clone, Copy)]
 pub struct Lc3LoggedAnswer {
     pub machine: Machine,
     pub steps: u64,

@@ -14,7 +14,7 @@ use machine::Machine;
 // A fresh record at the file's origin and the number of words loaded, with 0; or both all zero, with the number of the
 // refusal. 56 bytes.
 #[repr(C)]
-#[derive(Drop)]
+#[derive(Clone, Copy)]
 pub struct Lc3Started {
     pub machine: Machine,
     pub words: u32,

@@ -17,7 +17,7 @@ use telling::{Addresses, Told};
 // What is told, 40 bytes: `refusal` and `index` as a run of one step answers them; `stop` is done, 0, or halted, 1.
 // Where no step would be made all that follows is 0. `reason` is the number of a log.
 #[repr(C)]
-#[derive(Drop)]
+#[derive(Clone, Copy)]
 pub struct Lc3Told {
     pub index: u64,
     pub refusal: u32,

@@ -19,7 +19,7 @@ use writing::write;
 // which the book's assembler writes them; and its signed field, trap vector or reserved field. 0 stands where a kind
 // has none.
 #[repr(C)]
-#[derive(Drop)]
+#[derive(Clone, Copy)]
 pub struct Lc3Instruction {
     pub kind: u8,
     pub a: u8,
@@ -30,7 +30,7 @@ pub struct Lc3Instruction {
 
 // An instruction, and a mask of the fixed bits of its word that are wrong, 0 for a proper word.
 #[repr(C)]
-#[derive(Drop)]
+#[derive(Clone, Copy)]
 pub struct Lc3Reading {
     pub instruction: Lc3Instruction,
     pub mask: u16,
@@ -38,7 +38,7 @@ pub struct Lc3Reading {
 
 // A word and 0, or word 0 and the reason of the refusal, 1 to 3.
 #[repr(C)]
-#[derive(Drop)]
+#[derive(Clone, Copy)]
 pub struct Lc3Written {
     pub word: u16,
     pub refusal: u32,

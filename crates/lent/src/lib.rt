@@ -3,7 +3,7 @@
 #![tactic(auto)]
 
 // The number of bytes written, with 0; or 0, with the number of the refusal.
-#[derive(Drop)]
+#[derive(Clone, Copy)]
 pub struct Counted {
     pub count: usize,
     pub refusal: u8,
@@ -11,7 +11,7 @@ pub struct Counted {
 
 // The same for a host.
 #[repr(C)]
-#[derive(Drop)]
+#[derive(Clone, Copy)]
 pub struct Lc3Counted {
     pub count: u64,
     pub refusal: u32,

@@ -6,14 +6,14 @@ use machine::Machine;
 use run::Ending;
 
 // How a logged call ended: as a run does, or stopped because fewer than three words of the log are free.
-#[derive(Drop)]
+#[derive(Clone, Copy)]
 pub enum LoggedEnding {
     Run(Ending),
     LogFull,
 }
 
 // What a logged run answers: record and counts as a run does, the words written to the log, and how it ended.
-#[derive(Drop)]
+#[derive(Clone, Copy)]
 pub struct LoggedAnswer {
     pub machine: Machine,
     pub steps: u64,

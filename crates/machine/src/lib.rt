@@ -12,7 +12,7 @@ pub mod addresses;
 // xC000, KBDR x00FF, MCR x8000. `busy` counts the steps for which the display is still busy, at most 8. The timer's
 // count is at most its interval, and 0 only if that is.
 #[repr(C)]
-#[derive(Drop)]
+#[derive(Clone, Copy)]
 pub struct Devices {
     pub kbsr: u16,
     pub kbdr: u16,
@@ -25,7 +25,7 @@ pub struct Devices {
 
 // The record of M2.1, as a host keeps it. Defined bits of PSR: x8707 (M2.3).
 #[repr(C)]
-#[derive(Drop)]
+#[derive(Clone, Copy)]
 pub struct Machine {
     pub regs: [u16; 8],
     pub pc: u16,
@@ -37,7 +37,7 @@ pub struct Machine {
 }
 
 // The record but its registers and clock: no array, so that it can stay in the processor's own registers during a run.
-#[derive(Drop)]
+#[derive(Clone, Copy)]
 pub struct Control {
     pub pc: u16,
     pub psr: u16,
@@ -47,7 +47,7 @@ pub struct Control {
 }
 
 // What an instruction asks for, in numbers only. It is made without a look at memory or devices.
-#[derive(Drop)]
+#[derive(Clone, Copy)]
 pub enum Plan {
     // Register, value, next PC. The condition codes are set from the value.
     Move(u8, u16, u16),
@@ -70,14 +70,14 @@ pub enum Plan {
 }
 
 // The interrupt that a step takes, by the address of its vector word and its priority.
-#[derive(Drop)]
+#[derive(Clone, Copy)]
 pub enum Pending {
     Nothing,
     Interrupt(u16, u16),
 }
 
 // By which rule a step was made: an instruction obeyed to its end, or the entry for one of the others.
-#[derive(Drop)]
+#[derive(Clone, Copy)]
 pub enum Rule {
     Instruction,
     Trap,

@@ -3,7 +3,7 @@
 #![tactic(auto)]
 
 #[repr(C)]
-#[derive(Drop)]
+#[derive(Clone, Copy)]
 pub struct Routines {
     // TRAP x20 to x25: GETC, OUT, PUTS, IN, PUTSP, HALT.
     pub getc: u16,

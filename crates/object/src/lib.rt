@@ -3,7 +3,7 @@
 #![tactic(auto)]
 
 // The origin and the number of words read, with 0; or zeros, with the number of the refusal.
-#[derive(Drop)]
+#[derive(Clone, Copy)]
 pub struct Loaded {
     pub origin: u16,
     pub words: u32,

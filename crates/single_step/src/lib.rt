@@ -88,7 +88,7 @@ pub fn step(
 }
 
 // What a host has of a step beside the buffers that it lends: the record, and the report in numbers.
-#[derive(Drop)]
+#[derive(Clone, Copy)]
 pub struct Called {
     pub machine: Machine,
     pub report: Lc3Report,

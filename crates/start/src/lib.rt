@@ -4,7 +4,7 @@
 use machine::Machine;
 
 // The record and the number of words loaded, with 0; or both all zero, with the number of the refusal.
-#[derive(Drop)]
+#[derive(Clone, Copy)]
 pub struct Started {
     pub machine: Machine,
     pub words: u32,

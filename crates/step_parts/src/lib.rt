@@ -19,7 +19,7 @@ pub mod timer;
 pub mod words;
 
 // What became of the display in a step.
-#[derive(Drop)]
+#[derive(Clone, Copy)]
 pub enum Display {
     Unchanged,
     // A byte was shown: it stands at the start of the output that was lent.
@@ -29,7 +29,7 @@ pub enum Display {
 }
 
 // What an instruction answers. Where the display is full the caller drops the rest of the answer.
-#[derive(Drop)]
+#[derive(Clone, Copy)]
 pub struct Obeyed {
     pub control: Control,
     pub display: Display,
@@ -37,7 +37,7 @@ pub struct Obeyed {
 }
 
 // What the arrival answers: `keys` is the index of the first key that has not arrived.
-#[derive(Drop)]
+#[derive(Clone, Copy)]
 pub struct Arrived {
     pub control: Control,
     pub keys: usize,

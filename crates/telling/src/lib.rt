@@ -7,7 +7,7 @@ use run::Ending;
 
 // The addresses of lent words, in the order of the step: so many of the three, and the others 0.
 #[repr(C)]
-#[derive(Drop)]
+#[derive(Clone, Copy)]
 pub struct Addresses {
     pub count: u16,
     pub first: u16,
@@ -16,7 +16,7 @@ pub struct Addresses {
 }
 
 // By which rule a step is made, and the lent words that it takes and stores to.
-#[derive(Drop)]
+#[derive(Clone, Copy)]
 pub struct Touched {
     pub rule: Rule,
     pub reads: Addresses,
@@ -24,7 +24,7 @@ pub struct Touched {
 }
 
 // What is told: a step, where the ending is done, with the word that it fetches; or why none would be made.
-#[derive(Drop)]
+#[derive(Clone, Copy)]
 pub struct Told {
     pub ending: Ending,
     pub word: u16,

@@ -7,7 +7,7 @@ pub mod branch;
 pub mod jump;
 
 // To an address; to the first where a branch with this mask is taken, else to the second; out of the monitor.
-#[derive(Drop)]
+#[derive(Clone, Copy)]
 pub enum Way {
     To(u16),
     Fork(u8, u16, u16),

@@ -8,7 +8,7 @@ pub mod reading;
 
 // An instruction, one variant for each form of Figure A.2, in the order of the opcodes.
 // Registers and the BR mask are u8; signed fields are signed numbers.
-#[derive(Drop)]
+#[derive(Clone, Copy)]
 pub enum Instruction {
     // BR: the mask n, z, p (4 for n, 2 for z, 1 for p) and PCoffset9
     Br(u8, i16),
@@ -51,7 +51,7 @@ pub enum Instruction {
 }
 
 // What reading with the mask answers: the instruction, and which fixed bits of the word are wrong, 0 for a proper word.
-#[derive(Drop)]
+#[derive(Clone, Copy)]
 pub struct Read {
     pub instruction: Instruction,
     pub mask: u16,
@@ -59,7 +59,7 @@ pub struct Read {
 
 // What `writing::write` answers: the word and 0, or word 0 and the reason of the refusal:
 // 1 a register above 7, 2 a field out of range, 3 a BR mask above 7.
-#[derive(Drop)]
+#[derive(Clone, Copy)]
 pub struct Written {
     pub word: u16,
     pub refusal: u8,

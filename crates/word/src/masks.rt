@@ -16,7 +16,7 @@ pub fn read_with_mask(word: u16) -> Read
 
 // 0 for a word whose fixed bits are right.
 #[tactic(auto, unfolding(crate::specs::Mask::mask_of))]
-fn mask(word: u16) -> u16
+pub fn mask(word: u16) -> u16
     ensures { result ≡ mask_of word }
 {
     match word / 4096 {
