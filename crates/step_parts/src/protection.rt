@@ -5,6 +5,7 @@ ghost use Rattle.machine.specs.Edition.{edition_of};
 ghost use Rattle.machine.specs.Protection.{privileged, denied_by};
 
 // A privileged address in User mode: that mode's own are x3000 to xFDFF.
+#[tactic(auto, unfolding(machine::specs::Psr::in_user_mode, machine::specs::Protection::privileged))]
 fn is_out_of_reach(psr: u16, a: u16) -> bool
     ensures { result ≡ (in_user_mode psr && privileged a) }
 {
