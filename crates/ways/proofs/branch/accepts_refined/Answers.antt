@@ -11,7 +11,7 @@ use Rattle.ways.proofs.branch.accepts_refined.Goals as goal
 pub returns-then-not-b : goal.returns-then-not-b
 returns-then-not-b c =
     let a = c.args in
-    let e : a.b ≡ false = not-true a.b c.if-not-b.true in
+    let e : a.b ≡ false = c.if-not-b.true in
     record {
       t_unchanged = refl;
       value = rw (e, ← refined_false (state_of a.t.now)) c.accepts.ensures;
@@ -20,7 +20,7 @@ returns-then-not-b c =
 pub returns : goal.returns
 returns c =
     let a = c.args in
-    let e : a.b ≡ true = not-false a.b c.if-not-b.false in
+    let e : a.b ≡ true = c.if-not-b.false in
     record {
       t_unchanged = restored a.t.now 393216;
       value = rw (e, ← refined_true a.t.now (omega arith)) c.accepts-accepted.ensures;
