@@ -6,4 +6,4 @@ use Rattle.single_step.proofs.stopped.Goals as goal
 
 pub returns : goal.returns
 unfolding begin ended_by
-returns c = refl
+returns c = λ memory times bytes output. refl
