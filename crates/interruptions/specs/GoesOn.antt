@@ -87,7 +87,7 @@ pub record ShowsOnly (q : Start) (k : ℕ) : Type 0 where
   pub shown : (call_of q k).shown ≡ length (shown_in q k)
   pub output : (call_of q k).output ≡ written_over (shown_in q k) q.output
 
-abbrev pub ShownBefore : {total last below made : ℕ} {s r : Start} {shown : List ℕ}
+abbrev pub ShownBefore : {total last below : ℕ} {s r : Start} {made : ℕ} {shown : List ℕ}
     → AfterInterrupts total last below s r made shown → Type 0
 ShownBefore {s = s} (once {k = k} some within i) = ShowsOnly s k
 ShownBefore (again {q = q} {k = k} earlier not_yet i) = ShownBefore earlier × ShowsOnly q k
