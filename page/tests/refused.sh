@@ -2,8 +2,8 @@
 # tools/wasm refuses modules that its argument does not cover: each of these is one of ours with a line put in.
 set -eu
 cd "$(dirname "$0")/../.."
-home=$(rt doc) && home=$(cd "$(dirname "$home")/.." && pwd -P)
-clang=$home/on/$(uname -m)/toolchain/bin/clang
+kit=$(rt doc)
+clang=$(dirname "$kit")/toolchain/bin/clang
 work=$(mktemp -d)
 trap 'rm -rf "$work"' EXIT
 

@@ -6,8 +6,7 @@ ghost use Rattle.findings.specs.Finding.{certify_of};
 
 use findings::Certified;
 
-#[unsafe(no_mangle)]
-pub extern "C" fn lc3_certify(
+pub fn lc3_certify(
     memory: &[u16],
     kinds: &[u8],
     lowest: u16,

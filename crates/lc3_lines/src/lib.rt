@@ -13,8 +13,7 @@ use lines::line;
 use lines::page::page;
 
 // The line of a word, at the start of the output.
-#[unsafe(no_mangle)]
-pub extern "C" fn lc3_line(word: u16, output: &mut [u8]) -> Lc3Counted
+pub fn lc3_line(word: u16, output: &mut [u8]) -> Lc3Counted
     ensures { host_counted result output.new ≡ written_whole (line_of word) output.old }
 {
     let counted = line(word, output);
@@ -25,21 +24,14 @@ pub extern "C" fn lc3_line(word: u16, output: &mut [u8]) -> Lc3Counted
 }
 
 // The byte count of the line of a word, its line feed included.
-#[unsafe(no_mangle)]
-pub extern "C" fn lc3_line_length(word: u16) -> usize
+pub fn lc3_line_length(word: u16) -> usize
     ensures { result ≡ length (line_of word) }
 {
     line_length(word)
 }
 
 // The lines of `count` words from `first` on, at the start of the output.
-#[unsafe(no_mangle)]
-pub extern "C" fn lc3_page(
-    memory: &[u16],
-    first: u16,
-    count: usize,
-    output: &mut [u8],
-) -> Lc3Counted
+pub fn lc3_page(memory: &[u16], first: u16, count: usize, output: &mut [u8]) -> Lc3Counted
     ensures { host_counted result output.new ≡ page_of memory.now first count output.old }
 {
     let written = page(memory, first, count, output);

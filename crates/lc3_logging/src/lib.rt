@@ -1,6 +1,5 @@
-// The logged run for hosts in C and Rust, by the rules of either edition, in an archive of its own: its loop calls the
-// step, and two loops in one archive would cost both their inlining. The two calls share one loop, which is told the
-// edition: it is a function by itself then, and takes less than within a call whose edition is a constant.
+// The logged run for hosts in C and Rust, by the rules of either edition. The two calls share one loop, which is
+// told the edition: it is a function by itself then, and takes less than within a call whose edition is a constant.
 #![tactic(auto)]
 
 ghost use Rattle.std.specs.Prelude.{◌≡◌, List, ℕ};
@@ -78,8 +77,7 @@ pub fn in_numbers(a: LoggedAnswer) -> Lc3LoggedAnswer
 }
 
 // The logged run of n steps. A call that is turned down answers its number and leaves everything as it was handed in.
-#[unsafe(no_mangle)]
-pub extern "C" fn lc3_run_logged(
+pub fn lc3_run_logged(
     m: Machine,
     memory: &mut [u16],
     times: &[u64],
@@ -102,8 +100,7 @@ pub extern "C" fn lc3_run_logged(
 }
 
 // The same by the rules of the second edition.
-#[unsafe(no_mangle)]
-pub extern "C" fn lc3_run_logged_second(
+pub fn lc3_run_logged_second(
     m: Machine,
     memory: &mut [u16],
     times: &[u64],

@@ -10,8 +10,7 @@ use answers::Lc3Answer;
 use machine::Machine;
 
 // The run of n steps. A call that is turned down answers its number and leaves everything as it was handed in.
-#[unsafe(no_mangle)]
-pub extern "C" fn lc3_run_long(
+pub fn lc3_run_long(
     m: Machine,
     memory: &mut [u16],
     times: &[u64],

@@ -11,8 +11,7 @@ use run::Admission;
 use run_call::run_accepted;
 
 // The run of n steps. A call that is turned down answers its number and leaves everything as it was handed in.
-#[unsafe(no_mangle)]
-pub extern "C" fn lc3_run(
+pub fn lc3_run(
     m: Machine,
     memory: &mut [u16],
     times: &[u64],

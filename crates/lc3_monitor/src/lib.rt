@@ -9,24 +9,21 @@ ghost use Rattle.monitor.specs.Install.{filling, vectors_of, install_of};
 use monitor::Routines;
 
 // Puts the monitor into lent memory, and answers 0 or the number of the refusal.
-#[unsafe(no_mangle)]
-pub extern "C" fn lc3_monitor(memory: &mut [u16]) -> u32
+pub fn lc3_monitor(memory: &mut [u16]) -> u32
     ensures { filling result memory.new ≡ install_of memory.old }
 {
     installer::install(memory) as u32
 }
 
 // Where the monitor's routines are.
-#[unsafe(no_mangle)]
-pub extern "C" fn lc3_monitor_routines() -> Routines
+pub fn lc3_monitor_routines() -> Routines
     ensures { result ≡ ours }
 {
     installer::ours()
 }
 
 // Writes the words x0000 to x01FF for these routines to the start of a lent buffer, and answers likewise.
-#[unsafe(no_mangle)]
-pub extern "C" fn lc3_vectors(routines: Routines, words: &mut [u16]) -> u32
+pub fn lc3_vectors(routines: Routines, words: &mut [u16]) -> u32
     ensures { filling result words.new ≡ vectors_of routines words.old }
 {
     installer::vectors(routines, words) as u32

@@ -21,8 +21,7 @@ pub struct Lc3Started {
     pub refusal: u32,
 }
 
-#[unsafe(no_mangle)]
-pub extern "C" fn lc3_start(file: &[u8], memory: &mut [u16], user: bool, stack: u16) -> Lc3Started
+pub fn lc3_start(file: &[u8], memory: &mut [u16], user: bool, stack: u16) -> Lc3Started
     ensures { host_starting result memory.new
         ≡ started_of file.now memory.old user stack }
 {
@@ -35,8 +34,7 @@ pub extern "C" fn lc3_start(file: &[u8], memory: &mut [u16], user: bool, stack: 
     }
 }
 
-#[unsafe(no_mangle)]
-pub extern "C" fn lc3_start_user(file: &[u8], memory: &mut [u16], stack: u16) -> Lc3Started
+pub fn lc3_start_user(file: &[u8], memory: &mut [u16], stack: u16) -> Lc3Started
     ensures { host_starting result memory.new
         ≡ user_started_of file.now memory.old stack }
 {
@@ -49,13 +47,7 @@ pub extern "C" fn lc3_start_user(file: &[u8], memory: &mut [u16], stack: u16) ->
     }
 }
 
-#[unsafe(no_mangle)]
-pub extern "C" fn lc3_save(
-    memory: &[u16],
-    origin: u16,
-    words: usize,
-    output: &mut [u8],
-) -> Lc3Counted
+pub fn lc3_save(memory: &[u16], origin: u16, words: usize, output: &mut [u8]) -> Lc3Counted
     ensures { host_counted result output.new
         ≡ save_of memory.now origin words output.old }
 {

@@ -1,6 +1,4 @@
-// The run by the rules of the second edition, for hosts in C and Rust: answered as that of `lc3_machine` is. It has an
-// archive of its own: the edition is a constant in each archive, so that the compiler leaves out what the other edition
-// needs.
+// The run by the rules of the second edition, for hosts in C and Rust: answered as that of `lc3_machine` is.
 #![tactic(auto)]
 
 ghost use Rattle.std.specs.Prelude.{◌≡◌};
@@ -13,8 +11,7 @@ use run::Admission;
 use run_call::run_accepted;
 
 // The run of n steps. A call that is turned down answers its number and leaves everything as it was handed in.
-#[unsafe(no_mangle)]
-pub extern "C" fn lc3_run_second(
+pub fn lc3_run_second(
     m: Machine,
     memory: &mut [u16],
     times: &[u64],

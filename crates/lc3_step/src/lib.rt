@@ -1,6 +1,5 @@
 // The single step (M3.5) for hosts in C and Rust, on a record that the host keeps: the by-value step of `single_step`,
-// answered as a run is. It has an archive of its own, with the one call of the step in it and no loop, so that the
-// compiler inlines all of it. Nothing is required of a caller.
+// answered as a run is. Nothing is required of a caller.
 #![tactic(auto)]
 
 ghost use Rattle.std.specs.Prelude.{◌≡◌};
@@ -11,8 +10,7 @@ use answers::Lc3Report;
 use machine::Machine;
 
 // The thin function on the lent record: the record that the step answers takes the place of the one handed in.
-#[unsafe(no_mangle)]
-pub extern "C" fn lc3_step(
+pub fn lc3_step(
     m: &mut Machine,
     memory: &mut [u16],
     times: &[u64],

@@ -1,5 +1,4 @@
-// The single step by the rules of the second edition, for hosts in C and Rust: as that of `lc3_step`, in an archive of
-// its own for the same reason.
+// The single step by the rules of the second edition, for hosts in C and Rust: as that of `lc3_step`.
 #![tactic(auto)]
 
 ghost use Rattle.std.specs.Prelude.{◌≡◌};
@@ -10,8 +9,7 @@ use answers::Lc3Report;
 use machine::Machine;
 
 // The thin function on the lent record.
-#[unsafe(no_mangle)]
-pub extern "C" fn lc3_step_second(
+pub fn lc3_step_second(
     m: &mut Machine,
     memory: &mut [u16],
     times: &[u64],

@@ -53,21 +53,14 @@ fn in_numbers(t: Told) -> Lc3Told
     }
 }
 
-#[unsafe(no_mangle)]
-pub extern "C" fn lc3_tell(m: Machine, memory: &[u16], times: &[u64], bytes: &[u8]) -> Lc3Told
+pub fn lc3_tell(m: Machine, memory: &[u16], times: &[u64], bytes: &[u8]) -> Lc3Told
     ensures { (output : List ℕ) → result ≡ told_answer (told_by third
         (start_of m memory.now times.now bytes.now output)) }
 {
     in_numbers(next_step::tell(false, m, memory, times, bytes))
 }
 
-#[unsafe(no_mangle)]
-pub extern "C" fn lc3_tell_second(
-    m: Machine,
-    memory: &[u16],
-    times: &[u64],
-    bytes: &[u8],
-) -> Lc3Told
+pub fn lc3_tell_second(m: Machine, memory: &[u16], times: &[u64], bytes: &[u8]) -> Lc3Told
     ensures { (output : List ℕ) → result ≡ told_answer (told_by second
         (start_of m memory.now times.now bytes.now output)) }
 {

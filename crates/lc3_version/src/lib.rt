@@ -7,8 +7,7 @@ ghost use Rattle.lc3_version.specs.Version.{interface_version};
 const INTERFACE_VERSION: u32 = 7;
 
 // The version of include/fanthrig/lc3.h that this library was built for.
-#[unsafe(no_mangle)]
-pub extern "C" fn lc3_version() -> u32
+pub fn lc3_version() -> u32
     ensures { result ≡ interface_version }
 {
     INTERFACE_VERSION

@@ -45,8 +45,7 @@ pub struct Lc3Written {
 }
 
 // The instruction that a word is, and its mask.
-#[unsafe(no_mangle)]
-pub extern "C" fn lc3_read(word: u16) -> Lc3Reading
+pub fn lc3_read(word: u16) -> Lc3Reading
     ensures { result ≡ flat_read_of (read_with_mask_of word) }
 {
     let read = read_with_mask(word);
@@ -60,8 +59,7 @@ pub extern "C" fn lc3_read(word: u16) -> Lc3Reading
 
 // The word of an instruction, or its refusal. Operands that the kind does not use are ignored. A kind after TRAP, 18,
 // is refused as a field out of range.
-#[unsafe(no_mangle)]
-pub extern "C" fn lc3_write(instruction: Lc3Instruction) -> Lc3Written
+pub fn lc3_write(instruction: Lc3Instruction) -> Lc3Written
     ensures { result ≡ written_of instruction }
 {
     let kind = instruction.kind;

@@ -1,0 +1,26 @@
+// The single step of `lc3_step_second`, exported to hosts in C and Rust: as that of `lc3_step_c`, in an archive of its
+// own for the same reason.
+#![tactic(auto)]
+
+ghost use Rattle.std.specs.Prelude.{◌≡◌};
+ghost use Rattle.run.specs.Call.{start_of, second_call_of};
+ghost use Rattle.answers.specs.Answer.{answer_of, reported};
+
+use answers::Lc3Report;
+use machine::Machine;
+
+// The thin function on the lent record.
+#[unsafe(no_mangle)]
+pub extern "C" fn lc3_step_second(
+    m: &mut Machine,
+    memory: &mut [u16],
+    times: &[u64],
+    bytes: &[u8],
+    output: &mut [u8],
+) -> Lc3Report
+    ensures { reported m.new result memory.new output.new
+        ≡ answer_of (second_call_of (start_of m.old memory.old times.now
+        bytes.now output.old) 1) }
+{
+    lc3_step_second::lc3_step_second(m, memory, times, bytes, output)
+}
