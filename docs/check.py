@@ -20,7 +20,7 @@ import sys
 from collections import Counter
 from pathlib import Path
 
-from check_names import unknown
+from check_names import unknown, written
 from check_numbers import wrong
 from wrong_programs import differences
 
@@ -34,7 +34,8 @@ WRITTEN = ("crates", "docs", "examples", "host", "include", "page", "python", "t
 TEXTS = {".rt", ".antt", ".py", ".rs", ".c", ".h", ".sh", ".mjs", ".js", ".css", ".html"}
 CITING = (
     "crates/*/src/**/*.rt",
-    "crates/*/*/**/*.antt",
+    "crates/*/specs/**/*.antt",
+    "crates/*/proofs/**/*.antt",
     "include/**/*.h",
     "host/**/src/*.rs",
     "python/*/*.py",
@@ -90,7 +91,7 @@ def links(root: Path, documents: list[Path]) -> list[str]:
 
 def long_lines(root: Path) -> list[str]:
     """Lines of more than 120 characters."""
-    paths = [path for folder in WRITTEN for path in sorted((root / folder).rglob("*"))]
+    paths = [path for folder in WRITTEN for path in written(root / folder)]
     return [
         f"{path.relative_to(root)}:{number}: {len(line)} characters"
         for path in paths
