@@ -26,7 +26,8 @@ from wrong_programs import differences
 
 RULE = re.compile(r"\bM\d+\.\d+\b")
 DEFINED_RULE = re.compile(r"\*\*(M\d+\.\d+)\*\*")
-CRATE = re.compile(r"\w+:")
+# A crate of crates.txt; behind its name stands what is said of it, as `staticlib`.
+CRATE = re.compile(r"^(\w+)(?: +[\w=+]+)* *:", re.MULTILINE)
 LINK = re.compile(r"\]\(([^)\s]+)\)")
 FENCE = re.compile(r"^```.*?^```$", re.MULTILINE | re.DOTALL)
 # Folders that people write in, and the files there that are no data.
@@ -57,7 +58,7 @@ def rules(root: Path, documents: list[Path]) -> list[str]:
 def crates(root: Path) -> list[str]:
     """Crates that crates.txt, crates/ or ARCHITECTURE.md lacks."""
     text = (root / "crates.txt").read_text(encoding="utf-8")
-    listed = {line.split(":")[0].strip() for line in text.splitlines() if CRATE.match(line)}
+    listed = set(CRATE.findall(text))
     folders = {path.parent.parent.name for path in root.glob("crates/*/src/*.rt")}
     told = (root / "docs/ARCHITECTURE.md").read_text(encoding="utf-8")
     untold = [name for name in sorted(listed) if not re.search(rf"\b{name}\b", told)]

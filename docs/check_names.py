@@ -63,10 +63,11 @@ def sources(place: Path) -> tuple[Path, ...]:
 
 
 def words(paths: tuple[Path, ...]) -> set[str]:
-    """The words of files of code, with the names of these files and of their folders."""
+    """The words of files of code, with the names of these files and of the two folders above."""
     found: set[str] = set()
     for path in paths:
-        found.update(WORD.findall(code(path)), [path.name, path.stem, path.parent.name])
+        above = [path.parent.name, path.parent.parent.name]
+        found.update(WORD.findall(code(path)), [path.name, path.stem, *above])
     return found
 
 
