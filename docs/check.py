@@ -8,7 +8,7 @@ difference.
   is in docs/MACHINE.md, once.
 - Each crate is in docs/ARCHITECTURE.md, and crates.txt and the folders of crates/ have the same.
 - Each relative link of a document leads to a file, and to a heading where it names one.
-- No line of code, definitions, proofs or scripts has more than 120 characters.
+- No line of code or scripts has more than 120 characters; `rt fmt` lays out the crates.
 - What documents name is in the tree (check_names.py), and numbers that they state are those of the
   code (check_numbers.py).
 
@@ -26,12 +26,12 @@ from wrong_programs import differences
 
 RULE = re.compile(r"\bM\d+\.\d+\b")
 DEFINED_RULE = re.compile(r"\*\*(M\d+\.\d+)\*\*")
-CRATE = re.compile(r"\w+:")
+CRATE = re.compile(r"(\w+)(?: staticlib)?:")
 LINK = re.compile(r"\]\(([^)\s]+)\)")
 FENCE = re.compile(r"^```.*?^```$", re.MULTILINE | re.DOTALL)
 # Folders that people write in, and the files there that are no data.
-WRITTEN = ("crates", "docs", "examples", "host", "include", "page", "python", "tools")
-TEXTS = {".rt", ".antt", ".py", ".rs", ".c", ".h", ".sh", ".mjs", ".js", ".css", ".html"}
+WRITTEN = ("docs", "examples", "host", "include", "page", "python", "tools")
+TEXTS = {".py", ".rs", ".c", ".h", ".sh", ".mjs", ".js", ".css", ".html"}
 CITING = (
     "crates/*/src/**/*.rt",
     "crates/*/*/**/*.antt",
@@ -56,7 +56,7 @@ def rules(root: Path, documents: list[Path]) -> list[str]:
 def crates(root: Path) -> list[str]:
     """Crates that crates.txt, crates/ or ARCHITECTURE.md lacks."""
     text = (root / "crates.txt").read_text(encoding="utf-8")
-    listed = {line.split(":")[0].strip() for line in text.splitlines() if CRATE.match(line)}
+    listed = {found[1] for line in text.splitlines() if (found := CRATE.match(line))}
     folders = {path.parent.parent.name for path in root.glob("crates/*/src/*.rt")}
     told = (root / "docs/ARCHITECTURE.md").read_text(encoding="utf-8")
     untold = [name for name in sorted(listed) if not re.search(rf"\b{name}\b", told)]

@@ -4,7 +4,7 @@
   out, or the name of a file or folder; each path leads somewhere.
 - Names before a path, as in `stepOf` (crates/machine/specs), stand in that file or folder; those
   after a crate, as in `step::planning`, stand in that crate.
-- A statement that PROOFS.md names is proved, under its name in small letters with hyphens, or is
+- A statement that PROOFS.md names is proved, under its name in small letters with _ between, or is
   among the parts of others that PROOFS.md lists.
 
 Landing notes, the changelog and decisions tell of what stood in their time: they are left out, but
@@ -18,7 +18,7 @@ from typing import Iterator
 
 SOURCES = ("crates", "examples", "host", "include", "page", "python", "tools")
 SUFFIXES = {".rt", ".antt", ".py", ".rs", ".c", ".h", ".sh", ".mjs", ".toml", ".in", ".edit"}
-BUILT = {"target", "build", "__pycache__"}
+BUILT = {"out", "target", "build", "__pycache__"}
 FENCE = re.compile(r"^```.*?^```$", re.MULTILINE | re.DOTALL)
 COMMENT = re.compile(r"^\s*(?:--|//|#).*$|\s(?:--|//)\s.*$", re.MULTILINE)
 # A name of Rattle may have hyphens and signs; one of another language is between other characters.
@@ -133,7 +133,7 @@ def statements(root: Path) -> list[str]:
     return [
         f"docs/PROOFS.md: {name} ({stated[name]}) is not proved under its name"
         for name in sorted(stated.keys() & set(SPAN.findall(text)) - set(SPAN.findall(parts)))
-        if HUMP.sub("-", name).lower() not in proved and str(stated[name]) not in parts
+        if HUMP.sub("_", name).lower() not in proved and str(stated[name]) not in parts
     ]
 
 

@@ -14,7 +14,7 @@ from typing import Iterator, NamedTuple
 
 COMMENT = re.compile(r"//[^\n]*")
 PUBLIC = re.compile(r'pub\s+(extern\s+"C"\s+)?fn\s+(\w+)')
-CLAUSE = re.compile(r"\b(requires|ensures)\s*$")
+CLAUSE = re.compile(r"\b(requires|ensures)(\s*\*)?(\s+\w+)?\s*$")
 
 
 class Function(NamedTuple):
