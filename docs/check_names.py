@@ -4,11 +4,12 @@
   out, or the name of a file or folder; each path leads somewhere.
 - Names before a path, as in `stepOf` (crates/machine/specs), stand in that file or folder; those
   after a crate, as in `step::planning`, stand in that crate.
-- A statement that PROOFS.md names is proved, under its name in small letters with _ between, or is
-  among the parts of others that PROOFS.md lists.
+- A statement that PROOFS.md names is proved, by a lemma that states it and has its name in snake
+  case (with `_lem` where a definition has that name), or is among the parts of others that
+  PROOFS.md lists.
 
-Landing notes, the changelog and decisions tell of what stood in their time: they are left out, but
-for what stands before the first decision.
+Landing notes, the changelog, decisions and the port tell of what stood in their time: they are left
+out, but for what stands before the first decision.
 """
 
 import re
@@ -18,10 +19,11 @@ from typing import Iterator
 
 SOURCES = ("crates", "examples", "host", "include", "page", "python", "tools")
 SUFFIXES = {".rt", ".antt", ".py", ".rs", ".c", ".h", ".sh", ".mjs", ".toml", ".in", ".edit"}
-BUILT = {"out", "target", "build", "__pycache__"}
+BUILT = {"target", "build", "__pycache__"}
 FENCE = re.compile(r"^```.*?^```$", re.MULTILINE | re.DOTALL)
 COMMENT = re.compile(r"^\s*(?:--|//|#).*$|\s(?:--|//)\s.*$", re.MULTILINE)
 # A name of Rattle may have hyphens and signs; one of another language is between other characters.
+# What the check of a function names, as a goal, has hyphens: `returns-then-is_denied`.
 WORD = re.compile(r"[^\s(){}\[\];,.:\"`'|&<>=+*/!\\@$%^~?·«»⌜⌝]+|[A-Za-z_]\w*")
 SPAN = re.compile(r"`([^`\n]+)`")
 NAME = re.compile(r"[A-Za-z_][\w-]*(?:(?:\.|::)[\w-]+)*")
@@ -30,7 +32,10 @@ FILE = re.compile(r"\b(?:crates|docs|host|include|python|tools|examples)/[\w./*-
 IN_CRATE = re.compile(r"(?<![\w/])\w+/(?:src|specs|proofs|must-fail)/[\w./*-]*[\w*]")
 PLACED = re.compile(r"((?:`[\w:.-]+`(?:,| and|,\s+and)?\s+)+)(?:\(|in\s+)(crates/[\w/.-]*\w)")
 STATEMENT = re.compile(r"^abbrev pub ([A-Z]\w*) : Type", re.MULTILINE)
-PROOF = re.compile(r"^\s*(?:pub )?([a-z][\w-]*)\s+:", re.MULTILINE)
+# A type that is no statement, and has the name of a file that PROOFS.md speaks of.
+TYPES = {"Step"}
+# A lemma, with the first line of its type.
+PROOF = re.compile(r"^\s*(?:pub )?([a-z][\w'-]*)\s+:\s+([^\n]+)", re.MULTILINE)
 HUMP = re.compile(r"(?<=[a-z])(?=[A-Z0-9])|(?<=[A-Z0-9])(?=[A-Z][a-z])")
 PARTS = re.compile(r"A statement\s+that\s+is\s+a\s+part\b.*?\n\n", re.DOTALL)
 
@@ -127,13 +132,20 @@ def statements(root: Path) -> list[str]:
         for path in sources(root / "crates")
         if "specs" in path.parts
         for name in STATEMENT.findall(code(path))
+        if name not in TYPES
     }
     proofs = (path for path in sources(root / "crates") if "proofs" in path.parts)
-    proved = {name for path in proofs for name in PROOF.findall(code(path))}
+    lemmas = {lemma for path in proofs for lemma in PROOF.findall(code(path))}
+    proved = {
+        (name.removesuffix("_lem"), word)
+        for name, told in lemmas
+        for word in WORD.findall(told)
+    }
     return [
         f"docs/PROOFS.md: {name} ({stated[name]}) is not proved under its name"
         for name in sorted(stated.keys() & set(SPAN.findall(text)) - set(SPAN.findall(parts)))
-        if HUMP.sub("_", name).lower() not in proved and str(stated[name]) not in parts
+        if not {(HUMP.sub("_", name).lower(), word) for word in (name, f"{name}By")} & proved
+        and str(stated[name]) not in parts
     ]
 
 
@@ -142,6 +154,6 @@ def unknown(root: Path, documents: list[Path]) -> list[str]:
     told = [
         path
         for path in documents
-        if path.name != "CHANGELOG.md" and path.parent.name != "landings"
+        if path.name not in ("CHANGELOG.md", "PORT.md") and path.parent.name != "landings"
     ]
     return names(root, told) + files(root, told) + places(root, told) + statements(root)

@@ -14,7 +14,8 @@ from typing import Iterator, NamedTuple
 
 COMMENT = re.compile(r"//[^\n]*")
 PUBLIC = re.compile(r'pub\s+(extern\s+"C"\s+)?fn\s+(\w+)')
-CLAUSE = re.compile(r"\b(requires|ensures)(\s*\*)?(\s+\w+)?\s*$")
+# The word of a clause, with a star where it speaks of memory, and the clause's name.
+CLAUSE = re.compile(r"\b(requires|ensures)\b\*?(?:\s+\w+)?\s*$")
 
 
 class Function(NamedTuple):
@@ -38,6 +39,12 @@ def head(text: str, start: int) -> str:
     return text[start:]
 
 
+def clauses(text: str) -> list[str]:
+    """The words of the clauses before the body of a function."""
+    found = (CLAUSE.search(text[:brace.start()]) for brace in re.finditer("{", text))
+    return [clause[1] for clause in found if clause]
+
+
 def functions(text: str) -> Iterator[Function]:
     """The public functions of a source file."""
     code = COMMENT.sub("", text)
@@ -48,9 +55,9 @@ def functions(text: str) -> Iterator[Function]:
 def offences(path: Path) -> Iterator[str]:
     """What is wrong with the contracts of a source file."""
     for function in functions(path.read_text(encoding="utf-8")):
-        if "ensures" not in function.head:
+        if "ensures" not in clauses(function.head):
             yield f"{function.name} promises nothing"
-        if function.exported and "requires" in function.head:
+        if function.exported and "requires" in clauses(function.head):
             yield f"{function.name} is called by hosts, and requires something"
 
 

@@ -1,11 +1,13 @@
 #!/usr/bin/env python3
-"""Writes the repository's own definitions and lemmas in snake case, as Rattle's library spells its words.
+"""Writes the repository's own definitions and lemmas in snake case, as Rattle's library spells its
+words.
 
-usage: python3 tools/snake_case.py [--show]      at the top of the repository, once, after /opt/rattle/port/port.py
+    python3 tools/snake_case.py [--show]
 
-A name counts as the repository's own where a file of specs/, or one that lies in proofs/ itself, declares it. Names of
-functions, types and modules stay, and so do words that a file takes from a library. It stops where two names of one file
-would fall together.
+It is run at the top of the repository, once, after /opt/rattle/port/port.py. A name counts as the
+repository's own where a file of specs/, or one that lies in proofs/ itself, declares it. Names of
+functions, types and modules stay, and so do words that a file takes from a library. It stops where
+two names of one file would fall together.
 """
 
 import collections
@@ -14,11 +16,13 @@ import re
 import sys
 
 TOKEN = re.compile(r"[A-Za-z_][\w'′-]*")
-DECLARED = re.compile(r"^\s*(?:(?:abbrev|unfoldable|pub)\s+)*((?:[^\s:(){}.,;λ=→]+\s+)*[^\s:(){}.,;λ=→]+)\s*:\s")
+WORD = r"[^\s:(){}.,;λ=→]+"
+DECLARED = re.compile(rf"^\s*(?:(?:abbrev|unfoldable|pub)\s+)*((?:{WORD}\s+)*{WORD})\s*:\s")
 HEADED = re.compile(r"^\s*(?:(?:abbrev|unfoldable|pub)\s+)*(?:data|record|module|mod|use)\b")
 # Lemmas that port.py has turned, and that now have the name of a definition.
 TURNED = ["value_in"]
-# Names that may meet in a file: a definition and a record's field, or a definition and the function that answers it.
+# Names that may meet in a file: a definition and a record's field, or a definition and the function
+# that answers it.
 MEETING = {"too_short", "is_below"}
 QUOTED = re.compile(r"`[^`]*`")
 
@@ -79,19 +83,24 @@ def imported(texts, crates):
         for match in line_of.finditer(text):
             parts = match.group(1).split(".")
             if parts[0] != "Rattle" or parts[1] not in crates:
-                taken[path].update(re.split(r"\s+as\s+", n.strip())[0] for n in match.group(2).split(","))
+                words = match.group(2).split(",")
+                taken[path].update(re.split(r"\s+as\s+", word.strip())[0] for word in words)
     return taken
 
 
 def respelled(line, is_code, names):
-    """The line with the new names; in a comment a word with a dash is a name only between backquotes."""
+    """The line with the new names; in a comment a dashed word is one only between backquotes."""
+
     def new(match):
         return names.get(match.group(), match.group())
+
+    def undashed(match):
+        return match.group() if "-" in match.group() else new(match)
 
     at = re.search(r"//" if is_code else r"(?:^|(?<=\s))--(?=\s|$)", line)
     text, comment = (line[:at.start()], line[at.start():]) if at else (line, "")
     comment = QUOTED.sub(lambda quoted: TOKEN.sub(new, quoted.group()), comment)
-    return TOKEN.sub(new, text) + TOKEN.sub(lambda m: m.group() if "-" in m.group() else new(m), comment)
+    return TOKEN.sub(new, text) + TOKEN.sub(undashed, comment)
 
 
 def main(show):
@@ -116,8 +125,10 @@ def main(show):
         return 1 if clashes else 0
     for path, text in texts.items():
         names = {old: new for old, new in new_of.items() if old not in taken[path]}
-        names.update((f"{name.replace('_', '-')}-spec", f"{name}_spec") for name in path.split(os.sep)[3:-1])
-        turned = "".join(respelled(line, path.endswith(".rt"), names) for line in text.splitlines(keepends=True))
+        folders = path.split(os.sep)[3:-1]
+        names.update((f"{name.replace('_', '-')}-spec", f"{name}_spec") for name in folders)
+        lines = text.splitlines(keepends=True)
+        turned = "".join(respelled(line, path.endswith(".rt"), names) for line in lines)
         if turned != text:
             with open(path, "w", encoding="utf-8") as file:
                 file.write(turned)

@@ -17,7 +17,7 @@ from typing import Dict, Iterator, List, NamedTuple, Sequence, Tuple
 CRATES = Path(__file__).resolve().parent.parent / "crates"
 FIRST = "lc3_machine::lc3_run"
 
-USE = re.compile(r"^(?:pub )?use ([\w:]+?)(?:::\{([^}]*)\})?;", re.MULTILINE)
+USE = re.compile(r"^use ([\w:]+?)(?:::\{([^}]*)\})?;", re.MULTILINE)
 FUNCTION = re.compile(
     r"^(?:pub(?:\(crate\))? )?(?:extern \"C\" )?fn (\w+)\(.*?^}", re.DOTALL | re.MULTILINE
 )
@@ -50,10 +50,12 @@ class Function(NamedTuple):
     names: Dict[str, str]
 
 
-def imported(text: str) -> Iterator[str]:
-    """The paths that a file imports; several may stand within braces."""
-    for path, several in USE.findall(text):
-        yield from ([f"{path}::{name}" for name in re.findall(r"\w+", several)] or [path])
+def uses(text: str) -> Iterator[str]:
+    """The paths of the names that a file brings in, each whole."""
+    for path, names in USE.findall(text):
+        yield from (f"{path}::{name.strip()}" for name in names.split(",") if name.strip())
+        if not names:
+            yield path
 
 
 def functions() -> Dict[str, Function]:
@@ -64,7 +66,7 @@ def functions() -> Dict[str, Function]:
         crate = path.relative_to(CRATES).parts[0]
         module = "::".join([crate] + [p for p in (path.stem,) if p != "lib"])
         local = {m.group(1): f"{module}::{m.group(1)}" for m in FUNCTION.finditer(text)}
-        used = [re.sub(r"^(crate|super)\b", crate, u) for u in imported(text)]
+        used = [re.sub(r"^(crate|super)\b", crate, u) for u in uses(text)]
         names = {**{u.split("::")[-1]: u for u in used}, **local, "crate": crate}
         for m in FUNCTION.finditer(text):
             found[local[m.group(1)]] = Function(path, m.group().split("\n{\n", 1)[-1], names)

@@ -10,22 +10,29 @@ const BLANK: [u8; 16] = [0xAA; 16];
 
 const SPACES: [u8; 48] = *b"                                                ";
 
-fn print(text: &[u8]) {
-    io::write_all(1, text);
+// What cannot be written is left out, and the program goes on.
+fn print(rt: &impl Print, text: &[u8]) {
+    let _ = rt.write_all(text);
 }
 
-pub(crate) fn title() {
-    print(b"The boundaries of a run\n");
-    print(b"=======================\n\n");
-    print(b"Each line is one call: what was handed in, and the answer. 'All as handed in'\n");
-    print(b"compares the whole record, every word of memory and every byte of the output\n");
-    print(b"with what they were before the call.\n");
+pub(crate) fn title(rt: &impl Print) {
+    print(rt, b"The boundaries of a run\n");
+    print(rt, b"=======================\n\n");
+    print(
+        rt,
+        b"Each line is one call: what was handed in, and the answer. 'All as handed in'\n",
+    );
+    print(
+        rt,
+        b"compares the whole record, every word of memory and every byte of the output\n",
+    );
+    print(rt, b"with what they were before the call.\n");
 }
 
-pub(crate) fn heading(text: &[u8]) {
-    print(b"\n");
-    print(text);
-    print(b"\n");
+pub(crate) fn heading(rt: &impl Print, text: &[u8]) {
+    print(rt, b"\n");
+    print(rt, text);
+    print(rt, b"\n");
 }
 
 pub(crate) fn fill(memory: &mut [u16]) {
@@ -51,18 +58,18 @@ pub(crate) fn record() -> Machine {
 }
 
 // The text and the spaces up to the next column.
-fn column(text: &[u8]) {
+fn column(rt: &impl Print, text: &[u8]) {
     let k = text.len();
-    print(b"  ");
-    print(text);
+    print(rt, b"  ");
+    print(rt, text);
     if k <= 48 {
-        print(&SPACES[k..48]);
+        print(rt, &SPACES[k..48]);
     }
 }
 
-fn print_count(text: &[u8], n: u64) {
-    print(text);
-    io::print_decimal(1, n);
+fn print_count(rt: &impl Print, text: &[u8], n: u64) {
+    print(rt, text);
+    let _ = print!(rt; "{n}");
 }
 
 fn refusal_number(r: Refusal) -> u64 {
@@ -77,25 +84,25 @@ fn refusal_number(r: Refusal) -> u64 {
 }
 
 // The entry of the key lists that a refusal names, if it names one.
-fn print_entry(r: Refusal) {
+fn print_entry(rt: &impl Print, r: Refusal) {
     match r {
-        Refusal::TimeBelowClock(i) => print_count(b" at entry ", i as u64),
-        Refusal::TimesOutOfOrder(i) => print_count(b" at entry ", i as u64),
+        Refusal::TimeBelowClock(i) => print_count(rt, b" at entry ", i as u64),
+        Refusal::TimesOutOfOrder(i) => print_count(rt, b" at entry ", i as u64),
         _ => {}
     }
 }
 
-fn print_refusal(r: Refusal) {
-    print_count(b"refused ", refusal_number(r));
-    print_entry(r);
+fn print_refusal(rt: &impl Print, r: Refusal) {
+    print_count(rt, b"refused ", refusal_number(r));
+    print_entry(rt, r);
 }
 
-fn print_ending(e: Ending) {
+fn print_ending(rt: &impl Print, e: Ending) {
     match e {
-        Ending::Done => print(b"done"),
-        Ending::Halted => print(b"halted"),
-        Ending::OutputFull => print(b"output full"),
-        Ending::Refused(refusal) => print_refusal(refusal),
+        Ending::Done => print(rt, b"done"),
+        Ending::Halted => print(rt, b"halted"),
+        Ending::OutputFull => print(rt, b"output full"),
+        Ending::Refused(refusal) => print_refusal(rt, refusal),
     }
 }
 
@@ -107,25 +114,25 @@ fn is_refused(e: Ending) -> bool {
     }
 }
 
-fn print_same(same: bool) {
+fn print_same(rt: &impl Print, same: bool) {
     if same {
-        print(b", all as handed in");
+        print(rt, b", all as handed in");
     } else {
-        print(b", ALTERED");
+        print(rt, b", ALTERED");
     }
 }
 
 // The rest of the line: how the call ended, its counts, and for a refusal whether all is as handed in.
-fn print_answer(r: Report, same: bool) {
+fn print_answer(rt: &impl Print, r: Report, same: bool) {
     let ending = r.ending;
-    print_ending(ending);
-    print_count(b", steps ", r.steps);
-    print_count(b", keys ", r.keys as u64);
-    print_count(b", bytes ", r.shown as u64);
+    print_ending(rt, ending);
+    print_count(rt, b", steps ", r.steps);
+    print_count(rt, b", keys ", r.keys as u64);
+    print_count(rt, b", bytes ", r.shown as u64);
     if is_refused(ending) {
-        print_same(same);
+        print_same(rt, same);
     }
-    print(b"\n");
+    print(rt, b"\n");
 }
 
 // Whether the record, the memory and the output are as they were handed in.
@@ -141,6 +148,7 @@ fn unaltered(m: Machine, after: Machine, memory: &[u16], output: &[u8]) -> bool 
 
 // Makes the call with the first words of memory, and prints its line.
 fn attempt_in(
+    rt: &impl Print,
     text: &[u8],
     m: Machine,
     memory: &mut [u16],
@@ -153,15 +161,23 @@ fn attempt_in(
 {
     let mut output = BLANK;
     let a = run_call::run(m, &mut memory[0..size], times, bytes, &mut output, n);
-    column(text);
-    print_answer(a.report, unaltered(m, a.machine, memory, &output));
+    column(rt, text);
+    print_answer(rt, a.report, unaltered(m, a.machine, memory, &output));
 }
 
 // The same with so many words of memory.
-pub(crate) fn attempt(text: &[u8], m: Machine, size: usize, times: &[u64], bytes: &[u8], n: u64)
+pub(crate) fn attempt(
+    rt: &impl Print,
+    text: &[u8],
+    m: Machine,
+    size: usize,
+    times: &[u64],
+    bytes: &[u8],
+    n: u64,
+)
     requires { size ≤ 65537 }
 {
     let mut memory = [0u16; 65537];
     fill(&mut memory);
-    attempt_in(text, m, &mut memory, size, times, bytes, n);
+    attempt_in(rt, text, m, &mut memory, size, times, bytes, n);
 }

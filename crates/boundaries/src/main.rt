@@ -20,112 +20,117 @@ const MOST: u64 = 1048576;
 const SIZE: usize = 65536;
 
 // A call with no keys.
-fn keyless(text: &[u8], m: Machine, n: u64) {
-    attempt(text, m, SIZE, &[], &[], n);
+fn keyless(rt: &impl Print, text: &[u8], m: Machine, n: u64) {
+    attempt(rt, text, m, SIZE, &[], &[], n);
 }
 
 // A call of one step with so many words of memory.
-fn sized(text: &[u8], size: usize)
+fn sized(rt: &impl Print, text: &[u8], size: usize)
     requires { size ≤ 65537 }
 {
-    attempt(text, record(), size, &[], &[], 1);
+    attempt(rt, text, record(), size, &[], &[], 1);
 }
 
-fn memory_sizes() {
-    heading(b"11: memory is not 65,536 words");
-    sized(b"memory of 65,535 words", 65535);
-    sized(b"memory of 65,536 words", 65536);
-    sized(b"memory of 65,537 words", 65537);
+fn memory_sizes(rt: &impl Print) {
+    heading(rt, b"11: memory is not 65,536 words");
+    sized(rt, b"memory of 65,535 words", 65535);
+    sized(rt, b"memory of 65,536 words", 65536);
+    sized(rt, b"memory of 65,537 words", 65537);
 }
 
 // A call of no step with these in PSR, KBSR, KBDR and MCR.
-fn bits(text: &[u8], psr: u16, kbsr: u16, kbdr: u16, mcr: u16) {
+fn bits(rt: &impl Print, text: &[u8], psr: u16, kbsr: u16, kbdr: u16, mcr: u16) {
     let mut m = record();
     m.psr = psr;
     m.devices.kbsr = kbsr;
     m.devices.kbdr = kbdr;
     m.devices.mcr = mcr;
-    keyless(text, m, 0);
+    keyless(rt, text, m, 0);
 }
 
-fn undefined_bits() {
-    heading(b"12: an undefined bit, a count out of its bounds, or a clock above 2^48");
+fn undefined_bits(rt: &impl Print) {
+    heading(
+        rt,
+        b"12: an undefined bit, a count out of its bounds, or a clock above 2^48",
+    );
     bits(
+        rt,
         b"PSR x8707, KBSR xC000, KBDR x00FF, MCR x8000",
         0x8707,
         0xC000,
         0x00FF,
         0x8000,
     );
-    bits(b"PSR x870F", 0x870F, 0xC000, 0x00FF, 0x8000);
-    bits(b"KBSR xE000", 0x8707, 0xE000, 0x00FF, 0x8000);
-    bits(b"KBDR x01FF", 0x8707, 0xC000, 0x01FF, 0x8000);
-    bits(b"MCR x8001", 0x8707, 0xC000, 0x00FF, 0x8001);
+    bits(rt, b"PSR x870F", 0x870F, 0xC000, 0x00FF, 0x8000);
+    bits(rt, b"KBSR xE000", 0x8707, 0xE000, 0x00FF, 0x8000);
+    bits(rt, b"KBDR x01FF", 0x8707, 0xC000, 0x01FF, 0x8000);
+    bits(rt, b"MCR x8001", 0x8707, 0xC000, 0x00FF, 0x8001);
 }
 
 // A call of no step with the display busy for so many steps.
-fn busy(text: &[u8], count: u16) {
+fn busy(rt: &impl Print, text: &[u8], count: u16) {
     let mut m = record();
     m.devices.busy = count;
-    keyless(text, m, 0);
+    keyless(rt, text, m, 0);
 }
 
 // A call of no step with the timer so.
-fn timer(text: &[u8], status: u16, interval: u16, count: u16) {
+fn timer(rt: &impl Print, text: &[u8], status: u16, interval: u16, count: u16) {
     let mut m = record();
     m.devices.timer_status = status;
     m.devices.timer_interval = interval;
     m.devices.timer_count = count;
-    keyless(text, m, 0);
+    keyless(rt, text, m, 0);
 }
 
-fn counts() {
-    busy(b"busy 8", 8);
-    busy(b"busy 9", 9);
-    timer(b"timer status xC000, interval 7, count 7", 0xC000, 7, 7);
-    timer(b"timer status xE000", 0xE000, 7, 7);
-    timer(b"timer interval 7, count 8", 0xC000, 7, 8);
-    timer(b"timer interval 7, count 0", 0xC000, 7, 0);
+fn counts(rt: &impl Print) {
+    busy(rt, b"busy 8", 8);
+    busy(rt, b"busy 9", 9);
+    timer(rt, b"timer status xC000, interval 7, count 7", 0xC000, 7, 7);
+    timer(rt, b"timer status xE000", 0xE000, 7, 7);
+    timer(rt, b"timer interval 7, count 8", 0xC000, 7, 8);
+    timer(rt, b"timer interval 7, count 0", 0xC000, 7, 0);
 }
 
 // A call of so many steps at this clock.
-fn at_clock(text: &[u8], clock: u64, n: u64) {
+fn at_clock(rt: &impl Print, text: &[u8], clock: u64, n: u64) {
     let mut m = record();
     m.clock = clock;
-    keyless(text, m, n);
+    keyless(rt, text, m, n);
 }
 
 // The same at clock 0, halted.
-fn halted(text: &[u8], n: u64) {
+fn halted(rt: &impl Print, text: &[u8], n: u64) {
     let mut m = record();
     m.clock = 0;
     m.devices.mcr = 0;
-    keyless(text, m, n);
+    keyless(rt, text, m, n);
 }
 
-fn clocks() {
-    at_clock(b"clock 2^48, n 0", LAST, 0);
-    at_clock(b"clock 2^48 + 1, n 0", LAST + 1, 0);
+fn clocks(rt: &impl Print) {
+    at_clock(rt, b"clock 2^48, n 0", LAST, 0);
+    at_clock(rt, b"clock 2^48 + 1, n 0", LAST + 1, 0);
 }
 
-fn step_counts() {
-    heading(b"13: n above 1,048,576 or clock plus n above 2^48");
-    at_clock(b"clock 0, n 1,048,576", 0, MOST);
-    at_clock(b"clock 0, n 1,048,577", 0, MOST + 1);
-    halted(b"clock 0, n 1,048,576, halted", MOST);
-    halted(b"clock 0, n 1,048,577, halted", MOST + 1);
+fn step_counts(rt: &impl Print) {
+    heading(rt, b"13: n above 1,048,576 or clock plus n above 2^48");
+    at_clock(rt, b"clock 0, n 1,048,576", 0, MOST);
+    at_clock(rt, b"clock 0, n 1,048,577", 0, MOST + 1);
+    halted(rt, b"clock 0, n 1,048,576, halted", MOST);
+    halted(rt, b"clock 0, n 1,048,577, halted", MOST + 1);
 }
 
-fn step_counts_late() {
+fn step_counts_late(rt: &impl Print) {
     let first = LAST - MOST;
-    at_clock(b"clock 2^48 - 1,048,576, n 1,048,576", first, MOST);
-    at_clock(b"clock 2^48 - 1,048,575, n 1,048,576", first + 1, MOST);
-    at_clock(b"clock 2^48 - 1, n 1", LAST - 1, 1);
-    at_clock(b"clock 2^48, n 1", LAST, 1);
+    at_clock(rt, b"clock 2^48 - 1,048,576, n 1,048,576", first, MOST);
+    at_clock(rt, b"clock 2^48 - 1,048,575, n 1,048,576", first + 1, MOST);
+    at_clock(rt, b"clock 2^48 - 1, n 1", LAST - 1, 1);
+    at_clock(rt, b"clock 2^48, n 1", LAST, 1);
 }
 
 // A call with the first of these times and the first of these bytes.
 fn keyed_by_some(
+    rt: &impl Print,
     text: &[u8],
     m: Machine,
     size: usize,
@@ -139,36 +144,50 @@ fn keyed_by_some(
     requires k_in_bounds { k ≤ length times.now }
     requires l_in_bounds { l ≤ length bytes.now }
 {
-    attempt(text, m, size, &times[0..k], &bytes[0..l], n);
+    attempt(rt, text, m, size, &times[0..k], &bytes[0..l], n);
 }
 
 // A call of one step with so many times and so many bytes.
-fn listed(text: &[u8], times: usize, bytes: usize)
+fn listed(rt: &impl Print, text: &[u8], times: usize, bytes: usize)
     requires times_bound { times ≤ 2 }
     requires bytes_bound { bytes ≤ 2 }
 {
-    keyed_by_some(text, record(), SIZE, &[1000, 1000], times, b"ab", bytes, 1);
+    keyed_by_some(
+        rt,
+        text,
+        record(),
+        SIZE,
+        &[1000, 1000],
+        times,
+        b"ab",
+        bytes,
+        1,
+    );
 }
 
-fn list_lengths() {
-    heading(b"14: the key lists differ in length");
-    listed(b"2 times, 2 bytes", 2, 2);
-    listed(b"2 times, 1 byte", 2, 1);
-    listed(b"1 time, 2 bytes", 1, 2);
-    listed(b"no time, 1 byte", 0, 1);
+fn list_lengths(rt: &impl Print) {
+    heading(rt, b"14: the key lists differ in length");
+    listed(rt, b"2 times, 2 bytes", 2, 2);
+    listed(rt, b"2 times, 1 byte", 2, 1);
+    listed(rt, b"1 time, 2 bytes", 1, 2);
+    listed(rt, b"no time, 1 byte", 0, 1);
 }
 
 // A call of two steps with three keys, at these times.
-fn keyed(text: &[u8], first: u64, second: u64, third: u64) {
-    attempt(text, record(), SIZE, &[first, second, third], b"abc", 2);
+fn keyed(rt: &impl Print, text: &[u8], first: u64, second: u64, third: u64) {
+    attempt(rt, text, record(), SIZE, &[first, second, third], b"abc", 2);
 }
 
-fn key_times() {
-    heading(b"15: a time below the clock, here 1000; entries are counted from 0");
-    keyed(b"times 1000, 1001, 1001", 1000, 1001, 1001);
-    keyed(b"times 999, 1001, 1001", 999, 1001, 1001);
-    keyed(b"times 999, 998, 1001", 999, 998, 1001);
+fn key_times(rt: &impl Print) {
+    heading(
+        rt,
+        b"15: a time below the clock, here 1000; entries are counted from 0",
+    );
+    keyed(rt, b"times 1000, 1001, 1001", 1000, 1001, 1001);
+    keyed(rt, b"times 999, 1001, 1001", 999, 1001, 1001);
+    keyed(rt, b"times 999, 998, 1001", 999, 998, 1001);
     keyed(
+        rt,
         b"times 1000, 1001, 999: 19 would apply too",
         1000,
         1001,
@@ -176,12 +195,16 @@ fn key_times() {
     );
 }
 
-fn key_orders() {
-    heading(b"19: a time below the one before it, but not below the clock");
-    keyed(b"times 1001, 1001, 1001", 1001, 1001, 1001);
-    keyed(b"times 1001, 1001, 1000", 1001, 1001, 1000);
-    keyed(b"times 1002, 1001, 1000", 1002, 1001, 1000);
+fn key_orders(rt: &impl Print) {
+    heading(
+        rt,
+        b"19: a time below the one before it, but not below the clock",
+    );
+    keyed(rt, b"times 1001, 1001, 1001", 1001, 1001, 1001);
+    keyed(rt, b"times 1001, 1001, 1000", 1001, 1001, 1000);
+    keyed(rt, b"times 1002, 1001, 1000", 1002, 1001, 1000);
     keyed(
+        rt,
         b"times 1002, 1001, 999: 15 at a later entry",
         1002,
         1001,
@@ -190,35 +213,43 @@ fn key_orders() {
 }
 
 // A call to which 15 applies, with so many words of memory, this PSR, so many steps, and so many bytes for two times.
-fn several(text: &[u8], size: usize, psr: u16, n: u64, bytes: usize)
+fn several(rt: &impl Print, text: &[u8], size: usize, psr: u16, n: u64, bytes: usize)
     requires size_bound { size ≤ 65537 }
     requires bytes_bound { bytes ≤ 2 }
 {
     let mut m = record();
     m.psr = psr;
-    keyed_by_some(text, m, size, &[999, 1], 2, b"ab", bytes, n);
+    keyed_by_some(rt, text, m, size, &[999, 1], 2, b"ab", bytes, n);
 }
 
 // Calls that every refusal from one on applies to: the first in the order of M12.2 is answered.
-fn first_answered() {
-    heading(b"The first that applies is answered");
-    several(b"11, 12, 13, 14 and 15 apply", 65537, 0x000A, MOST + 1, 1);
-    several(b"12, 13, 14 and 15 apply", SIZE, 0x000A, MOST + 1, 1);
-    several(b"13, 14 and 15 apply", SIZE, 0x0302, MOST + 1, 1);
-    several(b"14 and 15 apply", SIZE, 0x0302, MOST, 1);
-    several(b"15 applies", SIZE, 0x0302, MOST, 2);
+fn first_answered(rt: &impl Print) {
+    heading(rt, b"The first that applies is answered");
+    several(
+        rt,
+        b"11, 12, 13, 14 and 15 apply",
+        65537,
+        0x000A,
+        MOST + 1,
+        1,
+    );
+    several(rt, b"12, 13, 14 and 15 apply", SIZE, 0x000A, MOST + 1, 1);
+    several(rt, b"13, 14 and 15 apply", SIZE, 0x0302, MOST + 1, 1);
+    several(rt, b"14 and 15 apply", SIZE, 0x0302, MOST, 1);
+    several(rt, b"15 applies", SIZE, 0x0302, MOST, 2);
 }
 
-fn main() {
-    title();
-    memory_sizes();
-    undefined_bits();
-    counts();
-    clocks();
-    step_counts();
-    step_counts_late();
-    list_lengths();
-    key_times();
-    key_orders();
-    first_answered();
+fn main(rt: HostRuntime) {
+    let rt = &rt;
+    title(rt);
+    memory_sizes(rt);
+    undefined_bits(rt);
+    counts(rt);
+    clocks(rt);
+    step_counts(rt);
+    step_counts_late(rt);
+    list_lengths(rt);
+    key_times(rt);
+    key_orders(rt);
+    first_answered(rt);
 }

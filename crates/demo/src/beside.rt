@@ -76,46 +76,46 @@ pub(crate) fn count_different(a: &[u16], b: &[u16]) -> u64 {
 }
 
 // What brought the candidate to the monitor's STOP, by the opcode of the word that it obeyed.
-fn print_reason(word: u16) {
+fn print_reason(rt: &impl Print, word: u16) {
     match word / 0x1000 {
-        0x8 => print(b"STOP, by the privilege exception"),
-        0xD => print(b"STOP, by the illegal opcode exception"),
-        0xF => print(b"STOP, by a trap without a service"),
-        _ => print(b"STOP, by the access exception"),
+        0x8 => print(rt, b"STOP, by the privilege exception"),
+        0xD => print(rt, b"STOP, by the illegal opcode exception"),
+        0xF => print(rt, b"STOP, by a trap without a service"),
+        _ => print(rt, b"STOP, by the access exception"),
     }
 }
 
 // The name of the monitor's routine at an address.
-fn print_routine(pc: u16, word: u16) {
+fn print_routine(rt: &impl Print, pc: u16, word: u16) {
     match pc {
-        0x0200 => print(b"GETC"),
-        0x0204 => print(b"OUT"),
-        0x020C => print(b"PUTS"),
-        0x026D => print(b"HALT"),
-        0x027C => print_reason(word),
-        _ => print(b"another routine"),
+        0x0200 => print(rt, b"GETC"),
+        0x0204 => print(rt, b"OUT"),
+        0x020C => print(rt, b"PUTS"),
+        0x026D => print(rt, b"HALT"),
+        0x027C => print_reason(rt, word),
+        _ => print(rt, b"another routine"),
     }
 }
 
 // A line for a step that left User mode: the clock, the PC and R0 before it, R0 after it, and the routine entered. The
 // word is the one that was obeyed.
-fn print_entry(before: Machine, after: Machine, word: u16) {
+fn print_entry(rt: &impl Print, before: Machine, after: Machine, word: u16) {
     if before.psr < 0x8000 {
         return;
     }
     if 0x8000 <= after.psr {
         return;
     }
-    print_number(before.clock, 5);
-    print(b"  ");
-    print_word(before.pc);
-    print(b"  ");
-    print_word(before.regs[0]);
-    print(b"      ");
-    print_word(after.regs[0]);
-    print(b"     ");
-    print_routine(after.pc, word);
-    print(b"\n");
+    print_number(rt, before.clock, 5);
+    print(rt, b"  ");
+    print_word(rt, before.pc);
+    print(rt, b"  ");
+    print_word(rt, before.regs[0]);
+    print(rt, b"      ");
+    print_word(rt, after.regs[0]);
+    print(rt, b"     ");
+    print_routine(rt, after.pc, word);
+    print(rt, b"\n");
 }
 
 // A call of one step, on what is left of the keys.
@@ -128,26 +128,37 @@ fn one_step(m: Machine, memory: &mut [u16], times: &[u64], bytes: &[u8], at: usi
 }
 
 // The same, with a line where the step leaves User mode.
-fn printed_step(m: Machine, memory: &mut [u16], times: &[u64], bytes: &[u8], at: usize) -> Answer
+fn printed_step(
+    rt: &impl Print,
+    m: Machine,
+    memory: &mut [u16],
+    times: &[u64],
+    bytes: &[u8],
+    at: usize,
+) -> Answer
     requires at_in_bounds { at ≤ length times.now }
     requires times_len { length times.now ≡ length bytes.now }
 {
     let word = word_at(memory, m.pc);
     let a = one_step(m, memory, times, bytes, at);
-    print_entry(m, a.machine, word);
+    print_entry(rt, m, a.machine, word);
     a
 }
 
-fn print_compared(steps: u64, same: u64) {
-    print(b"\nSteps made: ");
-    print_number(steps, 1);
-    print(b". After ");
-    print_number(same, 1);
-    print(b" of them record and counts were the same in both sittings.\n");
+fn print_compared(rt: &impl Print, steps: u64, same: u64) {
+    print(rt, b"\nSteps made: ");
+    print_number(rt, steps, 1);
+    print(rt, b". After ");
+    print_number(rt, same, 1);
+    print(
+        rt,
+        b" of them record and counts were the same in both sittings.\n",
+    );
 }
 
 // Makes the two sittings, and answers the last record of the first.
 pub(crate) fn sit_beside(
+    rt: &impl Print,
     first: Machine,
     second: Machine,
     memory: &mut [u16],
@@ -163,12 +174,12 @@ pub(crate) fn sit_beside(
     let mut same = 0;
     let mut steps = 0;
     while steps < STEPS {
-        let a = printed_step(m, memory, times, bytes, at);
+        let a = printed_step(rt, m, memory, times, bytes, at);
         let b = one_step(o, other, times, bytes, at);
         let r = a.report;
         let ending = r.ending;
         if is_over(ending) {
-            print_compared(steps, same);
+            print_compared(rt, steps, same);
             return m;
         }
         m = a.machine;

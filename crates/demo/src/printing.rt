@@ -1,23 +1,15 @@
 // Texts and numbers on standard output, in columns.
 
-const SPACES: [u8; 20] = [b' '; 20];
-
 const DIGITS: [u8; 16] = *b"0123456789ABCDEF";
 
-pub(crate) fn print(text: &[u8]) {
-    io::write_all(1, text);
+// What cannot be written is left out, and the program goes on.
+pub(crate) fn print(rt: &impl Print, text: &[u8]) {
+    let _ = rt.write_all(text);
 }
 
 // A decimal number, to the right of a column.
-pub(crate) fn print_number(n: u64, width: usize) {
-    let mut text = [0u8; 20];
-    let k = io::decimal(n, &mut text);
-    if k <= width {
-        if width <= 20 {
-            print(&SPACES[k..width]);
-        }
-    }
-    print(&text[..k]);
+pub(crate) fn print_number(rt: &impl Print, n: u64, width: usize) {
+    let _ = print!(rt; "{n:width$}");
 }
 
 fn digit(x: u16) -> u8 {
@@ -25,7 +17,7 @@ fn digit(x: u16) -> u8 {
 }
 
 // A word as the book writes it: x and four hexadecimal digits.
-pub(crate) fn print_word(x: u16) {
+pub(crate) fn print_word(rt: &impl Print, x: u16) {
     let text = [
         b'x',
         digit(x / 4096),
@@ -33,25 +25,25 @@ pub(crate) fn print_word(x: u16) {
         digit(x / 16),
         digit(x),
     ];
-    print(&text);
+    print(rt, &text);
 }
 
 // A byte of the display, the end of a line made visible.
-fn print_byte(b: u8) {
+fn print_byte(rt: &impl Print, b: u8) {
     if b == b'\n' {
-        print(b"\\n");
+        print(rt, b"\\n");
     } else {
-        print(&[b]);
+        print(rt, &[b]);
     }
 }
 
 // Bytes of the display between quotation marks.
-pub(crate) fn print_shown(bytes: &[u8]) {
-    print(b"\"");
+pub(crate) fn print_shown(rt: &impl Print, bytes: &[u8]) {
+    print(rt, b"\"");
     let mut i = 0;
     while i < bytes.len() {
-        print_byte(bytes[i]);
+        print_byte(rt, bytes[i]);
         i += 1;
     }
-    print(b"\"");
+    print(rt, b"\"");
 }

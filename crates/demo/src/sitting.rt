@@ -34,20 +34,20 @@ pub(crate) fn later(at: usize, more: usize, length: usize) -> usize
     }
 }
 
-fn stop_text(e: Ending) {
+fn stop_text(rt: &impl Print, e: Ending) {
     match e {
-        Ending::Done => print(b"done       "),
-        Ending::Halted => print(b"halted     "),
-        Ending::OutputFull => print(b"output full"),
-        Ending::Refused(_) => print(b"refused    "),
+        Ending::Done => print(rt, b"done       "),
+        Ending::Halted => print(rt, b"halted     "),
+        Ending::OutputFull => print(rt, b"output full"),
+        Ending::Refused(_) => print(rt, b"refused    "),
     }
 }
 
-fn mode_text(psr: u16) {
+fn mode_text(rt: &impl Print, psr: u16) {
     if psr < 0x8000 {
-        print(b"Supervisor");
+        print(rt, b"Supervisor");
     } else {
-        print(b"User      ");
+        print(rt, b"User      ");
     }
 }
 
@@ -61,29 +61,30 @@ pub(crate) fn is_over(e: Ending) -> bool {
 }
 
 // The call's line of the table.
-fn row(call: u64, m: Machine, r: Report, part: &[u8]) {
+fn row(rt: &impl Print, call: u64, m: Machine, r: Report, part: &[u8]) {
     let ending = r.ending;
-    print_number(call, 4);
-    print_number(r.steps, 7);
-    print_number(r.keys as u64, 6);
-    print_number(r.shown as u64, 7);
-    print(b"  ");
-    stop_text(ending);
-    print_number(m.clock, 7);
-    print(b"  ");
-    print_word(m.pc);
-    print(b"  ");
-    mode_text(m.psr);
-    print(b"  ");
+    print_number(rt, call, 4);
+    print_number(rt, r.steps, 7);
+    print_number(rt, r.keys as u64, 6);
+    print_number(rt, r.shown as u64, 7);
+    print(rt, b"  ");
+    stop_text(rt, ending);
+    print_number(rt, m.clock, 7);
+    print(rt, b"  ");
+    print_word(rt, m.pc);
+    print(rt, b"  ");
+    mode_text(rt, m.psr);
+    print(rt, b"  ");
     let shown = r.shown;
     if shown <= part.len() {
-        print_shown(&part[0..shown]);
+        print_shown(rt, &part[0..shown]);
     }
-    print(b"\n");
+    print(rt, b"\n");
 }
 
 // One call, on what is left of the keys and the next part of the display.
 fn call_on(
+    rt: &impl Print,
     m: Machine,
     memory: &mut [u16],
     times: &[u64],
@@ -96,12 +97,13 @@ fn call_on(
     requires times_len { length times.now ≡ length bytes.now }
 {
     let a = run_call::run(m, memory, &times[at..], &bytes[at..], part, STEPS);
-    row(call, a.machine, a.report, part);
+    row(rt, call, a.machine, a.report, part);
     a
 }
 
 // Makes the calls and prints the table.
 pub(crate) fn sit(
+    rt: &impl Print,
     first: Machine,
     memory: &mut [u16],
     times: &[u64],
@@ -117,7 +119,16 @@ pub(crate) fn sit(
     let mut call = 1;
     while call <= CALLS {
         let end = later(shown, ROOM, display.len());
-        let a = call_on(m, memory, times, bytes, at, &mut display[shown..end], call);
+        let a = call_on(
+            rt,
+            m,
+            memory,
+            times,
+            bytes,
+            at,
+            &mut display[shown..end],
+            call,
+        );
         m = a.machine;
         let r = a.report;
         at = later(at, r.keys, times.len());

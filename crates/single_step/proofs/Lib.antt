@@ -1,3 +1,2 @@
--- The laws of a step that is made by itself, and the walk through one on a lent record.
-pub mod LentRecord
+-- The laws of a step that is made by itself.
 pub mod SingleLaws

@@ -1,5 +1,5 @@
 // The single step by value: what a run with n = 1 answers, made with no loop. It has the run's refusals and stops, and
-// the step that every loop makes. The calls of hosts, on a record that is lent, are `one_step` by proofs/LentRecord.
+// the step that every loop makes.
 #![tactic(auto)]
 
 ghost use Rattle.std.specs.Prelude.{◌≡◌, List, ℕ, ◌+◌, ◌^◌, ◌≤◌, length};

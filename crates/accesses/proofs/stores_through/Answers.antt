@@ -1,0 +1,25 @@
+-- `accesses::stores_through` meets its contract.
+use borrow.Author.Rules.{rules}
+use native.Mathlib.Omega.{arith}
+use mathlib.Core.Path.{◌∙◌}
+use lib.ListN.{get_or}
+use Rattle.claims.specs.Encoding.{value_of, state_of, claim_with}
+use Rattle.accesses.proofs.AccessLaws.{stores_through_of, stores_through_no}
+use Rattle.accesses.proofs.stores_through.Goals as goal
+
+pub returns-then-kind_at-ne1 : goal.returns-then-kind_at-ne1
+returns-then-kind_at-ne1 c = λ rows.
+    let a = c.args in
+    stores_through_no (claim_with a.memory.now a.kinds.now a.lowest a.watched.now rows) a.pc
+    (value_of a.v) (state_of a.t.now) _ c.kind_at.result (get_or a.memory.now a.a 0)
+    c.kind_at.ensures
+    (λ e. omega arith)
+
+pub returns : goal.returns
+returns c = λ rows.
+    let a = c.args in
+    c.stores_at.ensures rows
+    ∙ rw c.word_at-pointer.ensures (stores_through_of (claim_with a.memory.now
+    a.kinds.now a.lowest a.watched.now rows) a.pc (value_of a.v) (state_of a.t.now) _
+    c.kind_at.result (get_or a.memory.now a.a 0)
+    c.kind_at.ensures (omega arith))

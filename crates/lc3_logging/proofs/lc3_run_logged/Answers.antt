@@ -1,0 +1,42 @@
+-- `lc3_run_logged` meets its contract: the tests answer as the definition does, and the rest is a callee's, in
+-- numbers; an accepted call has what the run requires.
+use mathlib.Core.Path.{sym, ap, ◌∙◌}
+use Rattle.run.specs.Run.{begin}
+use Rattle.run.specs.Call.{start_of}
+use Rattle.run.proofs.Acceptance.{accepted_is_acceptable}
+use Rattle.logging.specs.declared.LoggedAnswer.{LoggedAnswer}
+use Rattle.logging.specs.LoggedCall.{logged_admitted_by, logged_call_by, logged_end_of}
+use Rattle.lc3_logging.specs.LoggedAnswer.{logged_answer_of}
+use borrow.Author.Rules.{rules}
+use Rattle.lc3_logging.proofs.lc3_run_logged.Goals as goal
+
+pub run_accepted-requires : goal.run_accepted-requires
+run_accepted-requires c =
+    let a = c.args in
+    let k = accepted_is_acceptable (start_of a.m a.memory.now a.times.now a.bytes.now a.output.now)
+    a.n (sym (c.admission-admission.ensures a.output.now)
+    ∙ c.in-Accepted.is) in
+    record {
+      memory = k.size;
+      times_len = k.equal;
+      n_bound = k.clock;
+    }
+
+pub returns-in-Accepted : goal.returns-in-Accepted
+unfolding logged_call_by logged_admitted_by
+returns-in-Accepted c =
+    let went = c.run_accepted in
+    let admission = c.admission-admission in
+    let a = c.args in
+    rw (← admission.ensures a.output.now, c.in-Accepted.is)
+    (c.in_numbers.ensures _ _ _ ∙ ap logged_answer_of went.ensures)
+
+pub returns-in-Rejected : goal.returns-in-Rejected
+unfolding logged_call_by logged_admitted_by begin
+returns-in-Rejected c =
+    let a = c.args in
+    let turned = c.refused in
+    rw (← c.admission-admission.ensures a.output.now, c.in-Rejected.is)
+    (c.in_numbers-in-Rejected.ensures a.memory.now a.output.now a.log.now
+    ∙ ap (λ (x : LoggedAnswer). logged_answer_of (logged_end_of x a.memory.now a.output.now a.log.now))
+    turned.ensures)

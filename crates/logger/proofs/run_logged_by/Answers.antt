@@ -1,0 +1,36 @@
+-- `logger::run_logged_by` meets its contract: the tests answer as the definition does, and the rest is a callee's; an
+-- accepted call has what the run requires.
+use mathlib.Core.Path.{refl, sym, ◌∙◌}
+use Rattle.run.specs.Run.{begin}
+use Rattle.run.specs.Call.{start_of}
+use Rattle.run.proofs.Acceptance.{accepted_is_acceptable}
+use Rattle.logging.specs.LoggedCall.{logged_admitted_by, logged_call_by}
+use borrow.Author.Rules.{rules}
+use Rattle.logger.proofs.run_logged_by.Goals as goal
+
+pub run_accepted-requires : goal.run_accepted-requires
+run_accepted-requires c =
+    let admission = c.admission-admission in
+    let a = c.args in
+    let k = accepted_is_acceptable (start_of a.m a.memory.now a.times.now a.bytes.now a.output.now)
+    a.n (sym (admission.ensures a.output.now) ∙ c.in-Accepted.is) in
+    record {
+      memory = k.size;
+      times_len = k.equal;
+      n_bound = k.clock;
+    }
+
+pub returns-in-Accepted : goal.returns-in-Accepted
+unfolding logged_call_by logged_admitted_by
+returns-in-Accepted c =
+    let run-accepted = c.run_accepted in
+    let admission = c.admission-admission in
+    let a = c.args in
+    rw (← admission.ensures a.output.now, c.in-Accepted.is) run-accepted.ensures
+
+pub returns-in-Rejected : goal.returns-in-Rejected
+unfolding logged_call_by logged_admitted_by begin
+returns-in-Rejected c =
+    let admission = c.admission-admission in
+    let a = c.args in
+    rw (← admission.ensures a.output.now, c.in-Rejected.is, c.refused.ensures) refl

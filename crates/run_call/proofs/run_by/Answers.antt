@@ -1,0 +1,31 @@
+-- `run_call::run_by` meets its contract: the tests answer as the definition does, and the rest is a callee's; an
+-- accepted call has what the run requires.
+use mathlib.Core.Path.{sym, ◌∙◌}
+use Rattle.run.specs.Call.{admitted_by, call_by, start_of}
+use Rattle.run.proofs.Acceptance.{accepted_is_acceptable}
+use borrow.Author.Rules.{rules}
+use Rattle.run_call.proofs.run_by.Goals as goal
+
+pub run_accepted-requires : goal.run_accepted-requires
+run_accepted-requires c =
+    let a = c.args in
+    let k = accepted_is_acceptable (start_of a.m a.memory.now a.times.now a.bytes.now a.output.now)
+    a.n (sym (c.admission-admission.ensures a.output.now) ∙ c.in-Accepted.is) in
+    record {
+      memory = k.size;
+      times_len = k.equal;
+      n_bound = k.clock;
+    }
+
+pub returns-in-Accepted : goal.returns-in-Accepted
+unfolding call_by admitted_by
+returns-in-Accepted c =
+    let a = c.args in
+    rw (← c.admission-admission.ensures a.output.now, c.in-Accepted.is) c.run_accepted.ensures
+
+pub returns-in-Rejected : goal.returns-in-Rejected
+unfolding call_by admitted_by
+returns-in-Rejected c =
+    let a = c.args in
+    rw (← c.admission-admission.ensures a.output.now, c.in-Rejected.is)
+    (c.refused.ensures a.memory.now a.times.now a.bytes.now a.output.now)
