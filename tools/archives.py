@@ -159,7 +159,8 @@ def main(names: List[str]) -> int:
         for future in concurrent.futures.as_completed(asked):
             ended = future.result()
             status = status or ended.status
-            print(ended.said if ended.status else f"rt: build/archives/lib{ended.name}.a", flush=True)
+            wrote = f"rt: build/archives/lib{ended.name}.a"
+            print(ended.said if ended.status else wrote, flush=True)
     if not status:
         print(f"{len(names)} archives in {time.monotonic() - began:.0f} s")
     return status
