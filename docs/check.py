@@ -8,7 +8,7 @@ difference.
   is in docs/MACHINE.md, once.
 - Each crate is in docs/ARCHITECTURE.md, and crates.txt and the folders of crates/ have the same.
 - Each relative link of a document leads to a file, and to a heading where it names one.
-- No line of code or scripts has more than 120 characters; `rt fmt` lays out the crates.
+- No line of code or scripts has more than 120 characters; the crates are laid out by `rt fmt`.
 - What documents name is in the tree (check_names.py), and numbers that they state are those of the
   code (check_numbers.py).
 
@@ -20,13 +20,14 @@ import sys
 from collections import Counter
 from pathlib import Path
 
-from check_names import unknown
+from check_names import unknown, written
 from check_numbers import wrong
 from wrong_programs import differences
 
 RULE = re.compile(r"\bM\d+\.\d+\b")
 DEFINED_RULE = re.compile(r"\*\*(M\d+\.\d+)\*\*")
-CRATE = re.compile(r"(\w+)(?: staticlib)?:")
+# A crate of crates.txt; behind its name stands what is said of it, as `staticlib`.
+CRATE = re.compile(r"^(\w+)(?: +[\w=+]+)* *:", re.MULTILINE)
 LINK = re.compile(r"\]\(([^)\s]+)\)")
 FENCE = re.compile(r"^```.*?^```$", re.MULTILINE | re.DOTALL)
 # Folders that people write in, and the files there that are no data.
@@ -34,7 +35,8 @@ WRITTEN = ("docs", "examples", "host", "include", "page", "python", "tools")
 TEXTS = {".py", ".rs", ".c", ".h", ".sh", ".mjs", ".js", ".css", ".html"}
 CITING = (
     "crates/*/src/**/*.rt",
-    "crates/*/*/**/*.antt",
+    "crates/*/specs/**/*.antt",
+    "crates/*/proofs/**/*.antt",
     "include/**/*.h",
     "host/**/src/*.rs",
     "python/*/*.py",
@@ -56,7 +58,7 @@ def rules(root: Path, documents: list[Path]) -> list[str]:
 def crates(root: Path) -> list[str]:
     """Crates that crates.txt, crates/ or ARCHITECTURE.md lacks."""
     text = (root / "crates.txt").read_text(encoding="utf-8")
-    listed = {found[1] for line in text.splitlines() if (found := CRATE.match(line))}
+    listed = set(CRATE.findall(text))
     folders = {path.parent.parent.name for path in root.glob("crates/*/src/*.rt")}
     told = (root / "docs/ARCHITECTURE.md").read_text(encoding="utf-8")
     untold = [name for name in sorted(listed) if not re.search(rf"\b{name}\b", told)]
@@ -90,7 +92,7 @@ def links(root: Path, documents: list[Path]) -> list[str]:
 
 def long_lines(root: Path) -> list[str]:
     """Lines of more than 120 characters."""
-    paths = [path for folder in WRITTEN for path in sorted((root / folder).rglob("*"))]
+    paths = [path for folder in WRITTEN for path in written(root / folder)]
     return [
         f"{path.relative_to(root)}:{number}: {len(line)} characters"
         for path in paths

@@ -12,6 +12,7 @@ Landing notes, the changelog, decisions and the port tell of what stood in their
 out, but for what stands before the first decision.
 """
 
+import os
 import re
 from functools import lru_cache
 from pathlib import Path
@@ -19,7 +20,7 @@ from typing import Iterator
 
 SOURCES = ("crates", "examples", "host", "include", "page", "python", "tools")
 SUFFIXES = {".rt", ".antt", ".py", ".rs", ".c", ".h", ".sh", ".mjs", ".toml", ".in", ".edit"}
-BUILT = {"target", "build", "__pycache__"}
+BUILT = {"target", "build", "out", "__pycache__"}
 FENCE = re.compile(r"^```.*?^```$", re.MULTILINE | re.DOTALL)
 COMMENT = re.compile(r"^\s*(?:--|//|#).*$|\s(?:--|//)\s.*$", re.MULTILINE)
 # A name of Rattle may have hyphens and signs; one of another language is between other characters.
@@ -47,19 +48,26 @@ def code(path: Path) -> str:
 
 
 @lru_cache(maxsize=None)
+def written(place: Path) -> tuple[Path, ...]:
+    """The files in a folder, or the file, but for what is built."""
+    found = [place] if place.is_file() else []
+    for folder, inner, files in os.walk(place):
+        inner[:] = [name for name in inner if name not in BUILT]
+        found += [Path(folder, name) for name in files]
+    return tuple(sorted(found))
+
+
 def sources(place: Path) -> tuple[Path, ...]:
     """The files of code in a folder, or the file."""
-    found = [place] if place.is_file() else sorted(place.rglob("*"))
-    return tuple(
-        path for path in found if path.suffix in SUFFIXES and not BUILT.intersection(path.parts)
-    )
+    return tuple(path for path in written(place) if path.suffix in SUFFIXES)
 
 
 def words(paths: tuple[Path, ...]) -> set[str]:
-    """The words of files of code, with the names of these files and of their folders."""
+    """The words of files of code, with the names of these files and of the two folders above."""
     found: set[str] = set()
     for path in paths:
-        found.update(WORD.findall(code(path)), [path.name, path.stem, path.parent.name])
+        above = [path.parent.name, path.parent.parent.name]
+        found.update(WORD.findall(code(path)), [path.name, path.stem, *above])
     return found
 
 

@@ -1,6 +1,7 @@
 #!/usr/bin/env python3
-"""Checks that each public function of a library crate promises something, and that nothing which
-hosts call requires anything; exits 1 with a line for each that does not.
+"""Checks that each public function of a library crate promises something, that nothing which hosts
+call requires anything, and that each function which crate NAME_c exports has the parameters and the
+clauses of the one in crate NAME; exits 1 with a line for each that does not.
 
 With an argument, the root of the repository to check; otherwise the one that this file is in.
 """
@@ -24,6 +25,10 @@ class Function(NamedTuple):
     name: str
     exported: bool
     head: str
+
+    def plain(self) -> str:
+        """The text before the body without what the layout puts in."""
+        return re.sub(r"\s+", "", self.head).replace(",)", ")")
 
 
 def head(text: str, start: int) -> str:
@@ -61,6 +66,17 @@ def offences(path: Path) -> Iterator[str]:
             yield f"{function.name} is called by hosts, and requires something"
 
 
+def exports(root: Path) -> Iterator[str]:
+    """What a crate exports otherwise than the crate that it exports has it."""
+    for path in sorted(root.glob("crates/*_c/src/lib.rt")):
+        crate = root / "crates" / path.parts[-3].removesuffix("_c")
+        texts = [source.read_text(encoding="utf-8") for source in crate.glob("src/**/*.rt")]
+        heads = {found.name: found.plain() for text in texts for found in functions(text)}
+        for function in functions(path.read_text(encoding="utf-8")):
+            if function.exported and heads.get(function.name) != function.plain():
+                yield f"{path.relative_to(root)}: {function.name} is not as in {crate.name}"
+
+
 def main(words: list[str]) -> int:
     """Says what is wrong, or how many functions were read."""
     root = Path(words[0] if words else __file__).resolve()
@@ -71,6 +87,7 @@ def main(words: list[str]) -> int:
         if not (root / "crates" / path.relative_to(root).parts[1] / "src/main.rt").exists()
     ]
     wrong = [f"{path.relative_to(root)}: {text}" for path in sources for text in offences(path)]
+    wrong += exports(root)
     count = sum(len(list(functions(path.read_text(encoding="utf-8")))) for path in sources)
     print("\n".join(wrong) or f"contracts: {count} public functions promise something")
     return 1 if wrong or not count else 0

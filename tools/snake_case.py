@@ -17,7 +17,7 @@ import sys
 
 TOKEN = re.compile(r"[A-Za-z_][\w'′-]*")
 WORD = r"[^\s:(){}.,;λ=→]+"
-DECLARED = re.compile(rf"^\s*(?:(?:abbrev|unfoldable|pub)\s+)*((?:{WORD}\s+)*{WORD})\s*:\s")
+DECLARED = re.compile(rf"^\s*(?:(?:abbrev|unfoldable|pub)\s+)*((?:{WORD}\s+)*{WORD})\s*:(?:\s|$)")
 HEADED = re.compile(r"^\s*(?:(?:abbrev|unfoldable|pub)\s+)*(?:data|record|module|mod|use)\b")
 # Lemmas that port.py has turned, and that now have the name of a definition.
 TURNED = ["value_in"]

@@ -12,7 +12,7 @@ use Rattle.lines.proofs.line.Goals as goal
 pub returns-then-not-fits : goal.returns-then-not-fits
 returns-then-not-fits c =
     let does_not_fit : (let a = c.args in length a.output.now < length (line_of a.word)) =
-        leb-false _ _ (sym c.fits.ensures ∙ c.if-not-fits.true)
+    leb-false _ _ (sym c.fits.ensures ∙ c.if-not-fits.true)
     in
     let a = c.args in
     sym (too_long (line_of a.word) a.output.now (does_not_fit))
@@ -20,7 +20,7 @@ returns-then-not-fits c =
 pub returns : goal.returns
 returns c =
     let does-fit : (let a = c.args in length (line_of a.word) ≤ length a.output.now) =
-        leb-true _ _ (sym c.fits.ensures ∙ c.if-not-fits.false)
+    leb-true _ _ (sym c.fits.ensures ∙ c.if-not-fits.false)
     in
     let a = c.args in
     written (line_of a.word) a.output.now _ _ (does-fit) c.put_line-count.ensures

@@ -15,14 +15,14 @@ returns-then-refusal-ne0 c =
 
 pub load_accepted-requires : goal.load_accepted-requires
 load_accepted-requires c =
-        let a = c.args in
+    let a = c.args in
     accepted_is_readable a.file.now a.memory.now
     (sym c.load_refusal-refusal.ensures ∙ c.if-refusal-ne0.false)
 
 pub returns : goal.returns
 unfolding load_of load_by
 returns c =
-                let a = c.args in
+    let a = c.args in
     let accepted : load_refusal a.file.now a.memory.now
     ≡ 0 = (sym c.load_refusal-refusal.ensures
     ∙ c.if-refusal-ne0.false) in

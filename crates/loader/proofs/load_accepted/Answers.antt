@@ -6,7 +6,7 @@ use Rattle.loader.proofs.load_accepted.Goals as goal
 
 pub returns : goal.returns
 returns c =
-            let a = c.args in
+    let a = c.args in
     words-in-place a.file.now a.memory.now c.read_words.new.words
     c.word-origin.result c.word-origin.ensures
     c.read_words.ensures

@@ -15,14 +15,14 @@ returns-then-refusal-ne0 c =
 
 pub save_accepted-requires : goal.save_accepted-requires
 save_accepted-requires c =
-        let a = c.args in
+    let a = c.args in
     accepted_is_writable a.memory.now a.origin a.words a.output.now
     (sym c.save_refusal-refusal.ensures ∙ c.if-refusal-ne0.false)
 
 pub returns : goal.returns
 unfolding save_of save_accepted
 returns c =
-                let a = c.args in
+    let a = c.args in
     let accepted : save_refusal a.memory.now a.origin a.words a.output.now
     ≡ 0 = (sym c.save_refusal-refusal.ensures
     ∙ c.if-refusal-ne0.false) in

@@ -7,7 +7,7 @@ use Rattle.loader.proofs.save_accepted.Goals as goal
 
 pub returns : goal.returns
 returns c =
-                let a = c.args in
+    let a = c.args in
     rw (
       c.high.ensures,
       c.low.ensures,

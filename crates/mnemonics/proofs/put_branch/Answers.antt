@@ -21,7 +21,7 @@ returns c =
     (2 + length (code (c.args.mask / 4 % 2) lower_n) + length (code (c.args.mask / 2 % 2) lower_z) + length
     (code (c.args.mask % 2) lower_p) + length (space ∷ signed_number c.args.n ++ line_feed ∷ [])) ≤ length
     c.args.output.now =
-        let n = code (c.args.mask / 4 % 2) lower_n in
+    let n = code (c.args.mask / 4 % 2) lower_n in
     let z = code (c.args.mask / 2 % 2) lower_z in
     let p = code (c.args.mask % 2) lower_p in
     omega (
@@ -35,7 +35,7 @@ returns c =
     in
     let same : length (signed_number (to_z w16 (of_z w16 c.args.n)) ++ line_feed ∷ [])
     ≡ length (signed_number c.args.n ++ line_feed ∷ []) =
-        ap (λ (z : ℤ). length (signed_number z ++ line_feed ∷ [])) (to_z-of_z c.ranges.n)
+    ap (λ (z : ℤ). length (signed_number z ++ line_feed ∷ [])) (to_z-of_z c.ranges.n)
     in
     let room = fits in
     let passed = same in

@@ -18,15 +18,15 @@ pub returns : goal.returns
 returns c =
     let fits : c.args.at + (length c.args.separator.now + (length (signed_number c.args.n) + 1)) ≤
     length c.args.output.now =
-        omega (
-  arith,
-  c.requires,
-  length-append c.args.separator.now (signed_number c.args.n ++ line_feed ∷ []),
-  length-append (signed_number c.args.n) (line_feed ∷ []),
-)
+    omega (
+      arith,
+      c.requires,
+      length-append c.args.separator.now (signed_number c.args.n ++ line_feed ∷ []),
+      length-append (signed_number c.args.n) (line_feed ∷ []),
+    )
     in
     let same : length (signed_number (to_z w16 (of_z w16 c.args.n))) ≡ length (signed_number c.args.n) =
-        ap (λ (z : ℤ). length (signed_number z)) (to_z-of_z c.ranges.n)
+    ap (λ (z : ℤ). length (signed_number z)) (to_z-of_z c.ranges.n)
     in
     let room = fits in
     let passed = same in

@@ -19,16 +19,16 @@ returns c =
     let fits : c.args.at +
     (length c.args.mnemonic.now + length (space ∷ signed_number c.args.n ++ line_feed ∷ [])) ≤ length
     c.args.output.now =
-        omega (
-  arith,
-  c.requires,
-  length-append c.args.mnemonic.now
-      (space ∷ signed_number c.args.n ++ line_feed ∷ []),
-)
+    omega (
+      arith,
+      c.requires,
+      length-append c.args.mnemonic.now
+          (space ∷ signed_number c.args.n ++ line_feed ∷ []),
+    )
     in
     let same : length (signed_number (to_z w16 (of_z w16 c.args.n)) ++ line_feed ∷ [])
     ≡ length (signed_number c.args.n ++ line_feed ∷ []) =
-        ap (λ (z : ℤ). length (signed_number z ++ line_feed ∷ [])) (to_z-of_z c.ranges.n)
+    ap (λ (z : ℤ). length (signed_number z ++ line_feed ∷ [])) (to_z-of_z c.ranges.n)
     in
     let room = fits in
     let passed = same in

@@ -15,7 +15,7 @@ returns c =
     let fits : c.args.at +
     (length c.args.mnemonic.now + length (space ∷ register c.args.a ++ others [])) ≤ length
     c.args.output.now =
-        omega (arith, c.requires.1, length-append c.args.mnemonic.now (space ∷ register c.args.a ++ others []))
+    omega (arith, c.requires.1, length-append c.args.mnemonic.now (space ∷ register c.args.a ++ others []))
     in
     let room = fits in
     then c.put_text-next.ensures (then c.put_operand-next.ensures c.put.ensures (omega arith)) (omega arith)

@@ -20,16 +20,16 @@ returns c =
     let fits : c.args.at +
     (length c.args.mnemonic.now + length
     (space ∷ register c.args.a ++ others (signed_number c.args.n ∷ []))) ≤ length c.args.output.now =
-        omega (
-  arith,
-  c.requires.1,
-  length-append c.args.mnemonic.now
-      (space ∷ register c.args.a ++ others (signed_number c.args.n ∷ [])),
-)
+    omega (
+      arith,
+      c.requires.1,
+      length-append c.args.mnemonic.now
+          (space ∷ register c.args.a ++ others (signed_number c.args.n ∷ [])),
+    )
     in
     let same : length (signed_number (to_z w16 (of_z w16 c.args.n)) ++ line_feed ∷ [])
     ≡ length (signed_number c.args.n ++ line_feed ∷ []) =
-        ap (λ (z : ℤ). length (signed_number z ++ line_feed ∷ [])) (to_z-of_z c.ranges.n)
+    ap (λ (z : ℤ). length (signed_number z ++ line_feed ∷ [])) (to_z-of_z c.ranges.n)
     in
     let room = fits in
     let passed = same in

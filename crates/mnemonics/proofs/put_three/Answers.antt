@@ -16,12 +16,12 @@ returns c =
     (length c.args.mnemonic.now + length
     (space ∷ register c.args.a ++ others (register c.args.b ∷ register c.args.c ∷ []))) ≤ length
     c.args.output.now =
-        omega (
-  arith,
-  c.requires.3,
-  length-append c.args.mnemonic.now
-      (space ∷ register c.args.a ++ others (register c.args.b ∷ register c.args.c ∷ [])),
-)
+    omega (
+      arith,
+      c.requires.3,
+      length-append c.args.mnemonic.now
+          (space ∷ register c.args.a ++ others (register c.args.b ∷ register c.args.c ∷ [])),
+    )
     in
     let room = fits in
     then c.put_text-next.ensures

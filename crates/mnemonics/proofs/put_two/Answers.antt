@@ -15,12 +15,12 @@ returns c =
     let fits : c.args.at +
     (length c.args.mnemonic.now + length (space ∷ register c.args.a ++ others (register c.args.b ∷ []))) ≤
     length c.args.output.now =
-        omega (
-  arith,
-  c.requires.2,
-  length-append c.args.mnemonic.now
-      (space ∷ register c.args.a ++ others (register c.args.b ∷ [])),
-)
+    omega (
+      arith,
+      c.requires.2,
+      length-append c.args.mnemonic.now
+          (space ∷ register c.args.a ++ others (register c.args.b ∷ [])),
+    )
     in
     let room = fits in
     then c.put_text-next.ensures (then c.put_operand-next.ensures

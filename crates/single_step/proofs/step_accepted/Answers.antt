@@ -17,7 +17,7 @@ use Rattle.single_step.proofs.step_accepted.Goals as goal
 pub returns-then-m-lt32768 : goal.returns-then-m-lt32768
 returns-then-m-lt32768 c =
     let handed : Start =
-        start_of c.args.m c.args.memory.now c.args.times.now c.args.bytes.now c.args.output.now
+    start_of c.args.m c.args.memory.now c.args.times.now c.args.bytes.now c.args.output.now
     in
     let a = c.args in
     c.stopped.ensures a.memory.now a.times.now a.bytes.now a.output.now
@@ -28,16 +28,16 @@ pub returns-then-is_full : goal.returns-then-is_full
 unfolding begin ended_by
 returns-then-is_full c =
     let handed : Start =
-        start_of c.args.m c.args.memory.now c.args.times.now c.args.bytes.now c.args.output.now
+    start_of c.args.m c.args.memory.now c.args.times.now c.args.bytes.now c.args.output.now
     in
     let clock_on : 0x8000 ≤ c.args.m.devices.mcr =
-        c.if-m-lt32768.false
+    c.if-m-lt32768.false
     in
     let moved : moved_to c.advance-s.result c.advance-s.new.regs (c.args.m.clock + 1)
     c.advance-s.new.memory c.advance-s.new.output
     ≡ moves_of (edition_of c.args.second) (handed).times (handed).bytes
     (handed).machine (handed).memory (handed).output 0 0 =
-        let s = handed in
+    let s = handed in
     c.advance-s.ensures
     ∙ ap (λ (m : Machine). moves_of (edition_of c.args.second) s.times s.bytes m s.memory
     s.output 0 0) c.control_of-c.ensures
@@ -53,16 +53,16 @@ returns-then-is_full c =
 pub returns : goal.returns
 returns c =
     let handed : Start =
-        start_of c.args.m c.args.memory.now c.args.times.now c.args.bytes.now c.args.output.now
+    start_of c.args.m c.args.memory.now c.args.times.now c.args.bytes.now c.args.output.now
     in
     let clock_on : 0x8000 ≤ c.args.m.devices.mcr =
-        c.if-m-lt32768.false
+    c.if-m-lt32768.false
     in
     let moved : moved_to c.advance-s.result c.advance-s.new.regs (c.args.m.clock + 1)
     c.advance-s.new.memory c.advance-s.new.output
     ≡ moves_of (edition_of c.args.second) (handed).times (handed).bytes
     (handed).machine (handed).memory (handed).output 0 0 =
-        let s = handed in
+    let s = handed in
     c.advance-s.ensures
     ∙ ap (λ (m : Machine). moves_of (edition_of c.args.second) s.times s.bytes m s.memory
     s.output 0 0) c.control_of-c.ensures

@@ -9,21 +9,21 @@ use Rattle.vectors.proofs.has_room.Goals as goal
 
 pub returns-then-low-lt4 : goal.returns-then-low-lt4
 returns-then-low-lt4 c = let a = c.args in record {
-      by_index = λ watched rows. room_low (claim_with a.memory.now a.kinds.now a.lowest watched rows)
+  by_index = λ watched rows. room_low (claim_with a.memory.now a.kinds.now a.lowest watched rows)
       (omega arith);
-      memory_len_bound = λ e. absurd (false≢true e);
-    }
+  memory_len_bound = λ e. absurd (false≢true e);
+}
 
 pub returns-then-words-low : goal.returns-then-words-low
 returns-then-words-low c = let a = c.args in record {
-      by_index = λ watched rows. room_low (claim_with a.memory.now a.kinds.now a.lowest watched rows) (omega
+  by_index = λ watched rows. room_low (claim_with a.memory.now a.kinds.now a.lowest watched rows) (omega
       (arith, length_cells a.kinds.now a.memory.now));
-      memory_len_bound = λ e. absurd (false≢true e);
-    }
+  memory_len_bound = λ e. absurd (false≢true e);
+}
 
 pub returns : goal.returns
 returns c = let a = c.args in record {
-      by_index = λ watched rows. room_of (claim_with a.memory.now a.kinds.now a.lowest watched rows) (omega
+  by_index = λ watched rows. room_of (claim_with a.memory.now a.kinds.now a.lowest watched rows) (omega
       (arith, length_cells a.kinds.now a.memory.now));
-      memory_len_bound = λ e. omega (arith, length_cells a.kinds.now a.memory.now, leb-true a.lowest 0x2FFE e);
-    }
+  memory_len_bound = λ e. omega (arith, length_cells a.kinds.now a.memory.now, leb-true a.lowest 0x2FFE e);
+}

@@ -37,7 +37,7 @@ is_harmless-requires c =
       t_len = n;
       watched_len = search rules;
       t_bound = sound_bound (claim_of a.memory.now a.kinds.now a.lowest a.watched.now a.ends.now
-            a.table.now) (get_or s 6 0) (state_of s).words h;
+          a.table.now) (get_or s 6 0) (state_of s).words h;
     }
 
 pub returns-then-not-is_harmless : goal.returns-then-not-is_harmless

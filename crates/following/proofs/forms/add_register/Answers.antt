@@ -7,7 +7,7 @@ use Rattle.following.proofs.forms.add_register.Goals as goal
 pub returns : goal.returns
 unfolding harmless is_first
 returns c = λ k. c.moves.ensures k ∙ rw (
-      c.sum_of-v.ensures,
-      c.register.ensures,
-      c.register-2.ensures,
-    ) refl
+  c.sum_of-v.ensures,
+  c.register.ensures,
+  c.register-2.ensures,
+) refl

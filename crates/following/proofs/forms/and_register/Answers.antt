@@ -7,7 +7,7 @@ use Rattle.following.proofs.forms.and_register.Goals as goal
 pub returns : goal.returns
 unfolding harmless
 returns c = λ k. c.moves.ensures k ∙ rw (
-      c.and_of-v.ensures,
-      c.register.ensures,
-      c.register-2.ensures,
-    ) refl
+  c.and_of-v.ensures,
+  c.register.ensures,
+  c.register-2.ensures,
+) refl

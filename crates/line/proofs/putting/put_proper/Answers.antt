@@ -21,9 +21,9 @@ last w p q = omega arith
 
 pub put_br-requires : goal.put_br-requires
 put_br-requires c =
-    let room :(k : ℕ) → opcode c.args.word ≡ k
+    let room : (k : ℕ) → opcode c.args.word ≡ k
     → Room c.args.at (get_or (proper_lines c.args.word) k []) c.args.output.now =
-        λ k e. rw (proper_as c.args.word k e) at c.requires
+    λ k e. rw (proper_as c.args.word k e) at c.requires
     in
     room 0 c.in-0.is
 
@@ -33,9 +33,9 @@ returns-in-0 c =
 
 pub put_operate-requires : goal.put_operate-requires
 put_operate-requires c =
-    let room :(k : ℕ) → opcode c.args.word ≡ k
+    let room : (k : ℕ) → opcode c.args.word ≡ k
     → Room c.args.at (get_or (proper_lines c.args.word) k []) c.args.output.now =
-        λ k e. rw (proper_as c.args.word k e) at c.requires
+    λ k e. rw (proper_as c.args.word k e) at c.requires
     in
     room 1 c.in-1.is
 
@@ -45,9 +45,9 @@ returns-in-1 c =
 
 pub put_relative-requires : goal.put_relative-requires
 put_relative-requires c =
-    let room :(k : ℕ) → opcode c.args.word ≡ k
+    let room : (k : ℕ) → opcode c.args.word ≡ k
     → Room c.args.at (get_or (proper_lines c.args.word) k []) c.args.output.now =
-        λ k e. rw (proper_as c.args.word k e) at c.requires
+    λ k e. rw (proper_as c.args.word k e) at c.requires
     in
     room 2 c.in-2.is
 
@@ -57,9 +57,9 @@ returns-in-2 c =
 
 pub put_relative-requires-in-3 : goal.put_relative-requires-in-3
 put_relative-requires-in-3 c =
-    let room :(k : ℕ) → opcode c.args.word ≡ k
+    let room : (k : ℕ) → opcode c.args.word ≡ k
     → Room c.args.at (get_or (proper_lines c.args.word) k []) c.args.output.now =
-        λ k e. rw (proper_as c.args.word k e) at c.requires
+    λ k e. rw (proper_as c.args.word k e) at c.requires
     in
     room 3 c.in-3.is
 
@@ -69,9 +69,9 @@ returns-in-3 c =
 
 pub put_call-requires : goal.put_call-requires
 put_call-requires c =
-    let room :(k : ℕ) → opcode c.args.word ≡ k
+    let room : (k : ℕ) → opcode c.args.word ≡ k
     → Room c.args.at (get_or (proper_lines c.args.word) k []) c.args.output.now =
-        λ k e. rw (proper_as c.args.word k e) at c.requires
+    λ k e. rw (proper_as c.args.word k e) at c.requires
     in
     room 4 c.in-4.is
 
@@ -81,9 +81,9 @@ returns-in-4 c =
 
 pub put_operate-requires-in-5 : goal.put_operate-requires-in-5
 put_operate-requires-in-5 c =
-    let room :(k : ℕ) → opcode c.args.word ≡ k
+    let room : (k : ℕ) → opcode c.args.word ≡ k
     → Room c.args.at (get_or (proper_lines c.args.word) k []) c.args.output.now =
-        λ k e. rw (proper_as c.args.word k e) at c.requires
+    λ k e. rw (proper_as c.args.word k e) at c.requires
     in
     room 5 c.in-5.is
 
@@ -93,9 +93,9 @@ returns-in-5 c =
 
 pub put_based-requires : goal.put_based-requires
 put_based-requires c =
-    let room :(k : ℕ) → opcode c.args.word ≡ k
+    let room : (k : ℕ) → opcode c.args.word ≡ k
     → Room c.args.at (get_or (proper_lines c.args.word) k []) c.args.output.now =
-        λ k e. rw (proper_as c.args.word k e) at c.requires
+    λ k e. rw (proper_as c.args.word k e) at c.requires
     in
     room 6 c.in-6.is
 
@@ -105,9 +105,9 @@ returns-in-6 c =
 
 pub put_based-requires-in-7 : goal.put_based-requires-in-7
 put_based-requires-in-7 c =
-    let room :(k : ℕ) → opcode c.args.word ≡ k
+    let room : (k : ℕ) → opcode c.args.word ≡ k
     → Room c.args.at (get_or (proper_lines c.args.word) k []) c.args.output.now =
-        λ k e. rw (proper_as c.args.word k e) at c.requires
+    λ k e. rw (proper_as c.args.word k e) at c.requires
     in
     room 7 c.in-7.is
 
@@ -117,9 +117,9 @@ returns-in-7 c =
 
 pub put_text-requires : goal.put_text-requires
 put_text-requires c =
-    let room :(k : ℕ) → opcode c.args.word ≡ k
+    let room : (k : ℕ) → opcode c.args.word ≡ k
     → Room c.args.at (get_or (proper_lines c.args.word) k []) c.args.output.now =
-        λ k e. rw (proper_as c.args.word k e) at c.requires
+    λ k e. rw (proper_as c.args.word k e) at c.requires
     in
     room 8 c.in-8.is
 
@@ -129,9 +129,9 @@ returns-in-8 c =
 
 pub put_not-requires : goal.put_not-requires
 put_not-requires c =
-    let room :(k : ℕ) → opcode c.args.word ≡ k
+    let room : (k : ℕ) → opcode c.args.word ≡ k
     → Room c.args.at (get_or (proper_lines c.args.word) k []) c.args.output.now =
-        λ k e. rw (proper_as c.args.word k e) at c.requires
+    λ k e. rw (proper_as c.args.word k e) at c.requires
     in
     room 9 c.in-9.is
 
@@ -141,9 +141,9 @@ returns-in-9 c =
 
 pub put_relative-requires-in-10 : goal.put_relative-requires-in-10
 put_relative-requires-in-10 c =
-    let room :(k : ℕ) → opcode c.args.word ≡ k
+    let room : (k : ℕ) → opcode c.args.word ≡ k
     → Room c.args.at (get_or (proper_lines c.args.word) k []) c.args.output.now =
-        λ k e. rw (proper_as c.args.word k e) at c.requires
+    λ k e. rw (proper_as c.args.word k e) at c.requires
     in
     room 10 c.in-10.is
 
@@ -153,9 +153,9 @@ returns-in-10 c =
 
 pub put_relative-requires-in-11 : goal.put_relative-requires-in-11
 put_relative-requires-in-11 c =
-    let room :(k : ℕ) → opcode c.args.word ≡ k
+    let room : (k : ℕ) → opcode c.args.word ≡ k
     → Room c.args.at (get_or (proper_lines c.args.word) k []) c.args.output.now =
-        λ k e. rw (proper_as c.args.word k e) at c.requires
+    λ k e. rw (proper_as c.args.word k e) at c.requires
     in
     room 11 c.in-11.is
 
@@ -165,9 +165,9 @@ returns-in-11 c =
 
 pub put_jump-requires : goal.put_jump-requires
 put_jump-requires c =
-    let room :(k : ℕ) → opcode c.args.word ≡ k
+    let room : (k : ℕ) → opcode c.args.word ≡ k
     → Room c.args.at (get_or (proper_lines c.args.word) k []) c.args.output.now =
-        λ k e. rw (proper_as c.args.word k e) at c.requires
+    λ k e. rw (proper_as c.args.word k e) at c.requires
     in
     room 12 c.in-12.is
 
@@ -177,9 +177,9 @@ returns-in-12 c =
 
 pub put_fill-requires : goal.put_fill-requires
 put_fill-requires c =
-    let room :(k : ℕ) → opcode c.args.word ≡ k
+    let room : (k : ℕ) → opcode c.args.word ≡ k
     → Room c.args.at (get_or (proper_lines c.args.word) k []) c.args.output.now =
-        λ k e. rw (proper_as c.args.word k e) at c.requires
+    λ k e. rw (proper_as c.args.word k e) at c.requires
     in
     room 13 c.in-13.is
 
@@ -189,9 +189,9 @@ returns-in-13 c =
 
 pub put_relative-requires-in-14 : goal.put_relative-requires-in-14
 put_relative-requires-in-14 c =
-    let room :(k : ℕ) → opcode c.args.word ≡ k
+    let room : (k : ℕ) → opcode c.args.word ≡ k
     → Room c.args.at (get_or (proper_lines c.args.word) k []) c.args.output.now =
-        λ k e. rw (proper_as c.args.word k e) at c.requires
+    λ k e. rw (proper_as c.args.word k e) at c.requires
     in
     room 14 c.in-14.is
 
@@ -201,12 +201,12 @@ returns-in-14 c =
 
 pub put_trap-requires : goal.put_trap-requires
 put_trap-requires c =
-    let room :(k : ℕ) → opcode c.args.word ≡ k
+    let room : (k : ℕ) → opcode c.args.word ≡ k
     → Room c.args.at (get_or (proper_lines c.args.word) k []) c.args.output.now =
-        λ k e. rw (proper_as c.args.word k e) at c.requires
+    λ k e. rw (proper_as c.args.word k e) at c.requires
     in
     let trap-opcode : opcode c.args.word ≡ 15 =
-        let w = c.args.word in
+    let w = c.args.word in
     last w (none_below (w / 4096) 15 c.in_default.in_default-own.rest) c.ranges.word.fits
     in
     (omega arith, room 15 (trap-opcode))
@@ -214,7 +214,7 @@ put_trap-requires c =
 pub returns-in_default : goal.returns-in_default
 returns-in_default c =
     let trap-opcode : opcode c.args.word ≡ 15 =
-        let w = c.args.word in
+    let w = c.args.word in
     last w (none_below (w / 4096) 15 c.in_default.in_default-own.rest) c.ranges.word.fits
     in
     arm c.args.word 15 (trap-opcode) c.put_trap.ensures

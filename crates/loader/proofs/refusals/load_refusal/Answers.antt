@@ -24,7 +24,7 @@ returns-then-file-lt2 c =
 pub returns-then-origin-file-gt65536 : goal.returns-then-origin-file-gt65536
 unfolding load_refusal wrong_size wrong_length beyond_memory
 returns-then-origin-file-gt65536 c =
-                rw (
+    rw (
       eq-eqb _ _ c.if-memory-ne65536.false,
       eq-eqb _ _
           c.if-file-ne0.false,
@@ -37,7 +37,7 @@ returns-then-origin-file-gt65536 c =
 pub returns : goal.returns
 unfolding load_refusal wrong_size wrong_length beyond_memory
 returns c =
-                rw (
+    rw (
       eq-eqb _ _ c.if-memory-ne65536.false,
       eq-eqb _ _
           c.if-file-ne0.false,

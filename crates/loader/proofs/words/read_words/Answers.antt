@@ -12,7 +12,7 @@ use Rattle.loader.proofs.words.read_words.Goals as goal
 
 pub loop-k-preserved : goal.loop-k-preserved
 loop-k-preserved c =
-            let a = c.args in
+    let a = c.args in
     let l = c.loop-k in
     let p = c.pair.ensures in
     let x = c.exchanged.ensures in

@@ -11,7 +11,7 @@ use Rattle.loader.proofs.words.write_words.Goals as goal
 
 pub loop-k-preserved : goal.loop-k-preserved
 loop-k-preserved c =
-                let l = c.loop-k in
+    let l = c.loop-k in
     let x = c.exchanged.ensures in
     let e = c.put_pair.ensures in (
       rw (e, x.0, x.1)

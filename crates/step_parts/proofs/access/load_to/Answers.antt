@@ -11,7 +11,7 @@ use Rattle.step_parts.proofs.access.load_to.Goals as goal
 pub returns-then-is_denied : goal.returns-then-is_denied
 unfolding load_to_by
 returns-then-is_denied c = λ clock output.
-                    let a = c.args in
+    let a = c.args in
     rw (
       ← c.is_denied.ensures,
       c.if-is_denied.true,
@@ -23,7 +23,7 @@ returns-then-is_denied c = λ clock output.
 pub returns : goal.returns
 unfolding load_to_by
 returns c = λ clock output.
-                let a = c.args in
+    let a = c.args in
     rw (
       ← c.is_denied.ensures,
       c.if-is_denied.false,

@@ -13,7 +13,7 @@ use Rattle.step_parts.proofs.access.store_at.Goals as goal
 pub returns-then-is_denied : goal.returns-then-is_denied
 unfolding store_at_by
 returns-then-is_denied c = λ clock.
-                    let a = c.args in
+    let a = c.args in
     rw (
       ← c.is_denied.ensures,
       c.if-is_denied.true,
@@ -25,7 +25,7 @@ returns-then-is_denied c = λ clock.
 pub returns : goal.returns
 unfolding store_at_by
 returns c = λ clock.
-                            let a = c.args in
+    let a = c.args in
     rw (
       ← c.is_denied.ensures,
       c.if-is_denied.false,

@@ -10,7 +10,7 @@ use Rattle.step_parts.proofs.access.store_by.Goals as goal
 pub returns-then-is_denied : goal.returns-then-is_denied
 unfolding by_pointer_by
 returns-then-is_denied c = λ clock.
-                    let a = c.args in
+    let a = c.args in
     rw (
       ← c.is_denied.ensures,
       c.if-is_denied.true,
@@ -22,7 +22,7 @@ returns-then-is_denied c = λ clock.
 pub returns : goal.returns
 unfolding by_pointer_by with_reads
 returns c = λ clock.
-                            let a = c.args in
+    let a = c.args in
     let after_load_lem = c.after_load-n in
     let load = c.load-p in
     rw (

@@ -14,7 +14,7 @@ use Rattle.step_parts.proofs.devices.store.Goals as goal
 pub returns-in-65024 : goal.returns-in-65024
 unfolding stored_by is_device_by device_store kbsr_store
 returns-in-65024 c = λ regs clock.
-            let a = c.args in
+    let a = c.args in
     rw (c.in-65024.is, c.unshown.ensures, ← c.with_enable.ensures)
     (ap (λ (m : Machine). delivered regs a.memory.now a.output.now (plain_outcome m a.memory.now))
     (c.with_kbsr.ensures regs clock))
@@ -27,14 +27,14 @@ returns-in-65026 c =
 pub returns-in-65030 : goal.returns-in-65030
 unfolding stored_by is_device_by device_store
 returns-in-65030 c = λ regs clock.
-            rw c.in-65030.is
+    rw c.in-65030.is
     (c.show-display.ensures _ regs
     c.args.memory.now clock refl)
 
 pub returns-in-65032 : goal.returns-in-65032
 unfolding stored_by is_device_by device_store timer_status_store
 returns-in-65032 c = λ regs clock.
-            let a = c.args in
+    let a = c.args in
     rw (c.in-65032.is, c.unshown-in-65032.ensures, ← c.with_enable-status.ensures)
     (ap (λ (m : Machine). delivered regs a.memory.now a.output.now (plain_outcome m a.memory.now))
     (c.with_timer.ensures regs clock))
@@ -50,7 +50,7 @@ returns-in-65034 c =
 
 pub returns-in-65532 : goal.returns-in-65532
 returns-in-65532 c = λ regs clock.
-                let a = c.args in
+    let a = c.args in
     rw (c.in-65532.is, c.unshown-in-65532.ensures)
     (psr_store_delivered regs a.memory.now a.output.now (edition_of a.second) a.v _ _ _
     (c.store_psr.ensures regs clock))
@@ -67,7 +67,7 @@ returns-in-65534 c =
 pub returns-in_default : goal.returns-in_default
 unfolding stored_by
 returns-in_default c = λ regs clock.
-                let args = c.args in
+    let args = c.args in
     let r = c.in_default.in_default-own.rest in
     rw (
       no_device (edition_of args.second) args.a r.0.0.0.0.0.0.1

@@ -10,7 +10,7 @@ use Rattle.step_parts.proofs.devices.store_psr.Goals as goal
 pub returns-then-second : goal.returns-then-second
 unfolding stored_by
 returns-then-second c = λ regs clock.
-            let a = c.args in
+    let a = c.args in
     rw (
       psr_is_device (edition_of a.second),
       c.if-second.true,

@@ -10,14 +10,14 @@ use Rattle.step_parts.proofs.edition.trap.Goals as goal
 pub returns-then-second : goal.returns-then-second
 unfolding linked
 returns-then-second c = λ clock output.
-            let a = c.args in
+    let a = c.args in
     rw (c.if-second.true, c.unshown.ensures)
     (ap (λ (e : Effect). deliver a.regs.now a.memory.now output e.machine e.memory Instruction e.shown)
     (c.link.ensures clock))
 
 pub returns : goal.returns
 returns c = λ clock output.
-                    let a = c.args in
+    let a = c.args in
     rw (
       c.if-second.false,
       c.unshown-2.ensures,

@@ -7,7 +7,7 @@ use Rattle.step_parts.proofs.entry.enter.Goals as goal
 pub returns : goal.returns
 unfolding entry after_entry stack_pointer_on_entry user_stack_on_entry
 returns c = λ clock reason h.
-                                rw (
+    rw (
       h,
       c.word_at-target.ensures,
       c.by_mode-saved_usp.ensures,

@@ -7,5 +7,5 @@ use Rattle.step_parts.proofs.entry.interrupt.Goals as goal
 pub returns : goal.returns
 unfolding interrupted
 returns c = λ clock.
-        c.enter.ensures clock
+    c.enter.ensures clock
     (interrupt c.args.vector) refl

@@ -6,7 +6,7 @@ use Rattle.step_parts.proofs.entry.push_two.Goals as goal
 pub returns : goal.returns
 unfolding pushed
 returns c =
-                rw (
+    rw (
       c.set_word-2.ensures,
       c.before-second.ensures,
       c.set_word.ensures,

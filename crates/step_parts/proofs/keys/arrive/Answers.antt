@@ -8,7 +8,7 @@ use Rattle.step_parts.proofs.keys.arrive.Goals as goal
 
 pub loop-k-preserved : goal.loop-k-preserved
 loop-k-preserved c = λ regs clock.
-            let a = c.args in
+    let a = c.args in
     let l = c.loop-k in
     rw (c.press-n.ensures regs clock)
     (sym (one-key-arrives a.t a.times.now a.bytes.now (whole regs clock l.n) l.k (search rules)
@@ -25,7 +25,7 @@ returns-after-loop-k c =
 
 pub returns-then-times-k : goal.returns-then-times-k
 returns-then-times-k c = λ regs clock.
-            let a = c.args in
+    let a = c.args in
     let l = c.loop-k in
     no-key-arrives a.t a.times.now a.bytes.now (whole regs clock l.n) l.k (search rules) (search rules)
     c.if-times-k.true

@@ -13,7 +13,7 @@ use Rattle.step_parts.proofs.return_from.return_from_interrupt.Goals as goal
 pub returns-then-c-lt32768 : goal.returns-then-c-lt32768
 unfolding return popped in_user_mode
 returns-then-c-lt32768 c = λ clock output.
-                                let a = c.args in
+    let a = c.args in
     rw (
       lt-leb _ _ c.if-c-lt32768.true,
       c.unshown.ensures,
@@ -32,7 +32,7 @@ returns-then-c-lt32768 c = λ clock output.
 pub returns : goal.returns
 unfolding return in_user_mode
 returns c = λ clock output.
-                let a = c.args in
+    let a = c.args in
     rw (le-leb _ _ c.if-c-lt32768.false, c.unshown-2.ensures)
     (raise_delivered a.regs.now a.memory.now output privilege _ _ _ _
     (c.raise.ensures clock privilege refl))

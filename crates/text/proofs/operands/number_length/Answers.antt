@@ -30,7 +30,7 @@ overflow_add-result-else-n-lt0 c = omega (
 pub returns-then-n-lt0 : goal.returns-then-n-lt0
 returns-then-n-lt0 c =
     let sized : c.size-magnitude.result ≡ mag c.args.n =
-        c.size-magnitude.ensures ∙ ap mag (to_z-of_z c.ranges.n)
+    c.size-magnitude.ensures ∙ ap mag (to_z-of_z c.ranges.n)
     in
     let n = c.args.n in
     let e : length (decimal (c.size-magnitude.result + 1))
@@ -42,7 +42,7 @@ returns-then-n-lt0 c =
 pub returns-else-n-lt0 : goal.returns-else-n-lt0
 returns-else-n-lt0 c =
     let sized : c.size-magnitude.result ≡ mag c.args.n =
-        c.size-magnitude.ensures ∙ ap mag (to_z-of_z c.ranges.n)
+    c.size-magnitude.ensures ∙ ap mag (to_z-of_z c.ranges.n)
     in
     let n = c.args.n in
     let e : length (decimal c.size-magnitude.result)

@@ -14,7 +14,7 @@ use Rattle.text.proofs.operands.put_number.Goals as goal
 pub returns-else-n-lt0 : goal.returns-else-n-lt0
 returns-else-n-lt0 c =
     let sized : c.size-magnitude.result ≡ mag c.args.n =
-        c.size-magnitude.ensures ∙ ap mag (to_z-of_z c.ranges.n)
+    c.size-magnitude.ensures ∙ ap mag (to_z-of_z c.ranges.n)
     in
     rw (not_below_zero c.args.n c.ranges.n c.if-n-lt0.false, ← sized)
     (then c.put_text-next-else-n-lt0.ensures
