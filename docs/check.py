@@ -8,7 +8,7 @@ difference.
   is in docs/MACHINE.md, once.
 - Each crate is in docs/ARCHITECTURE.md, and crates.txt and the folders of crates/ have the same.
 - Each relative link of a document leads to a file, and to a heading where it names one.
-- No line of code or scripts has more than 120 characters; the crates are laid out by `rt fmt`.
+- No line of code, definitions, proofs or scripts has more than 120 characters.
 - What documents name is in the tree (check_names.py), and numbers that they state are those of the
   code (check_numbers.py).
 
@@ -31,8 +31,8 @@ CRATE = re.compile(r"^(\w+)(?: +[\w=+]+)* *:", re.MULTILINE)
 LINK = re.compile(r"\]\(([^)\s]+)\)")
 FENCE = re.compile(r"^```.*?^```$", re.MULTILINE | re.DOTALL)
 # Folders that people write in, and the files there that are no data.
-WRITTEN = ("docs", "examples", "host", "include", "page", "python", "tools")
-TEXTS = {".py", ".rs", ".c", ".h", ".sh", ".mjs", ".js", ".css", ".html"}
+WRITTEN = ("crates", "docs", "examples", "host", "include", "page", "python", "tools")
+TEXTS = {".rt", ".antt", ".py", ".rs", ".c", ".h", ".sh", ".mjs", ".js", ".css", ".html"}
 CITING = (
     "crates/*/src/**/*.rt",
     "crates/*/specs/**/*.antt",
