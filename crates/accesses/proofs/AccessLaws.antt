@@ -13,9 +13,11 @@ use Rattle.machine.specs.Words.{next, plus}
 use Rattle.machine.specs.Devices.{DDR, MCR, is_device}
 use Rattle.sitting.specs.Values.{Value, unset, any, is, high, low, sum, allowed, kind_of, number_of, value_by, same}
 use Rattle.sitting.specs.Values.{besides, all_besides}
-use Rattle.sitting.specs.Test.{Claim, State, Cell, fixed, own, hidden, cell_at, is_hidden, is_own, is_stack, is_free_stack}
+use Rattle.sitting.specs.Test.{Claim, State, Cell, fixed, own, hidden, cell_at, is_hidden, is_own, is_stack}
+use Rattle.sitting.specs.Test.{is_free_stack}
 use Rattle.sitting.specs.Test.{is_loadable, held, from_cell, loaded_from, moved, remember, accepts, loads_at, loads_by}
-use Rattle.sitting.specs.Test.{loads_through, stores_at, stores_by, stores_through, jumps_by, value_in, calling, calls_from}
+use Rattle.sitting.specs.Test.{loads_through, stores_at, stores_by, stores_through, jumps_by, value_in, calling}
+use Rattle.sitting.specs.Test.{calls_from}
 use Rattle.sitting.specs.Test.{calls_by, returning, returns_by, put}
 use Rattle.claims.specs.Encoding.{cell_of, value_of, state_of}
 use Rattle.claims.specs.Changes.{remember_in}

@@ -12,8 +12,10 @@ use Rattle.certify_examples.specs.Examples.{FindingsInOrder}
 
 -- To unfold this is to compute an answer.
 unfoldable pub computing : Unit {0}
-unfolding testing value_by cell_of cells_of value_of values_of state_of states_of rows_of wrong unless or_else wrong_vector
-    wrong_interrupt wrong_vectors wrong_in wrong_in_row wrong_at wrong_in_rows wrong_with certify_of class_words class_kinds
+unfolding testing value_by cell_of cells_of value_of values_of state_of states_of rows_of wrong unless
+    or_else wrong_vector
+    wrong_interrupt wrong_vectors wrong_in wrong_in_row wrong_at wrong_in_rows wrong_with certify_of
+    class_words class_kinds
     class_watched class_rows ends_from joined answer_of rows_with
 computing = tt
 
@@ -65,7 +67,7 @@ others = record {
   keyboard = refl;
   timer = refl;
   own_code = refl;
-  own-state = refl;
+  own_state = refl;
   of_no_word = refl;
   shallow = refl;
   stack_not_known = refl;

@@ -86,8 +86,9 @@ pub record OtherFindings : Type 0 where
   pub keyboard : answer_with 0x0180 0x0200 ≡ wrong 4 0x0180 0
   pub timer : answer_with 0x0181 0x0222 ≡ wrong 4 0x0181 0
   -- an instruction in a word that routines may write; a state for SAVE1; one past xFFFF, of no word
-  pub own_code : answer_of class_words (with_word class_kinds 0x0205 2) 0x2FFC class_watched class_rows ≡ wrong 5 0x0205 10
-  pub own-state :
+  pub own_code : answer_of class_words (with_word class_kinds 0x0205 2) 0x2FFC class_watched class_rows
+      ≡ wrong 5 0x0205 10
+  pub own_state :
       answer_of class_words class_kinds 0x2FFC class_watched (rows_with [] (replicate 7 [] ++ ((entry ∷ []) ∷ [])))
       ≡ wrong 5 0x022E 53
   pub of_no_word : wrong_in_rows (claim_with [] [] 0x2FFC class_watched []) entry 0x20000 0 (1 ∷ [])
@@ -112,7 +113,8 @@ pub record FindingsInOrder : Type 0 where
   pub vector_first : wrong_with all_secret (1 ∷ []) entry ≡ wrong 3 0 0
   -- the keyboard before the timer; x0103 is no vector of these
   pub keyboard_first : answer_for (with_word (with_word class_words 0x0180 0x0200) 0x0181 0x0222) ≡ wrong 4 0x0180 0
-  pub x0103_is_free : answer_of class_words (with_word class_kinds 0x0103 0) 0x2FFC class_watched class_rows ≡ nothing_wrong
+  pub x0103_is_free : answer_of class_words (with_word class_kinds 0x0103 0) 0x2FFC class_watched class_rows
+      ≡ nothing_wrong
   -- a word that may change, or is secret, has no state, and so nothing is wrong with it
   pub own_without : wrong_at all_secret 0x0205 own 3 [] ≡ nothing_wrong
   pub secret_without : wrong_at all_secret 0x0205 hidden 3 [] ≡ nothing_wrong

@@ -9,13 +9,15 @@ use borrow.Author.Tests.{le-leb, lt-leb, eq-eqb, ne_eqb}
 use Rattle.claims.proofs.ValueLaws.{value_any}
 use native.Mathlib.Decide.{dec_le}
 use lib.ListN.{length, get_or, set, take, drop, length-take, length-drop, length-set}
-use lib.Seq.{get_or-take, get_or-drop, drop-drop, get_or-set_same, get_or-set_other, take-set-le, take-set-lt, drop-set-lt}
+use lib.Seq.{get_or-take, get_or-drop, drop-drop, get_or-set_same, get_or-set_other, take-set-le, take-set-lt}
+use lib.Seq.{drop-set-lt}
 use lib.Seq.{ext_get_or}
 use Rattle.sitting.specs.Values.{Value, any, forget, implies, all_imply, taking, besides, all_besides}
 use Rattle.machine.proofs.Tests.{and_false}
 use Rattle.sitting.specs.Test.{State, Row, hidden, cell_at, covers, one_covers, moved, put, value_in, is_first, held}
 use Rattle.sitting.specs.Test.{stored_in}
-use Rattle.claims.specs.Encoding.{cell_of, cells_of, value_of, values_of, state_of, states_of, row_of, rows_of, start_of}
+use Rattle.claims.specs.Encoding.{cell_of, cells_of, value_of, values_of, state_of, states_of, row_of, rows_of}
+use Rattle.claims.specs.Encoding.{start_of}
 use Rattle.claims.specs.Encoding.{accepted_in}
 use Rattle.claims.specs.Changes.{forget_state, remember_in}
 
@@ -30,7 +32,8 @@ all_imply_of (x ∷ xs) (y ∷ ys) e h =
     rw (h 0 (omega arith), all_imply_of xs ys (omega arith) (λ k l. h (suc k) (omega arith)))
 
 all_imply_not : (xs ys : List ℕ) (k : ℕ) → k < length xs → k < length ys
-    → implies (value_of (get_or xs k 0)) (value_of (get_or ys k 0)) ≡ false → all_imply (values_of xs) (values_of ys) ≡ false
+    → implies (value_of (get_or xs k 0)) (value_of (get_or ys k 0)) ≡ false
+    → all_imply (values_of xs) (values_of ys) ≡ false
 unfolding values_of all_imply
 all_imply_not [] ys k l m h = absurd (omega arith)
 all_imply_not (x ∷ xs) [] k l m h = absurd (omega arith)

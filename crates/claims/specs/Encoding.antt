@@ -1,5 +1,6 @@
 -- A claim as numbers: what each word is, and the table in one flat list. Every list of numbers is a claim.
-use Rattle.std.specs.Prelude.{ℕ, zero, suc, ◌-◌, ◌*◌, ◌/◌, ◌%◌, min, Bool, cond, ◌&&◌, List, [], ◌∷◌, eqb, leb, length, get_or, take, drop}
+use Rattle.std.specs.Prelude.{ℕ, zero, suc, ◌-◌, ◌*◌, ◌/◌, ◌%◌, min, Bool, cond, ◌&&◌, List, [], ◌∷◌, eqb, leb, length}
+use Rattle.std.specs.Prelude.{get_or, take, drop}
 use Rattle.sitting.specs.Values.{Value, value_by}
 use Rattle.sitting.specs.Test.{Cell, fixed, own, hidden, State, Row, Claim, one_covers}
 use Rattle.sitting.specs.Certified.{Loaded}

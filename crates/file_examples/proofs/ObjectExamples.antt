@@ -7,6 +7,7 @@ use Rattle.object.specs.Calls.{save_refusal, save_accepted, save_of}
 use Rattle.file_examples.specs.ObjectExamples.{ExamplesHold}
 
 pub examples_hold : ExamplesHold
-unfolding words_of bytes_of wrong_size wrong_length beyond_memory too_short load_refusal load_accepted load_by load_of save_refusal
+unfolding words_of bytes_of wrong_size wrong_length beyond_memory too_short load_refusal load_accepted load_by
+    load_of save_refusal
     save_accepted save_of
 examples_hold = refl

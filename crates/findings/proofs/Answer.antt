@@ -13,7 +13,8 @@ use Rattle.machine.specs.Interrupts.{keyboard_vector, timer_vector}
 use Rattle.run.proofs.AlteredWords.{wider_ends}
 use Rattle.sitting.specs.Sitting.{answer_after}
 use Rattle.sitting.specs.Test.{Claim, State, Row, Cell, fixed, own, hidden, cell_at, value_in, sound, harmless}
-use Rattle.sitting.specs.Test.{all_harmless, is_empty, row_holds, rows_hold, leads_in, all_lead_in, leads_back, vectors_hold}
+use Rattle.sitting.specs.Test.{all_harmless, is_empty, row_holds, rows_hold, leads_in, all_lead_in, leads_back}
+use Rattle.sitting.specs.Test.{vectors_hold}
 use Rattle.sitting.specs.Test.{room_holds, passes}
 use Rattle.sitting.specs.Certified.{is_secret_beside}
 use Rattle.sitting.proofs.Certified.{certified_tells_nothing}
@@ -63,7 +64,8 @@ module _ (c : Claim) where
   all_vectors_nothing : eqb (wrong_vectors c).finding 0 ≡ vectors_hold c
   unfolding wrong_vectors vectors_hold
   all_vectors_nothing =
-      nothing_by_both (wrong_vector c 0x0103) (or_else (wrong_interrupt c keyboard_vector) (wrong_interrupt c timer_vector))
+      nothing_by_both (wrong_vector c 0x0103)
+      (or_else (wrong_interrupt c keyboard_vector) (wrong_interrupt c timer_vector))
       ∙ rw (
         vectors_nothing 0x0103,
         nothing_by_both (wrong_interrupt c keyboard_vector) (wrong_interrupt c timer_vector),

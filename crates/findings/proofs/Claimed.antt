@@ -102,7 +102,8 @@ module _ (memory kinds : List ℕ) (lowest : ℕ) (size : length memory ≡ 6553
         ]
 
     pub guarded_by : (d : Devices) (before after : List ℕ)
-        → Guarded (Loaded (cells_of kinds memory)) (is_secret_in (cells_of kinds memory) (stack_from lowest d)) before after
+        → Guarded (Loaded (cells_of kinds memory))
+        (is_secret_in (cells_of kinds memory) (stack_from lowest d)) before after
         → Guarded (FixedStay kinds memory) (is_secret_by kinds lowest d) before after
     guarded_by d before after g = record {
       secrets = λ a z. g.secrets a (secret_by d a ∙ z);

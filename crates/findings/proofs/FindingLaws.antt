@@ -55,7 +55,8 @@ vectors_first c a (suc n) l h e = elim (dec_le n a) [
   | no b ↦ rw (← vectors_first c a n (omega arith) h e) refl
 ]
 
-pub interrupt_holds : (c : Claim) (a : ℕ) → leads_back c (cell_at c.cells a) ≡ true → nothing_wrong ≡ wrong_interrupt c a
+pub interrupt_holds : (c : Claim) (a : ℕ) → leads_back c (cell_at c.cells a) ≡ true → nothing_wrong
+    ≡ wrong_interrupt c a
 unfolding wrong_interrupt
 interrupt_holds c a e = unless_holds _ (wrong 4 a 0) e
 

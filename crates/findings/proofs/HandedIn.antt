@@ -25,7 +25,8 @@ use Rattle.findings.proofs.Answer.{passed}
 
 -- Cells are of the words that are listed alone.
 cells_same : (kinds memory₁ memory₂ : List ℕ) → length memory₁ ≡ length memory₂
-    → ((a : ℕ) → a < length kinds → get_or memory₁ a 0 ≡ get_or memory₂ a 0) → cells_of kinds memory₁ ≡ cells_of kinds memory₂
+    → ((a : ℕ) → a < length kinds → get_or memory₁ a 0 ≡ get_or memory₂ a 0) → cells_of kinds memory₁
+    ≡ cells_of kinds memory₂
 unfolding cells_of
 cells_same [] memory₁ memory₂ e h = refl
 cells_same (k ∷ kinds) [] [] e h = refl

@@ -47,7 +47,8 @@ module _ (c : Claim) (ends table : List ℕ) where
   unfolding wrong_vectors
   all_vectors_true =
       true_by_both (wrong_vector c 0x0103) _ (vectors_true 0x0103)
-      (true_by_both (wrong_interrupt c keyboard_vector) _ (interrupt_true keyboard_vector) (interrupt_true timer_vector))
+      (true_by_both (wrong_interrupt c keyboard_vector) _ (interrupt_true keyboard_vector)
+      (interrupt_true timer_vector))
 
   -- The states from k on, n of them, of row j.
   module _ (j w : ℕ) (x : cell_at c.cells (0x0200 + j) ≡ fixed w) (l : j < length ends) where

@@ -4,7 +4,8 @@ use Rattle.std.specs.Prelude.{ℕ, zero, suc, min, Bool, cond, List, [], ◌∷�
 use Rattle.word.specs.Reading.{read_of}
 use Rattle.word.specs.declared.Instruction.{Instruction}
 use Rattle.machine.specs.Interrupts.{keyboard_vector, timer_vector}
-use Rattle.sitting.specs.Test.{Cell, fixed, own, hidden, cell_at, State, Row, Claim, value_in, sound, harmless, is_empty}
+use Rattle.sitting.specs.Test.{Cell, fixed, own, hidden, cell_at, State, Row, Claim, value_in, sound, harmless}
+use Rattle.sitting.specs.Test.{is_empty}
 use Rattle.sitting.specs.Test.{leads_in, leads_back, room_holds}
 use Rattle.claims.specs.Encoding.{row_of, claim_of}
 use Rattle.findings.specs.declared.Certified.{Certified}

@@ -1,6 +1,7 @@
 -- Whatever `certify` finds wrong is wrong: what a finding says of the claim is true, at the word and in the state that
 -- are named.
-use Rattle.std.specs.Prelude.{ℕ, ◌+◌, ◌*◌, ◌/◌, ◌≤◌, ◌<◌, min, ◌≡◌, Bool, true, false, List, eqb, length, get_or, take, drop}
+use Rattle.std.specs.Prelude.{ℕ, ◌+◌, ◌*◌, ◌/◌, ◌≤◌, ◌<◌, min, ◌≡◌, Bool, true, false, List, eqb, length, get_or, take}
+use Rattle.std.specs.Prelude.{drop}
 use Rattle.word.specs.Reading.{read_of}
 use Rattle.sitting.specs.Test.{Cell, fixed, own, hidden, cell_at, State, Claim, value_in, sound, harmless, leads_in}
 use Rattle.sitting.specs.Test.{leads_back, room_holds}

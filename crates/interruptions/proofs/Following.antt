@@ -30,7 +30,8 @@ use Rattle.monitor.proofs.Instructions.{performed}
 use Rattle.monitor.proofs.Instructions.{is_plain, may_perform, Use, loads_slot, stores_slot, moves_stack, leaves_stack}
 use Rattle.monitor.proofs.Instructions.{elsewhere, use_of, slot_of, deeper, used, keeps_six, may_use}
 use Rattle.monitor.proofs.Instructions.{use_at}
-use Rattle.monitor.proofs.Instructions.{stepped, may_step, PlanIs, plan_by_use, Kept, other, same, on_stack_lem, by_plan}
+use Rattle.monitor.proofs.Instructions.{stepped, may_step, PlanIs, plan_by_use, Kept, other, same, on_stack_lem}
+use Rattle.monitor.proofs.Instructions.{by_plan}
 use Rattle.monitor.proofs.Instructions.{by_use, keeps_once}
 use Rattle.monitor.proofs.Entries.{within, Polls, recoded}
 use Rattle.monitor.proofs.Paths.{holds, calm_plan, calm_use, calm, Readable, Path, stays, knows, makes, jumps, fetches}

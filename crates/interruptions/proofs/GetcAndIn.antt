@@ -56,10 +56,10 @@ module _ (user : Bool) (s : Start) (x : Eight s.machine.regs) where
     loads = λ r c b. refl;
     keyboard = refl;
     branches = λ r c b. refl;
-    data-pointer = 0x0281;
-    data-plain = omega arith;
+    data_pointer = 0x0281;
+    data_plain = omega arith;
     reads = λ r c b. refl;
-    data-register = refl;
+    data_register = refl;
   }
 
   getc_reader : Reader getc_frame (λ a. false) getc_last 0 0 getc_wait getc_wait (λ y. keyed getc_wait y)
@@ -202,10 +202,10 @@ module _ (user : Bool) (s : Start) (x : Eight s.machine.regs) where
     loads = λ r c b. refl;
     keyboard = refl;
     branches = λ r c b. refl;
-    data-pointer = 0x0281;
-    data-plain = omega arith;
+    data_pointer = 0x0281;
+    data_plain = omega arith;
     reads = λ r c b. refl;
-    data-register = refl;
+    data_register = refl;
   }
 
   module _ (room : 20 ≤ length s.output) where

@@ -230,7 +230,8 @@ halt user s n c room below r m o more =
     stops 0x25 halt_code 5 user s n c (omega arith) (omega arith) halt_below 0x026D refl may below
     (λ a h. absurd (true≢false (sym h))) (haltRestored user s e few room may) 83
     (haltWay user s e few room may) front.0 (let d = front.1 in omega (arith, d))
-    (let t = (before (haltTail user s e few room may)).fewer in let l = ap length shown in omega (arith, t, l)) stop_last
+    (let t = (before (haltTail user s e few room may)).fewer in let l = ap length shown in omega (arith, t, l))
+    stop_last
     front.2 85 refl r m o (haltStopped user s e few room may)
     (haltTail user s e few room may) more then.0 then.1 then.2 (haltRegisters user s e few room may) message
     shown

@@ -195,8 +195,8 @@ module _ (f : Frame) (below : ℕ) (may : ℕ → Bool)
           status = status_in q j v % 0x8000;
         } in
         let a : At q 0 (suc j) g (key_read q j v 0) =
-        loads_key g st.sound v reader.going st.like.fine 0 k.data-pointer (k.reads regs c x.busy)
-        k.data-plain st.at (quiet.at st.at le) k.data-register in
+        loads_key g st.sound v reader.going st.like.fine 0 k.data_pointer (k.reads regs c x.busy)
+        k.data_plain st.at (quiet.at st.at le) k.data_register in
         record {
           rest = x';
           standing = moved f below may away st

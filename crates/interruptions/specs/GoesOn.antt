@@ -2,7 +2,8 @@
 -- interrupted, any number of times, and each time a class's own interrupt routine returns with the machine as it was,
 -- but for clock, keyboard, timer, a display that has had time, and the words below the stack pointer. Then the routine
 -- goes on to its end, and shows and leaves what it would have shown and left. Reads.antt has GETC and IN.
-use Rattle.std.specs.Prelude.{ℕ, ◌+◌, ◌-◌, ◌*◌, ◌/◌, ◌%◌, ◌≤◌, ◌<◌, ◌≡◌, Bool, true, cond, List, [], ◌∷◌, ◌++◌, length, get_or, set, take, drop}
+use Rattle.std.specs.Prelude.{ℕ, ◌+◌, ◌-◌, ◌*◌, ◌/◌, ◌%◌, ◌≤◌, ◌<◌, ◌≡◌, Bool, true, cond, List, [], ◌∷◌, ◌++◌, length}
+use Rattle.std.specs.Prelude.{get_or, set, take, drop}
 use Rattle.machine.specs.Words.{next}
 use Rattle.machine.specs.Psr.{in_user_mode}
 use Rattle.machine.specs.Protection.{privileged}

@@ -35,7 +35,8 @@ signed_alike I h e p v = go (ltb (mag v) 32768) refl
         ≡ answer (refusal (registers_in_range (I (pos 0))) false (mask_in_range (I (pos 0)))) 0
     out n q =
         e n
-        ∙ (ap (λ (t : Bool). answer (refusal (registers_in_range (I (pos 0))) t (mask_in_range (I (pos 0)))) (word_of (I n)))
+        ∙ (ap (λ (t : Bool). answer (refusal (registers_in_range (I (pos 0))) t (mask_in_range (I (pos 0))))
+        (word_of (I n)))
         (size_not_within h n q)
         ∙ no_word (registers_in_range (I (pos 0))) (mask_in_range (I (pos 0))) (word_of (I n)) 0)
 
@@ -64,7 +65,8 @@ pub written_alike : (k a b c : ℕ) (v : ℤ) → k < kinds
     → write_of (form_of k a b c (clamp_signed v) (clamp_unsigned v)) ≡ write_of (form_of k a b c v (unsigned v))
 unfolding write_of Below
 written_alike k a b c v =
-    each (λ k. write_of (form_of k a b c (clamp_signed v) (clamp_unsigned v)) ≡ write_of (form_of k a b c v (unsigned v)))
+    each (λ k. write_of (form_of k a b c (clamp_signed v) (clamp_unsigned v))
+    ≡ write_of (form_of k a b c v (unsigned v)))
     kinds
     (signed_alike (Br a) 256 (λ n. refl) (omega arith) v
     & refl

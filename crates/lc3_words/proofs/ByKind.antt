@@ -18,7 +18,8 @@ use Rattle.lc3_words.proofs.Alike.{written_alike}
 abbrev answer_by : Lc3Instruction → Bool → Lc3Written
 answer_by f t = host_answer (cond t (write_of (instruction_of f)) (refused 2))
 
-pub known_kind_written : (f : Lc3Instruction) → f.kind < kinds → written_of f ≡ host_answer (write_of (instruction_of f))
+pub known_kind_written : (f : Lc3Instruction) → f.kind < kinds → written_of f
+    ≡ host_answer (write_of (instruction_of f))
 unfolding written_of
 known_kind_written f p = ap (answer_by f) (lt-ltb f.kind kinds p)
 

@@ -10,7 +10,8 @@ use lib.IntN.{ℤ, pos, negsuc}
 use lib.Bits.{bit_xor}
 use borrow.Author.Tests.{le-ltb, le-leb, eqb-true}
 use Rattle.word.specs.Reading.{read_of}
-use Rattle.word.specs.Writing.{word_of, registers_in_range, field_in_range, mask_in_range, refusal, written, refused, answer}
+use Rattle.word.specs.Writing.{word_of, registers_in_range, field_in_range, mask_in_range, refusal, written, refused}
+use Rattle.word.specs.Writing.{answer}
 use Rattle.word.specs.Writing.{refusal_of, write_of}
 use Rattle.word.specs.declared.Instruction.{Instruction}
 use Rattle.word.specs.declared.Instruction.TheVariants.{Br, AddRegister, AddImmediate, Ld, St, Jsr, Jsrr, AndRegister}

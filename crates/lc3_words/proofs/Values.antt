@@ -15,7 +15,8 @@ use Rattle.lc3_words.specs.Clamping.{clamp_signed, clamp_unsigned}
 
 -- a number of 16 bits, in 32
 pub widened : (n : ℤ) → SFits w16 n → to_z w32 (of_z w32 (to_z w16 (of_z w16 n))) ≡ n
-widened n f = ap (λ (z : ℤ). to_z w32 (of_z w32 z)) (to_z-of_z {w = w16} f) ∙ to_z-of_z {w = w32} (sfits_widen (tt {0}) f)
+widened n f = ap (λ (z : ℤ). to_z w32 (of_z w32 z)) (to_z-of_z {w = w16} f)
+    ∙ to_z-of_z {w = w32} (sfits_widen (tt {0}) f)
 
 -- the signed clamp, by the size of the value
 pub clamped_beyond : (v : ℤ) → 32768 ≤ mag v → clamp_signed v ≡ pos 32767

@@ -34,7 +34,8 @@ FlatWriteAfterRead = (w : ℕ) → w < 65536 → written_of (flat_of (read_of w)
 abbrev pub FlatWrittenDiffersInMaskedBits : Type 0
 FlatWrittenDiffersInMaskedBits =
     (w : ℕ) → w < 65536
-    → bit_xor (written_of (flat_read_of (read_with_mask_of w)).instruction).word w ≡ (flat_read_of (read_with_mask_of w)).mask
+    → bit_xor (written_of (flat_read_of (read_with_mask_of w)).instruction).word w
+    ≡ (flat_read_of (read_with_mask_of w)).mask
 
 -- The refusal of a known kind: 1 if a register that it uses is above 7, else 2 if a value that it uses is out of range,
 -- be it beyond 16 bits or not, else 3 if the mask of a BR is above 7, else 0.

@@ -69,7 +69,8 @@ no_minus (suc k) n text p = go (ltb n 10) refl (λ q. no_minus k (n / 10) (digit
 
 -- a signed number, up to the line feed
 abbrev pub signed_from : List ℕ → ℤ
-signed_from text = cond (eqb (get_or text 0 0) minus) (negsuc (number_from 0 (drop 1 text) - 1)) (pos (number_from 0 text))
+signed_from text = cond (eqb (get_or text 0 0) minus) (negsuc (number_from 0 (drop 1 text) - 1))
+    (pos (number_from 0 text))
 
 pub signed_back : (n : ℤ) → signed_from (signed_digits n ++ line_feed ∷ []) ≡ n
 unfolding decimal

@@ -54,9 +54,9 @@ pub proper_shown : (w : ℕ) → w < 65536 → mask_of w ≡ 0 → line_of w ≡
 unfolding line_of
 proper_shown w h e = rw (eq-eqb (fixed_of w) w ((mask_is_zero_exactly w h).0 e)) (read_shown w h)
 
-pub data-shown : (w : ℕ) → w < 65536 → (mask_of w ≡ 0 → ⊥) → line_of w ≡ fill_line w
+pub data_shown : (w : ℕ) → w < 65536 → (mask_of w ≡ 0 → ⊥) → line_of w ≡ fill_line w
 unfolding line_of
-data-shown w h d = rw (ne_eqb (fixed_of w) w (λ e. d ((mask_is_zero_exactly w h).1 e)))
+data_shown w h d = rw (ne_eqb (fixed_of w) w (λ e. d ((mask_is_zero_exactly w h).1 e)))
 
 -- by the opcode
 pub proper_as : (w k : ℕ) → opcode w ≡ k → proper_line w ≡ get_or (proper_lines w) k []

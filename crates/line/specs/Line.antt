@@ -14,14 +14,16 @@ use Rattle.mnemonics.specs.Statement.{statement, fill_line, trap_line, branch_li
 -- data
 abbrev pub instruction_line : ℕ → Instruction → List ℕ
 instruction_line w (Br mask pcoffset9) = cond (eqb mask 0) (fill_line w) (branch_line mask pcoffset9)
-instruction_line w (AddRegister dr sr1 sr2) = statement (A ∷ D ∷ D ∷ []) (register dr ∷ register sr1 ∷ register sr2 ∷ [])
+instruction_line w (AddRegister dr sr1 sr2) = statement (A ∷ D ∷ D ∷ [])
+    (register dr ∷ register sr1 ∷ register sr2 ∷ [])
 instruction_line w (AddImmediate dr sr1 imm5) =
     statement (A ∷ D ∷ D ∷ []) (register dr ∷ register sr1 ∷ signed_number imm5 ∷ [])
 instruction_line w (Ld dr pcoffset9) = statement (L ∷ D ∷ []) (register dr ∷ signed_number pcoffset9 ∷ [])
 instruction_line w (St sr pcoffset9) = statement (S ∷ T ∷ []) (register sr ∷ signed_number pcoffset9 ∷ [])
 instruction_line w (Jsr pcoffset11) = statement (J ∷ S ∷ R ∷ []) (signed_number pcoffset11 ∷ [])
 instruction_line w (Jsrr base) = statement (J ∷ S ∷ R ∷ R ∷ []) (register base ∷ [])
-instruction_line w (AndRegister dr sr1 sr2) = statement (A ∷ N ∷ D ∷ []) (register dr ∷ register sr1 ∷ register sr2 ∷ [])
+instruction_line w (AndRegister dr sr1 sr2) = statement (A ∷ N ∷ D ∷ [])
+    (register dr ∷ register sr1 ∷ register sr2 ∷ [])
 instruction_line w (AndImmediate dr sr1 imm5) =
     statement (A ∷ N ∷ D ∷ []) (register dr ∷ register sr1 ∷ signed_number imm5 ∷ [])
 instruction_line w (Ldr dr base offset6) =

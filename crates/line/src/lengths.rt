@@ -1,7 +1,8 @@
 // How long the line of a word is, straight from the word, by its opcode: no output is needed for it.
 ghost use Rattle.std.specs.Prelude.{◌≡◌, List, ℕ, ◌≤◌, length};
 ghost use Rattle.line.specs.Line.{line_of};
-ghost use Rattle.line.specs.Shapes.{proper_line, relative_line, based_line, operate_line, br_line, call_line, jump_line};
+ghost use Rattle.line.specs.Shapes.{proper_line, relative_line, based_line, operate_line, br_line, call_line};
+ghost use Rattle.line.specs.Shapes.{jump_line};
 
 use text::operands::number_length;
 use word::fields::{bits8to6, bits11to9, extend};

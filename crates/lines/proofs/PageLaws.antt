@@ -54,7 +54,8 @@ module _ (memory : List ℕ) (first count : ℕ) (output : List ℕ) (size : len
 pub page_of_one : PageOfOne
 page_of_one memory first output size p =
     let one : page_text memory first 1 ≡ line_of (get_or memory first 0) =
-    ap (λ (l : List ℕ). lines_of (take 1 l)) (drop-cons memory first 0 (omega arith)) ∙ one_line (get_or memory first 0) in
+    ap (λ (l : List ℕ). lines_of (take 1 l)) (drop-cons memory first 0 (omega arith))
+    ∙ one_line (get_or memory first 0) in
     in_memory memory first 1 output size (omega arith) ∙ ap (λ (l : List ℕ). written_whole l output) one
 
 pub page_of_none : PageOfNone

@@ -84,7 +84,8 @@ pub record MadeWithRoom (edition : Edition) (s : Start) (log : List ℕ) (n k : 
   pub made : k < (run_by (step_by edition) s n).steps
   pub room : 3 * k + 3 ≤ length log
 
-pub logged_were_made : (edition : Edition) (s : Start) (log : List ℕ) (n k : ℕ) → k < (logged_run_by edition s log n).steps
+pub logged_were_made : (edition : Edition) (s : Start) (log : List ℕ) (n k : ℕ)
+    → k < (logged_run_by edition s log n).steps
     → MadeWithRoom edition s log n k
 logged_were_made edition s log n k h = go (tracks edition s log n) (written edition s log n)
   where

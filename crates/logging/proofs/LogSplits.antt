@@ -86,7 +86,8 @@ module _ (edition : Edition) (s : Start) (l : Logged) (shown : ShownFits (run_in
         ap (λ (k : ℕ). sets (take l.words l.log ++ m.log) (k + m.words) vs) (sym wrote)
         ∙ sets_behind vs (take l.words l.log) m.log m.words
 
-    step_alike : (m : Logged) → step_logged_by edition s (joined_logged l m) ≡ joined_logged l (step_logged_by edition rest m)
+    step_alike : (m : Logged) → step_logged_by edition s (joined_logged l m)
+        ≡ joined_logged l (step_logged_by edition rest m)
     unfolding step_logged_by
     step_alike m =
         rw (
@@ -106,10 +107,12 @@ module _ (edition : Edition) (s : Start) (l : Logged) (shown : ShownFits (run_in
         tested : (halted short full : Bool)
             → cond halted (stopped_by (Run Halted) (joined_logged l m))
             (cond short (stopped_by LogFull (joined_logged l m))
-            (cond full (stopped_by (Run OutputFull) (joined_logged l m)) (joined_logged l (step_logged_by edition rest m))))
+            (cond full (stopped_by (Run OutputFull) (joined_logged l m))
+            (joined_logged l (step_logged_by edition rest m))))
             ≡ joined_logged l
             (cond halted (stopped_by (Run Halted) m)
-            (cond short (stopped_by LogFull m) (cond full (stopped_by (Run OutputFull) m) (step_logged_by edition rest m))))
+            (cond short (stopped_by LogFull m)
+            (cond full (stopped_by (Run OutputFull) m) (step_logged_by edition rest m))))
         tested true short full = unfold stopped_by in refl
         tested false true full = unfold stopped_by in refl
         tested false false true = unfold stopped_by in refl

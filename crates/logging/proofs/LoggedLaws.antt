@@ -44,7 +44,8 @@ next_of_run step s n e h = ap (λ (x : End). one_more_by step x.ending s x) (sym
 
 one_more_when_done : (step : Step) (w : Ending) (s : Start) (e : End) → w ≡ Done
     → one_more_by step w s e
-    ≡ cond (is_halted e) (ended_by Halted e) (cond (is_full_by step s e) (ended_by OutputFull e) (step_made_by step s e))
+    ≡ cond (is_halted e) (ended_by Halted e)
+    (cond (is_full_by step s e) (ended_by OutputFull e) (step_made_by step s e))
 unfolding one_more_by
 one_more_when_done step w s e d = rw d refl
 
@@ -178,7 +179,8 @@ module _ (edition : Edition) (s : Start) (log : List ℕ) (n : ℕ) (l : Logged)
         go : (halted short full : Bool) → lacks_room l.log l.words ≡ short
             → Written edition s log
             (cond halted (stopped_by (Run Halted) l)
-            (cond short (stopped_by LogFull l) (cond full (stopped_by (Run OutputFull) l) (step_logged_by edition s l))))
+            (cond short (stopped_by LogFull l)
+            (cond full (stopped_by (Run OutputFull) l) (step_logged_by edition s l))))
         go true short full y = ended (Run Halted)
         go false true full y = ended LogFull
         go false false true y = ended (Run OutputFull)
@@ -241,7 +243,8 @@ log_of_fewer edition s log l k w h =
 
 -- One that makes nothing of one more step stays as it is.
 pub logged_stays : (edition : Edition) (s : Start) (log : List ℕ) (n k : ℕ) (l : Logged) → k ≤ n
-    → logged_run_by edition s log k ≡ l → one_more_logged_by edition l.ending s l ≡ l → logged_run_by edition s log n ≡ l
+    → logged_run_by edition s log k ≡ l → one_more_logged_by edition l.ending s l ≡ l
+    → logged_run_by edition s log n ≡ l
 unfolding logged_run_by
 logged_stays edition s log zero k l h e x = let z : k ≡ 0 = omega arith in rw z at e
 logged_stays edition s log (suc n) k l h e x =
@@ -253,7 +256,8 @@ logged_stays edition s log (suc n) k l h e x =
     ]
 
 -- The logged run stands at l after k steps, and may go on.
-module _ (edition : Edition) (s : Start) (log : List ℕ) (k : ℕ) (l : Logged) (stands : l ≡ logged_run_by edition s log k)
+module _ (edition : Edition) (s : Start) (log : List ℕ) (k : ℕ) (l : Logged)
+    (stands : l ≡ logged_run_by edition s log k)
     (live : l.ending ≡ Run Done)
   where
     next_logged : logged_run_by edition s log (suc k) ≡ one_more_logged_by edition (Run Done) s l

@@ -32,7 +32,8 @@ pub entries_go_on : (edition : Edition) (s : Start) (log : List ℕ) (k : ℕ) (
 unfolding entries_by
 entries_go_on edition s log k e stands =
     let at : 3 * k ≡ 0 + length (entries_by edition s k) = omega (arith, entries_length edition s k) in
-    rw (add-one k, stands, at) (sets_on (entries_by edition s k) (entry_by edition s (run_by (step_by edition) s k)) log 0)
+    rw (add-one k, stands, at)
+    (sets_on (entries_by edition s k) (entry_by edition s (run_by (step_by edition) s k)) log 0)
 
 -- ---- with room
 

@@ -90,8 +90,10 @@ each_check_is_needed = record {
       (same_outcomes_meet_alike (at_two_memories (by_unchecked_pointer 0 (load_to 0)) 0x3000 0x3000 c));
   pointer_of_store = λ c. true≢false
       (same_outcomes_meet_alike (at_two_memories (by_unchecked_pointer 0 (store_at 1)) 0x3000 0x3000 c));
-  load_by_pointer = λ c. registers_differ (at_two_memories (by_pointer 0x3000 (unchecked_load_to 0)) 0x3000 1 c) refl refl
+  load_by_pointer = λ c. registers_differ
+      (at_two_memories (by_pointer 0x3000 (unchecked_load_to 0)) 0x3000 1 c) refl refl
       refl;
-  store_by_pointer = λ c. hidden_word_differs (at_two_memories (by_pointer 0x3000 (unchecked_store_at 1)) 0x3000 1 c) refl
+  store_by_pointer = λ c. hidden_word_differs
+      (at_two_memories (by_pointer 0x3000 (unchecked_store_at 1)) 0x3000 1 c) refl
       refl refl;
 }

@@ -36,7 +36,8 @@ use Rattle.machine.proofs.TwoSteps.{no_interrupt_is_obeyed}
 abbrev NoInterruptTaken : Outcome → Type 0
 NoInterruptTaken o = takes_interrupt o.cause ≡ false
 
-trap_or_exception_is_no_interrupt : (reason : Reason) (pc : ℕ) (m : Machine) (mem : List ℕ) → is_trap_or_exception reason
+trap_or_exception_is_no_interrupt : (reason : Reason) (pc : ℕ) (m : Machine) (mem : List ℕ)
+    → is_trap_or_exception reason
     ≡ true
     → NoInterruptTaken (raised reason pc m mem)
 unfolding raised entry

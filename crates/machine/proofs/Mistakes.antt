@@ -6,9 +6,9 @@ use Rattle.machine.proofs.Opened.{opened}
 pub no_typical_mistake : NoTypicalMistake
 unfolding opened
 no_typical_mistake = record {
-  vector-after-pushes = refl;
-  both-pops-from-supervisor-stack = refl;
+  vector_after_pushes = refl;
+  both_pops_from_supervisor_stack = refl;
   check_before_read = refl;
   lea_keeps_codes = refl;
-  ready-kept-at-entry = refl;
+  ready_kept_at_entry = refl;
 }

@@ -9,64 +9,64 @@ unfolding opened
 keys_and_interrupt = record {
   keys_of_this_time = refl;
   keys_arrive = refl;
-  later-key-overwrites = refl;
-  interrupt-is-an-entry = refl;
-  no-interrupt-otherwise = refl;
+  later_key_overwrites = refl;
+  interrupt_is_an_entry = refl;
+  no_interrupt_otherwise = refl;
 }
 
 addresses : Addresses
 unfolding opened
 addresses = record {
-  sums-wrap = refl;
-  privileged-addresses = refl;
-  access-exceptions = refl;
+  sums_wrap = refl;
+  privileged_addresses = refl;
+  access_exceptions = refl;
 }
 
 instructions : Instructions
 unfolding opened
 instructions = record {
-  add-and-not = refl;
+  add_and_not = refl;
   loads = refl;
   lea_keeps_codes = refl;
   stores = refl;
-  br-taken-if-a-tested-code-is-set = refl;
-  calls-and-jumps = refl;
+  br_taken_if_a_tested_code_is_set = refl;
+  calls_and_jumps = refl;
 }
 
 entries : Entries
 unfolding opened
 entries = record {
-  entries-from-user-mode = refl;
-  entries-from-supervisor-mode = refl;
-  vector-after-pushes = refl;
-  rti-pops = refl;
+  entries_from_user_mode = refl;
+  entries_from_supervisor_mode = refl;
+  vector_after_pushes = refl;
+  rti_pops = refl;
 }
 
 timer_rules : TimerRules
 unfolding opened
 timer_rules = record {
-  count-falls-and-reloads = refl;
-  off-counts-nothing = refl;
-  timer-interrupts-below-6 = refl;
-  timer-goes-first = refl;
-  entered-in-that-very-step = refl;
-  status-register = refl;
-  interval-register = refl;
+  count_falls_and_reloads = refl;
+  off_counts_nothing = refl;
+  timer_interrupts_below_6 = refl;
+  timer_goes_first = refl;
+  entered_in_that_very_step = refl;
+  status_register = refl;
+  interval_register = refl;
 }
 
 device_registers : DeviceRegisters
 unfolding opened
 device_registers = record {
-  pointers-are-loads = refl;
-  kbsr-store-copies-enable = refl;
-  kbdr-load-clears-ready = refl;
-  dsr-loads-x8000 = refl;
-  ddr-store-shows-byte = refl;
-  busy-display-shows-nothing = refl;
-  busy-count-falls = refl;
-  psr-store-keeps-mode = refl;
-  mcr-store-copies-bit-15 = refl;
-  other-addresses-are-plain = refl;
+  pointers_are_loads = refl;
+  kbsr_store_copies_enable = refl;
+  kbdr_load_clears_ready = refl;
+  dsr_loads_x8000 = refl;
+  ddr_store_shows_byte = refl;
+  busy_display_shows_nothing = refl;
+  busy_count_falls = refl;
+  psr_store_keeps_mode = refl;
+  mcr_store_copies_bit_15 = refl;
+  other_addresses_are_plain = refl;
 }
 
 pub rules_hold : RulesHold

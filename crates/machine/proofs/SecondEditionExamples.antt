@@ -6,10 +6,10 @@ use Rattle.machine.proofs.Opened.{opened}
 pub second_edition_rules_hold : SecondEditionRulesHold
 unfolding opened
 second_edition_rules_hold = record {
-  lea-sets-codes = refl;
-  trap-links = refl;
-  user-mode-reaches-every-address = refl;
-  other-devices-stay = refl;
-  jsrr-r7-continues-at-next = refl;
-  other-entries-stay = refl;
+  lea_sets_codes = refl;
+  trap_links = refl;
+  user_mode_reaches_every_address = refl;
+  other_devices_stay = refl;
+  jsrr_r7_continues_at_next = refl;
+  other_entries_stay = refl;
 }

@@ -39,7 +39,8 @@ module _ (m₁ m₂ : Machine) (mem₁ mem₂ : List ℕ) (g : SameVisible m₁ 
     returns_agree = rw (u, second_in_user_mode m₁ m₂ mem₁ mem₂ g u)
         (entries_agree m₁ m₂ mem₁ mem₂ g u privilege refl g.pc)
 
-    plans_agree : (p : Plan) → SameOutcome (hidden_of m₁ mem₁) (hidden_of m₂ mem₂) (perform p m₁ mem₁) (perform p m₂ mem₂)
+    plans_agree : (p : Plan) → SameOutcome (hidden_of m₁ mem₁) (hidden_of m₂ mem₂) (perform p m₁ mem₁)
+        (perform p m₂ mem₂)
     unfolding perform_by
     plans_agree (Move r v pc) = instructions_end_alike m₁ m₂ mem₁ mem₂ g u (cc) refl refl
     plans_agree (Put r v pc) = instructions_end_alike m₁ m₂ mem₁ mem₂ g u (cc) refl refl

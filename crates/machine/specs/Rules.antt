@@ -60,7 +60,8 @@ fetched_word = fetched_word_by third
 -- The reason tells the two kinds of entry apart, as the secrecy rule does: 1 to 4 a trap or exception, from 5 on an
 -- interrupt.
 pub record ReasonTells (c : Cause) : Type 0 where
-  pub trap_or_exception : meets_trap_or_exception c ≡ (leb 1 (rule_number (rule_of c)) && ltb (rule_number (rule_of c)) 5)
+  pub trap_or_exception : meets_trap_or_exception c
+      ≡ (leb 1 (rule_number (rule_of c)) && ltb (rule_number (rule_of c)) 5)
   pub an_interrupt : takes_interrupt c ≡ leb 5 (rule_number (rule_of c))
 
 -- The word logged is the first that the step takes from memory. A step logged with 0 for none takes its vector word

@@ -66,7 +66,8 @@ unchecked_store_at v a m mem = stored v a (after_instruction m.regs (next m.pc) 
 
 -- `by_pointer` without `checked`: the first address of LDI and STI.
 abbrev pub by_unchecked_pointer : ℕ → (ℕ → Machine → List ℕ → Outcome) → Machine → List ℕ → Outcome
-by_unchecked_pointer a data-access m mem = with_reads (lent_word a) (data-access (loaded_value a m mem) (after_load a m) mem)
+by_unchecked_pointer a data-access m mem = with_reads (lent_word a)
+    (data-access (loaded_value a m mem) (after_load a m) mem)
 
 -- "An access exception is raised by a fetch, by either address of LDI and STI, or by the address of LD, LDR, ST, STR."
 pub record EachCheckIsNeeded : Type 0 where

@@ -7,13 +7,13 @@ pub high_addresses : HighAddresses
 unfolding opened
 high_addresses = record {
   next_wraps = refl;
-  pushes-and-pops-wrap = refl;
-  pointers-are-loads = refl;
+  pushes_and_pops_wrap = refl;
+  pointers_are_loads = refl;
 }
 
 pub high_addresses_by_second_edition : HighAddressesBySecondEdition
 unfolding opened
 high_addresses_by_second_edition = record {
-  user-mode-fetches = refl;
-  psr-address-is-plain = refl;
+  user_mode_fetches = refl;
+  psr_address_is_plain = refl;
 }

@@ -7,13 +7,13 @@ use Rattle.machine_examples.specs.UserMode.{UserMode, UserModeBySecondEdition, L
 pub user_mode_lem : UserMode
 unfolding opened
 user_mode_lem = record {
-  access-exceptions = refl;
-  no-exception-otherwise = refl;
+  access_exceptions = refl;
+  no_exception_otherwise = refl;
 }
 
 pub user_mode_by_second_edition : UserModeBySecondEdition
 unfolding opened
-user_mode_by_second_edition = record { user-mode-reaches-every-address = refl }
+user_mode_by_second_edition = record { user_mode_reaches_every_address = refl }
 
 pub log_of_user_mode : LogOfUserMode
 unfolding opened fetched_word_by

@@ -2,7 +2,7 @@
 -- here because each reads its way through most of a list of 65,536 words.
 use Rattle.machine.specs.Edition.{second}
 use Rattle.machine.specs.Outcome.{trap}
-use Rattle.machine.specs.Rows.{R, PC, PSR, Saved-SSP, KBSR, KBDR, MCR, TSR, word, reads, enters, Hold}
+use Rattle.machine.specs.Rows.{R, PC, PSR, Saved_SSP, KBSR, KBDR, MCR, TSR, word, reads, enters, Hold}
 use Rattle.machine.specs.Rows.{user_by, supervisor, supervisor_by}
 use Rattle.std.specs.Prelude.{[], ◌∷◌}
 
@@ -10,16 +10,16 @@ pub record HighAddresses : Type 0 where
   -- "Sums of addresses and registers wrap modulo 65,536": Next.
   pub next_wraps : Hold (supervisor 0x4802 (PC 0xFFFF ∷ []) (R 7 0x0000 ∷ PC 0x0002 ∷ []) ∷ [])  -- JSR #2
   -- R6 wraps. "Fetches, pushes, pops and vectors use the lent words", here at MCR's address.
-  pub pushes-and-pops-wrap :
+  pub pushes_and_pops_wrap :
       Hold
       (supervisor 0xF0AF (R 6 0x0000 ∷ word 0x00AF 0x0A00 ∷ [])  -- TRAP xAF
       (enters (trap 0x00AF) 0xFFFE 0x0505 0x0401 ∷ reads 0x00AF ∷ PC 0x0A00 ∷ [])
       ∷ supervisor 0x8000 (R 6 0xFFFE ∷ MCR 0x0000 ∷ [])  -- RTI
-      (reads 0xFFFE ∷ reads 0xFFFF ∷ R 6 0xFD00 ∷ PC 0x8000 ∷ PSR 0x8000 ∷ Saved-SSP 0x0000 ∷ [])
+      (reads 0xFFFE ∷ reads 0xFFFF ∷ R 6 0xFD00 ∷ PC 0x8000 ∷ PSR 0x8000 ∷ Saved_SSP 0x0000 ∷ [])
       ∷ [])
   -- "A pointer access is a load, made before the data access": through KBDR and the timer's status, which clears ready,
   -- and through KBSR. "Fetches use the lent words": all of these stand at device registers.
-  pub pointers-are-loads :
+  pub pointers_are_loads :
       Hold
       (supervisor 0xA7FF (PC 0xFE02 ∷ KBDR 0xFF ∷ word 0x00FF 0x9ABC ∷ [])  -- LDI R3, #-1: by KBDR
       (reads 0x00FF ∷ R 3 0x9ABC ∷ PSR 0x0504 ∷ KBSR 0x4000 ∷ [])
@@ -33,10 +33,10 @@ pub record HighAddresses : Type 0 where
 
 pub record HighAddressesBySecondEdition : Type 0 where
   -- "No access exception exists": for a fetch above the words of User mode.
-  pub user-mode-fetches :
+  pub user_mode_fetches :
       Hold (user_by second 0x1A6F (PC 0xFE00 ∷ []) (R 5 0x5A4B ∷ PSR 0x8501 ∷ []) ∷ [])  -- ADD R5, R1, #15
   -- "xFFFC is a plain word": for a load, a store and a pointer.
-  pub psr-address-is-plain :
+  pub psr_address_is_plain :
       Hold
       (supervisor_by second 0x6040 (R 1 0xFFFC ∷ word 0xFFFC 0x9ABC ∷ [])  -- LDR R0, R1, #0
       (reads 0xFFFC ∷ R 0 0x9ABC ∷ PSR 0x0504 ∷ [])

@@ -10,7 +10,7 @@ use Rattle.machine.specs.LogExamples.{user as logged, supervisor as supervisorLo
 pub record UserMode : Type 0 where
   -- "In User mode an access exception is raised by .. either address of LDI and STI, or by the address of .. ST, STR,
   -- if privileged." LD and LDR in Addresses (crate machine). Nothing is read before its check: KBDR keeps ready.
-  pub access-exceptions :
+  pub access_exceptions :
       Hold
       (user 0x31FE (word 0x0102 0x0D00 ∷ []) access_exception  -- ST R0, #-2
       ∷ user 0x7060 (R 1 0xFE20 ∷ word 0x0102 0x0D00 ∷ []) access_exception  -- STR R0, R1, #-32
@@ -21,7 +21,7 @@ pub record UserMode : Type 0 where
       ∷ [])
   -- Not at an address that is not privileged; in Supervisor mode none is denied. "Jumps are not checked until the
   -- fetch."
-  pub no-exception-otherwise :
+  pub no_exception_otherwise :
       Hold
       (user 0x6040 (R 1 0x3000 ∷ []) (reads 0x3000 ∷ R 0 0x6040 ∷ PSR 0x8501 ∷ [])  -- LDR R0, R1, #0
       ∷ user 0x707F (R 1 0x3001 ∷ []) (word 0x3000 0x0F1E ∷ [])  -- STR R0, R1, #-1
@@ -32,7 +32,7 @@ pub record UserMode : Type 0 where
 pub record UserModeBySecondEdition : Type 0 where
   -- "No access exception exists": for a load, a store, a pointer and what it points to. In User mode too a device
   -- register is reached.
-  pub user-mode-reaches-every-address :
+  pub user_mode_reaches_every_address :
       Hold
       (user_by second 0x6040 (R 1 0x0000 ∷ word 0x0000 0x9ABC ∷ [])  -- LDR R0, R1, #0
       (reads 0x0000 ∷ R 0 0x9ABC ∷ PSR 0x8504 ∷ [])

@@ -39,7 +39,8 @@ module _ (memory : List ℕ) (whole : take (length monitor_words) memory ≡ mon
 
 module _ (r : Routines) (memory : List ℕ) (table : take 512 memory ≡ vector_table r) where
   -- A vector word of this table that is the same in ours.
-  same_vector : (a : ℕ) → a < 0x0200 → vector_word r a ≡ vector_word ours a → get_or memory a 0 ≡ get_or monitor_words a 0
+  same_vector : (a : ℕ) → a < 0x0200 → vector_word r a ≡ vector_word ours a → get_or memory a 0
+      ≡ get_or monitor_words a 0
   same_vector a h same =
       sym (get_or-take 512 memory a 0 h)
       ∙ ap (λ (words : List ℕ). get_or words a 0) table

@@ -85,7 +85,8 @@ module _ {words sp : ℕ} (apart : StackApart words sp) (mem : List ℕ) where
       take-set-le (sp - words) (memory_with sp mem cells) (sp - c.slot) c.value (omega (arith, w.1))
       ∙ words_below_lem cells w.2
 
-  pub words_above_lem : (cells : List Cell) → cells_fine words cells ≡ true → drop sp (memory_with sp mem cells) ≡ drop sp mem
+  pub words_above_lem : (cells : List Cell) → cells_fine words cells ≡ true
+      → drop sp (memory_with sp mem cells) ≡ drop sp mem
   words_above_lem [] h = refl
   words_above_lem (c ∷ cells) h =
       let w = cells_fine_lem words c cells h in

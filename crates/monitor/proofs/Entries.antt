@@ -208,7 +208,8 @@ module _ (uses : ℕ → Bool) (words : ℕ) (s : Start) (i : Intact uses s.memo
       }
 
 pub entry_silent : (uses : ℕ → Bool) (words sp : ℕ) (s : Start) (user : Bool) (high to pc : ℕ)
-    → Shows [] (start_frame uses words sp s) (entered_frame uses words s user high) (start_view s) (entered_view s to pc)
+    → Shows [] (start_frame uses words sp s) (entered_frame uses words s user high) (start_view s)
+    (entered_view s to pc)
 unfolding busy_after shows_byte with_shown
 entry_silent uses words sp s user high to pc = record { counts = refl; free = refl; output = refl; shown = refl }
 
@@ -332,7 +333,8 @@ module _ {s : Start} {since bound : ℕ} (quiet : Quiet s since bound) (f : Fram
       (p.loads regs c busy) p.display) in
       let branched : Leads s since bound f (within v (with_register regs r x) (next pc) (from x) (busy - 1)) 1 f
       (within v (with_register regs r x) to (from x) (busy - 1 - 1)) =
-      rw goes at (by_plan quiet f sound 0 (omega arith) (within v (with_register regs r x) (next pc) (from x) (busy - 1))
+      rw goes at
+      (by_plan quiet f sound 0 (omega arith) (within v (with_register regs r x) (next pc) (from x) (busy - 1))
       going fine (Jump (cond (is_taken 3 (codes_for (from x) (Br 3 (negsuc 1)))) pc (next (next pc))))
       (p.branches (with_register regs r x) (from x) (busy - 1)) refl) in
       then loaded branched
@@ -414,7 +416,8 @@ return_silent f v user sp psr pc = record {
 
 pub return_once : {s : Start} {since k : ℕ} (f : Frame) → Sound f → (v : View) → v.mcr ≡ 0x8000
     → cells_fine f.words v.cells ≡ true → plan_at f v ≡ Return → (sp pc psr : ℕ) → get_or v.regs 6 0 ≡ sp
-    → word_at f v sp ≡ pc → word_at f v (next sp) ≡ psr → defined_psr psr ≡ psr → (user : Bool) → in_user_mode psr ≡ user
+    → word_at f v sp ≡ pc → word_at f v (next sp) ≡ psr → defined_psr psr ≡ psr → (user : Bool)
+    → in_user_mode psr ≡ user
     → At s since k f v → QuietStep s k
     → At s since (suc k) (returned_frame f user sp psr) (returned_view f v user sp psr pc)
 unfolding obeyed_by with_reads perform_by return popped after_return

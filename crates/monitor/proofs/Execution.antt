@@ -163,7 +163,8 @@ uninterrupted_step : (keys : List ℕ) (m : Machine) (mem : List ℕ) → takes_
 uninterrupted_step keys m mem h =
     otherwise_the_word_is_obeyed keys m mem (sym (interrupt_is_taken_by_rule_2 keys m mem) ∙ h)
 
-made : (s : Start) (e : End) (m : Machine) (mem bytes : List ℕ) → (next_step s e).machine ≡ m → (next_step s e).memory ≡ mem
+made : (s : Start) (e : End) (m : Machine) (mem bytes : List ℕ) → (next_step s e).machine ≡ m
+    → (next_step s e).memory ≡ mem
     → (next_step s e).shown ≡ bytes
     → step_made s e ≡ record {
       machine = m;
@@ -334,7 +335,8 @@ pub leads_by_one : {s : Start} {since bound : ℕ} {f f' : Frame} {v v' : View} 
     → ((k : ℕ) → At s since k f v → QuietStep s k → At s since (suc k) f' v') → Leads s since bound f v 1 f' v'
 leads_by_one quiet step = record { on = λ {k} h a. rw (add-one k) (step k a (quiet.at a (omega arith))) }
 
-pub then : {s : Start} {since bound : ℕ} {f f' f'' : Frame} {v v' v'' : View} {m n : ℕ} → Leads s since bound f v m f' v'
+pub then : {s : Start} {since bound : ℕ} {f f' f'' : Frame} {v v' v'' : View} {m n : ℕ}
+    → Leads s since bound f v m f' v'
     → Leads s since bound f' v' n f'' v'' → Leads s since bound f v (m + n) f'' v''
 then {m = m} {n = n} first second = record {
   on = λ {k} h a.

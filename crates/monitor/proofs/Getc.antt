@@ -71,10 +71,10 @@ module _ (user : Bool) (s : Start) (n t : ℕ) (c : Calls 0x20 getc_code 2 user 
     loads = λ r c b. refl;
     keyboard = refl;
     branches = λ r c b. refl;
-    data-pointer = 0x0281;
-    data-plain = omega arith;
+    data_pointer = 0x0281;
+    data_plain = omega arith;
     reads = λ r c b. refl;
-    data-register = refl;
+    data_register = refl;
   }
 
   waited : Turned s (1 + 2 * t) f view view.regs 0 0x0200 t view.busy
@@ -123,10 +123,10 @@ module _ (user : Bool) (s : Start) (n t : ℕ) (c : Calls 0x20 getc_code 2 user 
   counted : returning.busy - 1 ≡ s.machine.devices.busy - (j + 1)
   counted = four_less waited.busy_now s.machine.devices.busy t waited.count
 
-  getc-resumes :
+  getc_resumes :
       Resumes s n (j + 1) [] (s.machine.devices.busy - (j + 1)) 2
       (set s.machine.regs 0 (key_at s (1 + 2 * t + 2))) (read_in (1 + 2 * t + 2) s)
-  getc-resumes =
+  getc_resumes =
       comes_back uses 2 user s n j returning b (omega arith) quiet at_rti at_return (rw all_steps le)
       (set s.machine.regs 0 (key_at s (1 + 2 * t + 2))) same_registers
       (s.machine.devices.busy - (j + 1)) counted (read_in (1 + 2 * t + 2) s) cleared
@@ -203,7 +203,7 @@ getc_reads = record {
   resumes = λ user s n t c key le none.
       let z : 1 + 2 * t + 2 ≡ 3 + 2 * t = omega arith in
       let x = eight s.machine.regs c.begins.registers in
-      rw (all_steps user s n t c key le none x, z) at (getc-resumes user s n t c key le none x);
+      rw (all_steps user s n t c key le none x, z) at (getc_resumes user s n t c key le none x);
   is_byte = is_byte;
   ready = λ s h. ready_at s 1 h;
   ready_key = ready_key;

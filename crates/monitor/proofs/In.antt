@@ -82,10 +82,10 @@ module _ (user : Bool) (s : Start) (x : Eight s.machine.regs) where
     loads = λ r c b. refl;
     keyboard = refl;
     branches = λ r c b. refl;
-    data-pointer = 0x0281;
-    data-plain = omega arith;
+    data_pointer = 0x0281;
+    data_plain = omega arith;
     reads = λ r c b. refl;
-    data-register = refl;
+    data_register = refl;
   }
 
   module _ (bound : ℕ) (quiet : Quiet s 0 bound) (sound : Sound f) (room : 20 ≤ length s.output) where

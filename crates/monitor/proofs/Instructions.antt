@@ -27,7 +27,8 @@ use Rattle.machine.specs.Psr.{codes_of, recoded, is_taken}
 use Rattle.machine.specs.Outcome.{Outcome, with_reads, after_instruction}
 use Rattle.machine.specs.Protection.{denied}
 use Rattle.machine.specs.Devices.{DSR, DDR, MCR, is_device_by, display_is_ready, display_status}
-use Rattle.machine.specs.Devices.{lent_word, device_value, loaded_value_by, kbsr_after_load, timer_status_after_load, after_load}
+use Rattle.machine.specs.Devices.{lent_word, device_value, loaded_value_by, kbsr_after_load, timer_status_after_load}
+use Rattle.machine.specs.Devices.{after_load}
 use Rattle.machine.specs.Devices.{ddr_store, mcr_store, device_store, stored_by}
 use Rattle.machine.specs.Access.{load_to_by, load_to, store_at_by, store_at, by_pointer}
 use Rattle.machine.specs.Plan.{plan_by, plan_of}
@@ -97,7 +98,8 @@ unfolding is_taken and_bits
 taken_alike h (these c) mask i e = same_branch mask h (c % 8) (omega arith)
 taken_alike h (from x) mask i e = same_branch mask h (codes_of x) (codes_of_below x) ∙ go (eqb mask 7) refl e
   where
-    go : (b : Bool) → eqb mask 7 ≡ b → tests_all i ≡ b → is_taken mask (codes_of x) ≡ is_taken mask (cond (tests_all i) 1
+    go : (b : Bool) → eqb mask 7 ≡ b → tests_all i ≡ b → is_taken mask (codes_of x)
+        ≡ is_taken mask (cond (tests_all i) 1
         (codes_of x))
     go true p q =
         let z : mask ≡ 7 = eqb-true mask 7 p in
@@ -403,7 +405,8 @@ one_more_byte bytes output b l =
     (append_snoc bytes b (drop (suc (length bytes)) output)
     ∙ sym (set-append_seam bytes (get_or output (length bytes) 0) (drop (suc (length bytes)) output) b))
 
-full_length : (bytes output : List ℕ) → length bytes ≤ length output → length (written_over bytes output) ≡ length output
+full_length : (bytes output : List ℕ) → length bytes ≤ length output → length (written_over bytes output)
+    ≡ length output
 full_length bytes output l =
     length-append bytes (drop (length bytes) output)
     ∙ (let z = length-drop (length bytes) output in omega (arith, z))
@@ -518,11 +521,13 @@ module _ (f : Frame) (sound : Sound f) (v : View) (fine : cells_fine f.words v.c
       → by_pointer b data-access (machine_at f v d t) (memory_at f v)
       ≡ with_reads (lent_word b) (data-access w (machine_at f v d t) (memory_at f v))
   pointed b w data-access plain is d t =
-      by_plain_pointer b data-access (machine_at f v d t) (memory_at f v) in_supervisor_mode_lem plain ∙ rw (word_is b, is)
+      by_plain_pointer b data-access (machine_at f v d t) (memory_at f v) in_supervisor_mode_lem plain
+      ∙ rw (word_is b, is)
 
   polls : (r b : ℕ) → b < 0xFE00 → word_at f v b ≡ DSR
       → Performs (LoadBy r b) [] (valued v r (display_at v) (next v.pc))
-  unfolding perform_by with_reads load_to_by after_instruction recoded after_load loaded_value_by is_device_by kbsr_after_load
+  unfolding perform_by with_reads load_to_by after_instruction recoded after_load loaded_value_by is_device_by
+      kbsr_after_load
       timer_status_after_load device_value display_status display_is_ready
   polls r b plain w d t =
       let at = pointed b DSR (load_to r) plain w d t in
@@ -783,5 +788,6 @@ module _ {s : Start} {since bound : ℕ} (quiet : Quiet s since bound) (f : Fram
 
 -- To unfold this is to compute the steps of a routine.
 unfoldable pub computing : Unit {0}
-unfolding stepped_by may_steps stepped may_step plan_at word_with routine_words read_of plan_by codes_of is_taken and_bits
+unfolding stepped_by may_steps stepped may_step plan_at word_with routine_words read_of plan_by codes_of
+    is_taken and_bits
 computing = tt

@@ -93,10 +93,12 @@ one_step_more from t (u ∷ times) (b ∷ bytes) o e =
     go o' (one_step_more u t times bytes o' (omega arith))
   where
     go : out_of_order u times ≡ false
-        → keys_before t times + length (keys_due t (drop (keys_before t times) times) (drop (keys_before t times) bytes))
+        → keys_before t times + length
+        (keys_due t (drop (keys_before t times) times) (drop (keys_before t times) bytes))
         ≡ keys_before (suc t) times
         → keys_before t (u ∷ times)
-        + length (keys_due t (drop (keys_before t (u ∷ times)) (u ∷ times)) (drop (keys_before t (u ∷ times)) (b ∷ bytes)))
+        + length (keys_due t (drop (keys_before t (u ∷ times)) (u ∷ times))
+        (drop (keys_before t (u ∷ times)) (b ∷ bytes)))
         ≡ keys_before (suc t) (u ∷ times)
     go o' ih = elim (dec_le (suc u) t) [
       | yes l ↦ rw (lt-ltb u t l, lt-ltb u (suc t) (omega arith)) (suc-add (keys_before t times) _ ∙ ap suc ih)

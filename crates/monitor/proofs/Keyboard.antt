@@ -54,7 +54,8 @@ module _ {s : Start} {since k : ℕ} (f : Frame) (sound : Sound f) (v : View) (g
     (a : At s since k f v) (still : QuietStep s k) where
   status_given : word_at f v b ≡ KBSR → (d : Devices) (t x : ℕ) → d.kbsr ≡ x
       → Gives (perform (LoadBy r b) (machine_at f v d t) (memory_at f v)) [] v.busy f (valued v r x (next v.pc)) d t
-  unfolding perform_by with_reads load_to_by after_instruction recodedPsr after_load loaded_value_by is_device_by kbsr_after_load
+  unfolding perform_by with_reads load_to_by after_instruction recodedPsr after_load loaded_value_by is_device_by
+      kbsr_after_load
       timer_status_after_load device_value
   status_given w d t x e =
       let at = pointed f sound v fine b KBSR (load_to r) plain w d t in
@@ -80,7 +81,8 @@ module _ {s : Start} {since k : ℕ} (f : Frame) (sound : Sound f) (v : View) (g
   key_given : word_at f v b ≡ KBDR → (d : Devices) (t : ℕ) → d.kbsr ≡ status_in s k v → d.kbdr ≡ key_in s k
       → Gives (perform (LoadBy r b) (machine_at f v d t) (memory_at f v)) [] v.busy f (key_read s k v r)
       (set_keyboard (status_in s k v % 0x8000) d.kbdr d) t
-  unfolding perform_by with_reads load_to_by after_instruction recodedPsr after_load loaded_value_by is_device_by kbsr_after_load
+  unfolding perform_by with_reads load_to_by after_instruction recodedPsr after_load loaded_value_by is_device_by
+      kbsr_after_load
       timer_status_after_load device_value
   key_given w d t p q =
       let at = pointed f sound v fine b KBDR (load_to r) plain w d t in
@@ -139,11 +141,11 @@ pub record Keys (f : Frame) (v : View) (r p : ℕ) : Type 0 where
   pub branches : (regs : List ℕ) (c : Known) (busy : ℕ)
       → plan_at f (within v regs (next p) c busy)
       ≡ Jump (cond (is_taken 3 (codes_for c (Br 3 (negsuc 1)))) p (next (next p)))
-  pub data-pointer : ℕ
-  pub data-plain : data-pointer < 0xFE00
+  pub data_pointer : ℕ
+  pub data_plain : data_pointer < 0xFE00
   pub reads : (regs : List ℕ) (c : Known) (busy : ℕ)
-      → plan_at f (within v regs (next (next p)) c busy) ≡ LoadBy r data-pointer
-  pub data-register : word_at f v data-pointer ≡ KBDR
+      → plan_at f (within v regs (next (next p)) c busy) ≡ LoadBy r data_pointer
+  pub data_register : word_at f v data_pointer ≡ KBDR
 
 -- After some turns: register r has changed, and the codes, and the busy count has fallen.
 pub record Turned (s : Start) (k : ℕ) (f : Frame) (v : View) (regs : List ℕ) (r p turns busy : ℕ) : Type 0 where
@@ -173,7 +175,8 @@ module _ {s : Start} {bound : ℕ} (quiet : Quiet s 0 bound) (f : Frame) (sound 
       let z : k + 1 ≡ suc k = omega arith in
       let goes : is_taken 3 (codes_for (from x) (Br 3 (negsuc 1))) ≡ back = taken_after x ∙ is in
       let l = by_plan quiet f sound 0 (omega arith) (within v regs (next p) (from x) busy) going fine
-      (Jump (cond (is_taken 3 (codes_for (from x) (Br 3 (negsuc 1)))) p (next (next p)))) (q.branches regs (from x) busy)
+      (Jump (cond (is_taken 3 (codes_for (from x) (Br 3 (negsuc 1)))) p (next (next p))))
+      (q.branches regs (from x) busy)
       refl in
       rw (z, goes) at (l.on (omega arith) a)
 
@@ -190,7 +193,8 @@ module _ {s : Start} {bound : ℕ} (quiet : Quiet s 0 bound) (f : Frame) (sound 
         codes = from (status_at s k);
         busy_now = busy - 1 - 1;
         count = omega arith;
-        at = rw z at (branches (suc k) (omega arith) (with_register regs r (status_at s k)) (status_at s k) (busy - 1) true
+        at = rw z at
+            (branches (suc k) (omega arith) (with_register regs r (status_at s k)) (status_at s k) (busy - 1) true
             (lt-ltb (status_at s k) 0x8000 none) (polls k (omega arith) regs c busy a));
       }
 
@@ -231,6 +235,6 @@ module _ {s : Start} {bound : ℕ} (quiet : Quiet s 0 bound) (f : Frame) (sound 
       (branches (suc k) (omega arith) (with_register regs r (status_at s k)) (status_at s k) (busy - 1) false
       (le-ltb (status_at s k) 0x8000 ready) (polls k (omega arith) regs c busy a)) in
       rw w
-      (loads_key f sound there going fine r q.data-pointer
-      (q.reads (with_register regs r (status_at s k)) (from (status_at s k)) (busy - 1 - 1)) q.data-plain b
-      (quiet.at b (omega arith)) q.data-register)
+      (loads_key f sound there going fine r q.data_pointer
+      (q.reads (with_register regs r (status_at s k)) (from (status_at s k)) (busy - 1 - 1)) q.data_plain b
+      (quiet.at b (omega arith)) q.data_register)

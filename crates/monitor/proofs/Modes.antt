@@ -26,7 +26,8 @@ use Rattle.machine.specs.Psr.{in_user_mode, codes_of, Codes, kept, set_from, is_
 use Rattle.machine.specs.Outcome.{Reason, trap, privilege, illegal, access, vector_of, Outcome, touching, plain_outcome}
 use Rattle.machine.specs.Outcome.{with_reads, after_instruction}
 use Rattle.machine.specs.Protection.{denied_by, denied}
-use Rattle.machine.specs.Devices.{KBDR, TSR, is_device_by, is_device, lent_word_by, lent_word, loaded_value_by, loaded_value}
+use Rattle.machine.specs.Devices.{KBDR, TSR, is_device_by, is_device, lent_word_by, lent_word, loaded_value_by}
+use Rattle.machine.specs.Devices.{loaded_value}
 use Rattle.machine.specs.Devices.{kbsr_after_load, timer_status_after_load, after_load, stored_by}
 use Rattle.machine.specs.Access.{checked, load_to_by, load_to, store_at_by, store_at, by_pointer_by, by_pointer}
 use Rattle.machine.specs.Entry.{raised}

@@ -522,7 +522,8 @@ module _ (user : Bool) (s : Start) (x : Eight s.machine.regs) where
           (omega (arith, e₁, e₂), omega (arith, e₁, e₂, e₃, e₄))
 
       in_order : (w : ℕ) (words bytes : List ℕ)
-          → bytes ++ unless_zero (w % 256) ++ unless_zero (w / 256) ++ pair_bytes words ≡ bytes ++ pair_bytes (w ∷ words)
+          → bytes ++ unless_zero (w % 256) ++ unless_zero (w / 256) ++ pair_bytes words
+          ≡ bytes ++ pair_bytes (w ∷ words)
       unfolding pair_bytes
       in_order w words bytes =
           append_assoc (bytes ++ unless_zero (w % 256)) (unless_zero (w / 256)) (pair_bytes words)

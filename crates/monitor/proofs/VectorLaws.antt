@@ -55,7 +55,8 @@ unfolding vector_table
 table_at r a h = vectors_at r 0 512 a h ∙ ap (vector_word r) (zero-add a)
 
 -- One more word of the table; and all of them.
-pub one_more_vector : (r : Routines) (t : List ℕ) (a : ℕ) → a < 512 → length t ≡ 512 → take a t ≡ take a (vector_table r)
+pub one_more_vector : (r : Routines) (t : List ℕ) (a : ℕ) → a < 512 → length t ≡ 512 → take a t
+    ≡ take a (vector_table r)
     → take (a + 1) (set t a (vector_word r a)) ≡ take (a + 1) (vector_table r)
 one_more_vector r t a h l e =
     rw add-one

@@ -1,6 +1,7 @@
 -- A call of one of the monitor's routines, from User mode or from Supervisor mode, and what it leaves: the caller
 -- resumed, or the machine halted.
-use Rattle.std.specs.Prelude.{ℕ, suc, ◌+◌, ◌-◌, ◌*◌, ◌/◌, ◌%◌, ◌≤◌, ◌≡◌, Bool, true, false, cond, List, length, get_or, set, take, drop}
+use Rattle.std.specs.Prelude.{ℕ, suc, ◌+◌, ◌-◌, ◌*◌, ◌/◌, ◌%◌, ◌≤◌, ◌≡◌, Bool, true, false, cond, List, length, get_or}
+use Rattle.std.specs.Prelude.{set, take, drop}
 use Rattle.word.specs.Reading.{read_of}
 use Rattle.word.specs.declared.Instruction.TheVariants.{Trap}
 use Rattle.machine.specs.declared.Machine.{Machine}

@@ -33,7 +33,8 @@ in_steps s turns = key_step s turns + 1 + (echo_wait turns + 4) + 1
 abbrev pub shown_by_in : Start → ℕ → List ℕ
 shown_by_in s turns = prompt ++ (key_at s (key_step s turns) % 256) ∷ []
 
--- R0 becomes the key, which is a byte (Getc's `is_byte_lem`), all other registers and the PSR are as before, prompt and key
+-- R0 becomes the key, which is a byte (Getc's `is_byte_lem`), all other registers and the PSR are as before, prompt and
+-- key
 -- are shown and nothing else, ready is cleared, and no word is changed but four of the stack's.
 abbrev pub InReads : Type 0
 InReads = (user : Bool) (s : Start) (n turns : ℕ) → Calls 0x23 in_code 4 user s n → KeyComes s (first_poll s) turns

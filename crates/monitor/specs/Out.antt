@@ -1,7 +1,8 @@
 -- OUT: "Called from User mode with the monitor's words intact, Saved_SSP x3000, MCR x8000, a free output byte, 32 steps
 -- to run and no interrupt on the way, OUT shows R0's low byte and nothing else, and within those steps the caller
 -- resumes at Next with its registers and PSR as before and no word but x2FF8 to x2FFF changed."
-use Rattle.std.specs.Prelude.{ℕ, zero, suc, ◌+◌, ◌-◌, ◌%◌, ◌≤◌, ◌<◌, ◌≡◌, true, false, List, [], ◌∷◌, length, get_or, set, take, drop, replicate}
+use Rattle.std.specs.Prelude.{ℕ, zero, suc, ◌+◌, ◌-◌, ◌%◌, ◌≤◌, ◌<◌, ◌≡◌, true, false, List, [], ◌∷◌, length, get_or}
+use Rattle.std.specs.Prelude.{set, take, drop, replicate}
 use Rattle.word.specs.Reading.{read_of}
 use Rattle.word.specs.declared.Instruction.TheVariants.{Trap}
 use Rattle.machine.specs.declared.Devices.{Devices}

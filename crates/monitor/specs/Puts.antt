@@ -1,6 +1,7 @@
 -- PUTS: shows the low byte of each word from R0 on, up to a word x0000; "a routine .. reads no privileged word" for a
 -- caller in User mode.
-use Rattle.std.specs.Prelude.{ℕ, suc, ◌+◌, ◌-◌, ◌%◌, ◌≤◌, ◌<◌, ◌≡◌, Bool, true, false, cond, not, ◌&&◌, List, [], ◌∷◌, map, leb, ltb, length, get_or}
+use Rattle.std.specs.Prelude.{ℕ, suc, ◌+◌, ◌-◌, ◌%◌, ◌≤◌, ◌<◌, ◌≡◌, Bool, true, false, cond, not, ◌&&◌, List, [], ◌∷◌}
+use Rattle.std.specs.Prelude.{map, leb, ltb, length, get_or}
 use Rattle.machine.specs.Protection.{privileged}
 use Rattle.run.specs.Run.{Start}
 use Rattle.monitor.specs.Uses.{between, puts_code}

@@ -1,6 +1,7 @@
 -- What is a claim on the words alone. That the six services are what stands behind x0020 to x0025, and STOP behind the
 -- others, is claimed of the calls themselves: Getc, Out, Puts, In, Putsp, Halt and Stop.
-use Rattle.std.specs.Prelude.{ℕ, zero, suc, ◌+◌, ◌-◌, ◌/◌, ◌%◌, ◌≤◌, ◌<◌, ◌≡◌, Bool, true, false, ◌&&◌, ◌||◌, not, List, [], ◌∷◌, eqb, length, get_or}
+use Rattle.std.specs.Prelude.{ℕ, zero, suc, ◌+◌, ◌-◌, ◌/◌, ◌%◌, ◌≤◌, ◌<◌, ◌≡◌, Bool, true, false, ◌&&◌, ◌||◌, not, List}
+use Rattle.std.specs.Prelude.{[], ◌∷◌, eqb, length, get_or}
 use Rattle.word.specs.Field.{field}
 use Rattle.word.specs.Reading.{opcode, read_of}
 use Rattle.word.specs.declared.Instruction.TheVariants.{Rti}
@@ -39,7 +40,8 @@ sets_stack a = eqb (word_of a / 512 % 8) 6 && has_opcode (1 ∷ 2 ∷ 5 ∷ 6 �
 
 abbrev pub keeps_stack : ℕ → Bool
 keeps_stack a =
-    not (sets_stack a) || eqb (word_of a / 32) (0x1DA0 / 32) || has_opcode (2 ∷ []) a && eqb (word_of (leads_to a)) 0x2FFE
+    not (sets_stack a) || eqb (word_of a / 32) (0x1DA0 / 32) || has_opcode (2 ∷ []) a && eqb
+    (word_of (leads_to a)) 0x2FFE
 
 -- STR by R6.
 abbrev pub stores_to_stack : ℕ → Bool

@@ -13,7 +13,8 @@ use Rattle.machine.specs.Keys.{keys_due, ready_after, last_key, after_keys}
 use Rattle.machine.specs.Timer.{ticked, after_timer}
 use Rattle.machine.specs.Protection.{privileged, denied_by, denied}
 use Rattle.machine.specs.Interrupts.{pending_interrupt}
-use Rattle.machine.specs.Entry.{pushed, entry, after_entry, raised, interrupted, stack_pointer_on_entry, user_stack_on_entry}
+use Rattle.machine.specs.Entry.{pushed, entry, after_entry, raised, interrupted, stack_pointer_on_entry}
+use Rattle.machine.specs.Entry.{user_stack_on_entry}
 use Rattle.machine.specs.Outcome.{privilege, illegal, access, vector_of, with_reads, after_instruction}
 use Rattle.machine.specs.Causes.{takes_interrupt}
 use Rattle.machine.specs.Devices.{is_device_by, device_value, loaded_value_by, kbsr_after_load, timer_status_after_load}
@@ -24,7 +25,8 @@ use Rattle.machine.specs.Plan.{plan_by}
 use Rattle.machine.specs.Step.{perform_by, obeyed_by, interrupted_or_obeyed_by, busy_after, after_tick, ended, step_by}
 use Rattle.run.specs.Refusals.{wrong_size, undefined_timer, undefined_devices, undefined_record, too_many_steps}
 use Rattle.run.specs.Refusals.{unequal_lists, first_refusal, entry_admission, times_admission, admission_of}
-use Rattle.run.specs.Run.{Start, begin, arriving, next_step_by, with_shown, step_made_by, is_halted, shows_byte, is_full_by}
+use Rattle.run.specs.Run.{Start, begin, arriving, next_step_by, with_shown, step_made_by, is_halted, shows_byte}
+use Rattle.run.specs.Run.{is_full_by}
 use Rattle.run.specs.Run.{one_more_by, run_by, ended_by}
 use Rattle.run.specs.declared.Admission.TheVariants.{Accepted}
 use Rattle.run.specs.Call.{admitted_by, call_by, call_of}
@@ -46,7 +48,8 @@ use Rattle.interruptions.specs.GoesOn.{out_last}
 use Rattle.interruptions.specs.Reads.{getc_poll, getc_last}
 use Rattle.interruptions.proofs.GetcAndIn.{interrupted_reads}
 use Rattle.monitor_examples.specs.Examples.{example_memory, example_with, example, key_on_the_way, past_interrupt}
-use Rattle.monitor_examples.specs.Examples.{past_the_interrupt, another_on_the_way, past_both, key_in_getc, past_in_getc}
+use Rattle.monitor_examples.specs.Examples.{past_the_interrupt, another_on_the_way, past_both, key_in_getc}
+use Rattle.monitor_examples.specs.Examples.{past_in_getc}
 use Rattle.monitor_examples.specs.Examples.{ExamplesHold}
 use Rattle.monitor.proofs.Intact.{monitor_word}
 use Rattle.monitor.proofs.UseLaws.{getc_below, out_below, stop_below, puts_below, putsp_below, in_below}
@@ -55,7 +58,8 @@ use Rattle.monitor.proofs.UseLaws.{halt_below, back_below, with_vector_below}
 -- To unfold this is to compute what a call is handed.
 unfoldable handed : Unit {0}
 unfolding example_with example_memory read_of in_user_mode defined_psr privileged denied_by wrong_size undefined_timer
-    undefined_devices undefined_record too_many_steps unequal_lists first_refusal entry_admission times_admission admission_of
+    undefined_devices undefined_record too_many_steps unequal_lists first_refusal entry_admission
+    times_admission admission_of
     vector_word vectors_from vector_table routine_words monitor_words install_of
 handed = tt
 
@@ -107,7 +111,8 @@ out : (user : Bool) (sp : ℕ) → StackApart 3 sp → Calls 0x21 out_code 3 use
 unfolding handed
 out user sp apart = record {
   begins =
-      ready 0xF021 (with_vector 0x21 out_code) (with_vector_below 0x21 out_code (omega arith) out_below) 3 sp apart user;
+      ready 0xF021 (with_vector 0x21 out_code) (with_vector_below 0x21 out_code (omega arith) out_below) 3
+      sp apart user;
   may_fetch = allowed user;
   trap = refl;
 }
@@ -131,11 +136,13 @@ input user sp apart = record {
   trap = refl;
 }
 
-putsp : (user : Bool) (sp : ℕ) → StackApart 6 sp → Calls 0x24 putsp_code 6 user (example_with sp user 0xF024 0x8000) 1000
+putsp : (user : Bool) (sp : ℕ) → StackApart 6 sp → Calls 0x24 putsp_code 6 user
+    (example_with sp user 0xF024 0x8000) 1000
 unfolding handed
 putsp user sp apart = record {
   begins =
-      ready 0xF024 (with_vector 0x24 putsp_code) (with_vector_below 0x24 putsp_code (omega arith) putsp_below) 6 sp apart
+      ready 0xF024 (with_vector 0x24 putsp_code)
+      (with_vector_below 0x24 putsp_code (omega arith) putsp_below) 6 sp apart
       user;
   may_fetch = allowed user;
   trap = refl;
@@ -163,15 +170,20 @@ other user sp apart = record {
 
 -- The first step, and the second, by computing.
 unfoldable stepping : Unit {0}
-unfolding handed codes_of recoded keys_due ready_after last_key after_keys ticked after_timer denied_by pending_interrupt pushed
-    entry after_entry raised interrupted stack_pointer_on_entry user_stack_on_entry with_reads after_instruction load_to_by return
-    popped after_return plan_by perform_by obeyed_by interrupted_or_obeyed_by busy_after after_tick ended step_by begin arriving
-    next_step_by with_shown step_made_by is_halted shows_byte is_full_by one_more_by run_by ended_by admitted_by call_by cause_at
+unfolding handed codes_of recoded keys_due ready_after last_key after_keys ticked after_timer denied_by
+    pending_interrupt pushed
+    entry after_entry raised interrupted stack_pointer_on_entry user_stack_on_entry with_reads after_instruction
+    load_to_by return
+    popped after_return plan_by perform_by obeyed_by interrupted_or_obeyed_by busy_after after_tick ended step_by
+    begin arriving
+    next_step_by with_shown step_made_by is_halted shows_byte is_full_by one_more_by run_by ended_by admitted_by
+    call_by cause_at
 stepping = tt
 
 -- With a load of KBSR, and a store.
 unfoldable reading : Unit {0}
-unfolding stepping by_pointer_by is_device_by device_value loaded_value_by kbsr_after_load timer_status_after_load after_load
+unfolding stepping by_pointer_by is_device_by device_value loaded_value_by kbsr_after_load
+    timer_status_after_load after_load
     store_at_by stored_by
 reading = tt
 

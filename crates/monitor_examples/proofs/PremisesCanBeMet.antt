@@ -16,7 +16,8 @@ use Rattle.monitor.proofs.Out.{out_shows}
 called : CallsOut out_called 32
 unfolding out_called fresh_of read_of in_user_mode defined_psr privileged wrong_size undefined_timer undefined_devices
     undefined_record too_many_steps
-    unequal_lists times_admission admission_of vector_word vectors_from vector_table routine_words monitor_words install_of
+    unequal_lists times_admission admission_of vector_word vectors_from vector_table routine_words
+    monitor_words install_of
 called = record {
   accepted = refl;
   steps = omega arith;

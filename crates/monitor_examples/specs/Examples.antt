@@ -1,5 +1,6 @@
 -- The premises of the theorems can be met: for each, a fresh machine at x3000 with the monitor in memory.
-use Rattle.std.specs.Prelude.{ℕ, ◌+◌, ◌%◌, ◌<◌, ◌≡◌, Bool, true, false, cond, List, [], ◌∷◌, get_or, set, drop, replicate}
+use Rattle.std.specs.Prelude.{ℕ, ◌+◌, ◌%◌, ◌<◌, ◌≡◌, Bool, true, false, cond, List, [], ◌∷◌, get_or, set, drop}
+use Rattle.std.specs.Prelude.{replicate}
 use Rattle.word.specs.Reading.{read_of}
 use Rattle.word.specs.declared.Instruction.TheVariants.{Reserved}
 use Rattle.machine.specs.declared.Machine.{Machine}

@@ -9,7 +9,8 @@ use Rattle.machine.specs.declared.Machine.{Machine}
 use Rattle.machine.specs.declared.Rule.TheVariants.{Instruction}
 use Rattle.machine.specs.Edition.{Edition}
 use Rattle.machine.specs.Outcome.{Outcome, touching, with_reads}
-use Rattle.machine.specs.Devices.{KBSR, KBDR, DSR, DDR, TSR, TIR, PSR, is_device_by, lent_word_by, ddr_store, device_store}
+use Rattle.machine.specs.Devices.{KBSR, KBDR, DSR, DDR, TSR, TIR, PSR, is_device_by, lent_word_by, ddr_store}
+use Rattle.machine.specs.Devices.{device_store}
 use Rattle.machine.specs.Devices.{stored_by}
 use Rattle.machine.proofs.Tests.{either_branch}
 use Rattle.telling.specs.declared.Addresses.{Addresses}

@@ -10,8 +10,8 @@ runs_in_place m = record {
   of_a_refusal = refl;
   report_of_a_run = refl;
   report_of_a_refusal = refl;
-  step-to-c = refl;
-  run-to-c = refl;
+  step_to_c = refl;
+  run_to_c = refl;
   run = refl;
 }
 
@@ -20,14 +20,14 @@ logged_runs_in_place m = record {
   of_a_run = refl;
   of_a_full_log = refl;
   of_a_refusal = refl;
-  to-c = refl;
+  to_c = refl;
   run = refl;
 }
 
 others_in_place : (m : Machine) → OthersInPlace m
 unfolding flat_of
 others_in_place m = record {
-  told-to-c = refl;
+  told_to_c = refl;
   load = refl;
   bytes = refl;
   bytes_to_c = refl;

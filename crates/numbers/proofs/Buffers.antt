@@ -65,7 +65,8 @@ unfolding vector_word vectors_from vector_table wrong_size too_short vectors_of 
 monitor_in_place = record { vectors = refl; fits_exactly = refl; sizes = refl; installed = refl; routines = refl }
 
 last_step_logged : LastStepLogged
-unfolding run_opened fetched_word_by next_rule_by entry_by lacks_room begin_logged stopped_by step_logged_by one_more_logged_by
+unfolding run_opened fetched_word_by next_rule_by entry_by lacks_room begin_logged stopped_by step_logged_by
+    one_more_logged_by
     logged_run_by logged_admitted_by logged_call_by
 last_step_logged = record { made = refl; written = refl; log = refl }
 

@@ -33,8 +33,10 @@ long_runs = record {
 }
 
 many_steps : ManySteps
-unfolding opened fetched_word_by next_rule_by entry_by lacks_room begin_logged stopped_by step_logged_by one_more_logged_by
-    logged_run_by logged_admitted_by logged_call_by cause_at reads_at writes_at takes replaces is_among instruction_exclusions
+unfolding opened fetched_word_by next_rule_by entry_by lacks_room begin_logged stopped_by step_logged_by
+    one_more_logged_by
+    logged_run_by logged_admitted_by logged_call_by cause_at reads_at writes_at takes replaces is_among
+    instruction_exclusions
     accesses_of address_exclusions access_exclusions obeyed_exclusions taken_exclusions exclusions_of exclusions_at
 many_steps = record {
   steps = refl;

@@ -63,11 +63,11 @@ pub record RunsInPlace (m : Machine) : Type 0 where
   pub report_of_a_refusal : report_of (report (Refused (TimesOutOfOrder 4)))
       ≡ record { steps = 0x18081; keys = 0x8083; shown = 0x8085; index = 4; refusal = 19; stop = 0 }
   -- the step on a lent record, and the run, as C has them
-  pub step-to-c :
+  pub step_to_c :
       reported m (record { steps = 0x18081; keys = 0x8083; shown = 0x8085; index = 4; refusal = 5; stop = 6 }) (8 ∷ [])
       (9 ∷ [])
       ≡ placed m 4 5 6
-  pub run-to-c :
+  pub run_to_c :
       answered
       (record { machine = m; steps = 0x18081; keys = 0x8083; shown = 0x8085; index = 4; refusal = 5; stop = 6 })
       (8 ∷ []) (9 ∷ [])
@@ -99,7 +99,7 @@ pub record LoggedRunsInPlace (m : Machine) : Type 0 where
   pub of_a_run : logged_answer_of (logged_with m (Run OutputFull)) ≡ placed_with_log m 0 0 2
   pub of_a_full_log : logged_answer_of (logged_with m LogFull) ≡ placed_with_log m 0 0 3
   pub of_a_refusal : logged_answer_of (logged_with m (Run (Refused (TimesOutOfOrder 4)))) ≡ placed_with_log m 4 19 0
-  pub to-c :
+  pub to_c :
       logged_answered
       (record {
         machine = m;
@@ -126,7 +126,7 @@ addresses count a b c = record { count = count; first = a; second = b; third = c
 
 pub record OthersInPlace (m : Machine) : Type 0 where
   -- the next step, told
-  pub told-to-c :
+  pub told_to_c :
       told_answer
       (record {
         ending = Refused (TimesOutOfOrder 4);

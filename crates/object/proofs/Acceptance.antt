@@ -104,6 +104,7 @@ saved_is_writable memory origin count output h =
     (save_refusal_answered (save_refusal memory origin count output) _ output h)
 
 pub writable_is_saved : (memory : List ℕ) (origin count : ℕ) (output : List ℕ)
-    → Writable memory origin count output → save_of memory origin count output ≡ save_accepted memory origin count output
+    → Writable memory origin count output → save_of memory origin count output
+    ≡ save_accepted memory origin count output
 unfolding save_of save_accepted
 writable_is_saved memory origin count output w = rw (writable_is_accepted memory origin count output w)

@@ -15,7 +15,7 @@ use Rattle.object.proofs.Acceptance.{words_in_lem, file_length}
 -- The words of a file, read into the part of memory that begins at its origin.
 module _ (file memory part : List ℕ) (origin : ℕ) (o : origin ≡ origin_in file)
     (p : part ≡ words_of (take (length file - 2) (drop 2 file))) where
-  pub words-in-place :
+  pub words_in_place :
       ◌≡◌ {A = Loading}
       (record {
         origin = origin;
@@ -25,7 +25,7 @@ module _ (file memory part : List ℕ) (origin : ℕ) (o : origin ≡ origin_in 
       })
       (load_accepted file memory)
   unfolding load_accepted
-  words-in-place =
+  words_in_place =
       let n : origin + (length file / 2 - 1) - origin ≡ length file / 2 - 1 = omega arith in
       let w : part ≡ words_in file =
       (p ∙ ap words_of (take_all (length file - 2) (drop 2 file) (simp length-drop (omega arith)))) in
@@ -46,7 +46,7 @@ module _ (memory output part : List ℕ) (origin count : ℕ) (a : Writable memo
         let m : 2 + 2 * count ≡ suc (suc (2 * count)) = omega arith in
         rw (n, m)
 
-    pub file-in-place :
+    pub file_in_place :
         ◌≡◌ {A = Written}
         (record {
           count = 2 + 2 * count;
@@ -56,7 +56,7 @@ module _ (memory output part : List ℕ) (origin count : ℕ) (a : Writable memo
         })
         (save_accepted memory origin count output)
     unfolding save_accepted bytes_of
-    file-in-place =
+    file_in_place =
         let n : origin + count - origin ≡ count = omega arith in
         let w : part ≡ bytes_of (range origin count memory) = (rw n at p) in
         rw (
@@ -66,16 +66,16 @@ module _ (memory output part : List ℕ) (origin count : ℕ) (a : Writable memo
               (omega (arith, a.size, a.fits)),
         )
 
-    pub same-length-out :
+    pub same_length_out :
         length
         (take 2 (set (set output 0 (origin / 256)) 1 (origin % 256))
         ++ (part ++ drop (2 + 2 * count - 2) (drop 2 (set (set output 0 (origin / 256)) 1 (origin % 256)))))
         ≡ length output
     unfolding save_accepted
-    same-length-out =
+    same_length_out =
         let l : length (file_of origin (range origin count memory))
         ≡ 2 + 2 * count = file_length origin count memory (omega (arith, a.size, a.fits)) in
-        ap (λ (s : Written). length s.output) file-in-place
+        ap (λ (s : Written). length s.output) file_in_place
         ∙ simp (length-append, length-drop) (omega (arith, a.room))
 
 pub loading_turned_away : (n : ℕ) (file memory : List ℕ) → (n ≡ 0 → ⊥) →

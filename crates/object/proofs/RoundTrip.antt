@@ -64,7 +64,8 @@ module _ (memory : List ℕ) (origin count : ℕ) (other : List ℕ) (s : length
   unfolding bytes_of
   range_again = words_again (range origin count memory)
 
-  file_of_range_loads : Reproduced origin count memory other (load_of (file_of origin (range origin count memory)) other)
+  file_of_range_loads : Reproduced origin count memory other
+      (load_of (file_of origin (range origin count memory)) other)
   unfolding load_accepted
   file_of_range_loads =
       let l : length (file_of origin (range origin count memory))

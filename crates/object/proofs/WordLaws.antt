@@ -20,7 +20,8 @@ length_of_bytes [] = refl
 length_of_bytes (w ∷ words) = let e = length_of_bytes words in omega arith
 
 module _ (bytes words : List ℕ) (k : ℕ) (l : length bytes ≡ 2 * length words) where
-  next_word : k < length words → words_of (drop (2 * k) bytes) ≡ word (get_or bytes (2 * k) 0) (get_or bytes (2 * k + 1) 0)
+  next_word : k < length words → words_of (drop (2 * k) bytes)
+      ≡ word (get_or bytes (2 * k) 0) (get_or bytes (2 * k + 1) 0)
       ∷ words_of (drop (2 * (k + 1)) bytes)
   unfolding words_of
   next_word h =

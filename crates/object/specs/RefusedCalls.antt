@@ -18,7 +18,8 @@ RefusedSaveTouchesNothing =
 pub record AcceptedExactly : Type 0 where
   pub readable : (file memory : List ℕ) → (load_of file memory).refusal ≡ 0 → Readable file memory
   pub read : (file memory : List ℕ) → Readable file memory → (load_of file memory).refusal ≡ 0
-  pub writable : (memory : List ℕ) (origin count : ℕ) (output : List ℕ) → (save_of memory origin count output).refusal ≡ 0
+  pub writable : (memory : List ℕ) (origin count : ℕ) (output : List ℕ)
+      → (save_of memory origin count output).refusal ≡ 0
       → Writable memory origin count output
   pub wrote : (memory : List ℕ) (origin count : ℕ) (output : List ℕ) → Writable memory origin count output
       → (save_of memory origin count output).refusal ≡ 0

@@ -3,7 +3,8 @@
 
 ghost use Rattle.std.specs.Prelude.{◌≡◌, List, ℕ};
 ghost use Rattle.run.specs.Run.{begin, ended_by};
-ghost use Rattle.run.specs.Refusals.{undefined_timer, undefined_devices, undefined_record, times_admission, admission_of};
+ghost use Rattle.run.specs.Refusals.{undefined_timer, undefined_devices, undefined_record, times_admission};
+ghost use Rattle.run.specs.Refusals.{admission_of};
 ghost use Rattle.run.specs.Call.{start_of, end_of};
 ghost use Rattle.run.specs.declared.Ending.TheVariants.{Refused};
 

@@ -7,15 +7,15 @@ pub calls_hold : CallsHold
 unfolding opened
 calls_hold = record {
   second_key_waits = refl;
-  keys-wait = refl;
+  keys_wait = refl;
   full_after_three_keys = refl;
-  room-with-more-keys = refl;
+  room_with_more_keys = refl;
   done_by_the_step_that_halts = refl;
-  halted-on-the-way = refl;
+  halted_on_the_way = refl;
   not_full_where_a_key_interrupts = refl;
-  refused-call = refl;
-  refused-second-call = refl;
+  refused_call = refl;
+  refused_second_call = refl;
   last_step = refl;
-  no-step-after = refl;
+  no_step_after = refl;
   further_refusals = refl;
 }

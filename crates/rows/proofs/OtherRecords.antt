@@ -11,7 +11,7 @@ instructions = record { in_user_mode_lem = refl }
 
 accesses : Accesses
 unfolding opened
-accesses = record { and-entries = refl }
+accesses = record { and_entries = refl }
 
 further_steps : Further
 unfolding opened
@@ -19,23 +19,23 @@ further_steps = record { further = refl }
 
 keys_and_vectors : KeysAndVectors
 unfolding opened
-keys_and_vectors = record { every-bit = refl }
+keys_and_vectors = record { every_bit = refl }
 
 loads : Loads
 unfolding opened
-loads = record { of-registers = refl }
+loads = record { of_registers = refl }
 
 more_loads : MoreLoads
 unfolding opened
-more_loads = record { beside-them = refl }
+more_loads = record { beside_them = refl }
 
 stores : Stores
 unfolding opened
-stores = record { to-registers = refl }
+stores = record { to_registers = refl }
 
 more_stores : MoreStores
 unfolding opened
-more_stores = record { beside-them = refl }
+more_stores = record { beside_them = refl }
 
 supervisor_mode_lem : Supervisor
 unfolding opened
@@ -43,7 +43,7 @@ supervisor_mode_lem = record { others = refl }
 
 second_edition : Second
 unfolding opened
-second_edition = record { by-five-rules = refl }
+second_edition = record { by_five_rules = refl }
 
 second_in_user_mode : SecondInUserMode
 unfolding opened
@@ -51,7 +51,7 @@ second_in_user_mode = record { device_registers = refl }
 
 second_in_user_mode_loads : SecondInUserModeLoads
 unfolding opened
-second_in_user_mode_loads = record { device_registers = refl; ends-of-memory = refl }
+second_in_user_mode_loads = record { device_registers = refl; ends_of_memory = refl }
 
 single_values : Single
 unfolding opened

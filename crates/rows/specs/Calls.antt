@@ -33,7 +33,8 @@ late_stores r1 kbsr output n =
     let t = 2 ^ 40 + 41 in
     answers_of
     (run_of
-    (start_of (late_at t r1 kbsr) (replicate 65536 0x7040) (t ∷ (t + 2) ∷ (t + 2) ∷ []) (0xE1 ∷ 0xE2 ∷ 0xE3 ∷ []) output)
+    (start_of (late_at t r1 kbsr) (replicate 65536 0x7040) (t ∷ (t + 2) ∷ (t + 2) ∷ [])
+    (0xE1 ∷ 0xE2 ∷ 0xE3 ∷ []) output)
     n)
 
 -- These times at clock 2^40, a byte for each, and the refusal with its index.
@@ -83,7 +84,7 @@ further_calls =
 pub record CallsHold : Type 0 where
   -- "Key presses with time t arrive" at clock t, and not before.
   pub second_key_waits : stores 0x8000 (0 ∷ 0 ∷ 0 ∷ []) 1 ≡ answers 1 1 1 0x0401 0x61 (0x41 ∷ 0 ∷ 0 ∷ []) Done
-  pub keys-wait :
+  pub keys_wait :
       map (late_stores 0xFE06 0 (0 ∷ 0 ∷ [])) (1 ∷ 2 ∷ 3 ∷ [])
       ≡ answers 1 1 1 0x0401 0xE1 (0xC1 ∷ 0 ∷ []) Done
       ∷ answers 2 1 1 0x0402 0xE1 (0xC1 ∷ 0 ∷ []) Done
@@ -91,25 +92,26 @@ pub record CallsHold : Type 0 where
       ∷ []
   pub full_after_three_keys : late_stores 0xFE06 0 (0 ∷ []) 10 ≡ answers 9 3 1 0x0409 0xE3 (0xC1 ∷ []) OutputFull
   -- The output is full by the bytes shown, and not by the keys that have arrived.
-  pub room-with-more-keys :
+  pub room_with_more_keys :
       late_stores 0xFE06 0 (0 ∷ 0 ∷ []) 10 ≡ answers 10 3 2 0x040A 0xE3 (0xC1 ∷ 0xC1 ∷ []) Done
   -- A store to MCR halts: the step that makes it is made and the run is done; the step after it is not made.
   pub done_by_the_step_that_halts : late_stores 0xFFFE 0 [] 1 ≡ answers 1 1 0 0x0401 0xE1 [] Done
-  pub halted-on-the-way :
+  pub halted_on_the_way :
       map (late_stores 0xFFFE 0 []) (2 ∷ 3 ∷ [])
       ≡ answers 1 1 0 0x0401 0xE1 [] Halted ∷ answers 1 1 0 0x0401 0xE1 [] Halted ∷ []
   -- "This step would store to DDR": it is asked with the keys that arrive in it. Here the key interrupts, so it does
   -- not.
   pub not_full_where_a_key_interrupts : late_stores 0xFE06 0x4000 [] 1 ≡ answers 1 1 0 0x7040 0xE1 [] Done
   -- The calls themselves: turned down with nothing altered, and accepted at the last clock.
-  pub refused-call :
+  pub refused_call :
       answers_of (call_of (start_of last [] [] [] (7 ∷ [])) 1) ≡ answers 0 0 0 0x0400 0 (7 ∷ []) (Refused MemorySize)
-  pub refused-second-call :
-      answers_of (second_call_of (start_of last [] [] [] (7 ∷ [])) 1) ≡ answers 0 0 0 0x0400 0 (7 ∷ []) (Refused MemorySize)
+  pub refused_second_call :
+      answers_of (second_call_of (start_of last [] [] [] (7 ∷ [])) 1)
+      ≡ answers 0 0 0 0x0400 0 (7 ∷ []) (Refused MemorySize)
   pub last_step :
       answers_of (call_of (start_of last (replicate 65536 0x7040) [] [] (7 ∷ [])) 1)
       ≡ answers 1 0 1 0x0401 0 (0xC1 ∷ []) Done
-  pub no-step-after :
+  pub no_step_after :
       answers_of (call_of (start_of last (replicate 65536 0x7040) [] [] (7 ∷ [])) 2)
       ≡ answers 0 0 0 0x0400 0 (7 ∷ []) (Refused TooManySteps)
   -- The refusals of the rows above.

@@ -69,7 +69,7 @@ pub record NotionsHold : Type 0 where
   pub hidden :
       hidden_of (record_of user_mode.numbers) []
       ≡ record { mcr = 0x8000; saved_ssp = 0x0280; saved_usp = 0x5E00; below = []; above = [] }
-  pub hidden-elsewhere :
+  pub hidden_elsewhere :
       hidden_of (record_of elsewhere.numbers) []
       ≡ record { mcr = 0; saved_ssp = 0x9283; saved_usp = 0xDE87; below = []; above = [] }
   pub hidden_below : borders (hidden_of (record_of user_mode.numbers) bordered).below (0 ∷ 0x2FFF ∷ [])
@@ -77,7 +77,7 @@ pub record NotionsHold : Type 0 where
   pub hidden_above : borders (hidden_of (record_of user_mode.numbers) bordered).above (0 ∷ 0x1FF ∷ [])
       ≡ 0x0200 ∷ 5 ∷ 6 ∷ []
   -- "No LEA, TRAP or JSRR R7": those three instructions, and no other.
-  pub three-instructions :
+  pub three_instructions :
       user 0xE000 [] ∷ user 0xF025 [] ∷ user 0x41C0 [] ∷ []
       ≡ (lea ∷ []) ∷ (trapMet ∷ []) ∷ (jsrr_r7 ∷ []) ∷ []
   -- (R7 is the register that these name, where they name one)
@@ -87,7 +87,7 @@ pub record NotionsHold : Type 0 where
       ∷ 0x9FFF ∷ 0xAE01 ∷ 0xBE01 ∷ 0xC1C0 ∷ 0xD000 ∷ [])
       ≡ replicate 17 []
   -- "No privileged address in User mode, fetches included": a fetch, a datum, a pointer and what it points to.
-  pub privileged-addresses :
+  pub privileged_addresses :
       user 0x1021 (PC 0x2FFF ∷ []) ∷ user 0x6040 (R 1 0xFE02 ∷ []) ∷ user 0x7040 (R 1 0x2FFF ∷ [])
       ∷ user 0x21FE [] ∷ user 0x31FE [] ∷ user 0xA010 (word 0x3011 0x2FFF ∷ [])
       ∷ user 0xB010 (word 0x3011 0x2FFF ∷ []) ∷ user 0xA1FE (word 0x2FFF 0x4000 ∷ [])
@@ -95,7 +95,7 @@ pub record NotionsHold : Type 0 where
       ≡ privileged ∷ privileged ∷ privileged ∷ privileged ∷ privileged ∷ privileged ∷ privileged ∷ privileged
       ∷ privileged ∷ [] ∷ []
   -- "No xFFFC by a data or pointer access": by LDR, STR, LDI, STI; and not by its neighbours, nor by a fetch.
-  pub psr-addresses :
+  pub psr_addresses :
       supervisor 0x6040 (R 1 0xFFFC ∷ []) ∷ supervisor 0x7040 (R 1 0xFFFC ∷ [])
       ∷ supervisor 0xA610 (word 0x0411 0xFFFC ∷ []) ∷ supervisor 0xB610 (word 0x0411 0xFFFC ∷ [])
       ∷ supervisor 0xA001 (PC 0xFFFA ∷ []) ∷ supervisor 0xB001 (PC 0xFFFA ∷ [])
@@ -103,7 +103,7 @@ pub record NotionsHold : Type 0 where
       ∷ supervisor 0x1021 (PC 0xFFFC ∷ []) ∷ []
       ≡ the_psr ∷ the_psr ∷ the_psr ∷ the_psr ∷ the_psr ∷ the_psr ∷ [] ∷ [] ∷ [] ∷ []
   -- Pointers and data at the odd neighbour of xFFFC, and a datum beside the border of x3000.
-  pub odd-neighbours :
+  pub odd_neighbours :
       supervisor 0x7040 (R 1 0xFFFD ∷ []) ∷ supervisor 0xA001 (PC 0xFFFB ∷ []) ∷ supervisor 0xB001 (PC 0xFFFB ∷ [])
       ∷ user 0x21FE (PC 0x3001 ∷ []) ∷ []
       ≡ replicate 4 []
@@ -121,7 +121,7 @@ pub record NotionsHold : Type 0 where
       ∷ user 0xE000 (PSR 0x8305 ∷ KBSR 0x4000 ∷ key 0x61 ∷ []) ∷ []
       ≡ [] ∷ [] ∷ [] ∷ []
   -- The places of the fixed bits, by opcode: those of Figure A.2.
-  pub places-of-fixed-bits :
+  pub places_of_fixed_bits :
       map places_of
       (0x0000 ∷ 0x1000 ∷ 0x1020 ∷ 0x2000 ∷ 0x3000 ∷ 0x4000 ∷ 0x4800 ∷ 0x5000 ∷ 0x5020 ∷ 0x6000 ∷ 0x7000 ∷ 0x8000
       ∷ 0x9000 ∷ 0xA000 ∷ 0xB000 ∷ 0xC000 ∷ 0xD000 ∷ 0xE000 ∷ 0xF000 ∷ [])
@@ -143,6 +143,7 @@ pub record NotionsHold : Type 0 where
       with_word 1 9 (start_of (record_of user_mode.numbers) (1 ∷ 2 ∷ 3 ∷ []) (4 ∷ []) (5 ∷ []) (6 ∷ []))
       ≡ start_of (record_of user_mode.numbers) (1 ∷ 9 ∷ 3 ∷ []) (4 ∷ []) (5 ∷ []) (6 ∷ [])
   pub high_word :
-      get_or (with_word 0x8081 0x9ABD (start_of (record_of user_mode.numbers) bordered [] [] [])).memory 0x8081 0 ≡ 0x9ABD
+      get_or (with_word 0x8081 0x9ABD (start_of (record_of user_mode.numbers) bordered [] [] [])).memory
+      0x8081 0 ≡ 0x9ABD
   pub only_one : map (only 5) (4 ∷ 5 ∷ 6 ∷ 0x85 ∷ 0x8005 ∷ []) ≡ false ∷ true ∷ false ∷ false ∷ false ∷ []
   pub only_high : map (only 0x8081) (1 ∷ 0x81 ∷ 0x8081 ∷ []) ≡ false ∷ false ∷ true ∷ []

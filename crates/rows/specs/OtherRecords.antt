@@ -5,7 +5,7 @@
 use Rattle.std.specs.Prelude.{ℕ, List, [], ◌∷◌}
 use Rattle.machine.specs.Edition.{Edition, third, second}
 use Rattle.machine.specs.Outcome.{Reason, trap, privilege, illegal, access, interrupt}
-use Rattle.machine.specs.Rows.{Moment, Fact, Row, R, PC, PSR, Saved-SSP, Saved-USP, KBSR, KBDR, MCR, key, word, reads}
+use Rattle.machine.specs.Rows.{Moment, Fact, Row, R, PC, PSR, Saved_SSP, Saved_USP, KBSR, KBDR, MCR, key, word, reads}
 use Rattle.machine.specs.Rows.{busy, TSR, TIR, timer_count, shows, enters, unfetched, number, applied, row_from, Hold}
 use Rattle.machine.specs.Rows.{user_mode, supervisor_mode}
 
@@ -14,14 +14,14 @@ use Rattle.machine.specs.Rows.{user_mode, supervisor_mode}
 abbrev pub elsewhere : Moment
 elsewhere =
     applied
-    (PC 0xB455 ∷ PSR 0x8202 ∷ Saved-SSP 0x9283 ∷ Saved-USP 0xDE87 ∷ KBSR 0 ∷ KBDR 0xD5 ∷ MCR 0 ∷ busy 3
+    (PC 0xB455 ∷ PSR 0x8202 ∷ Saved_SSP 0x9283 ∷ Saved_USP 0xDE87 ∷ KBSR 0 ∷ KBDR 0xD5 ∷ MCR 0 ∷ busy 3
     ∷ TSR 0x8000 ∷ TIR 0 ∷ timer_count 0 ∷ number 19 0x8000000080A9 ∷ [])
     user_mode
 
 abbrev pub elsewhere_above : Moment
 elsewhere_above =
     applied
-    (R 6 0x9341 ∷ PC 0xB455 ∷ PSR 0x0202 ∷ Saved-SSP 0x9283 ∷ Saved-USP 0xDE87 ∷ KBSR 0 ∷ KBDR 0xD5 ∷ MCR 0 ∷ busy 3
+    (R 6 0x9341 ∷ PC 0xB455 ∷ PSR 0x0202 ∷ Saved_SSP 0x9283 ∷ Saved_USP 0xDE87 ∷ KBSR 0 ∷ KBDR 0xD5 ∷ MCR 0 ∷ busy 3
     ∷ TSR 0 ∷ TIR 0x8901 ∷ timer_count 1 ∷ number 19 0x8000000080A9 ∷ [])
     supervisor_mode
 
@@ -63,7 +63,7 @@ supervisor_second w facts changes = supervisor_with_key second w facts changes
 -- After an entry from User mode that pushes this PC, where x9E01 stands at this vector word.
 abbrev pub taken : Reason → ℕ → ℕ → List Fact
 taken reason vector pc =
-    enters reason 0x9281 0x8202 pc ∷ reads vector ∷ PC 0x9E01 ∷ PSR 0x0202 ∷ Saved-USP 0xFD00 ∷ []
+    enters reason 0x9281 0x8202 pc ∷ reads vector ∷ PC 0x9E01 ∷ PSR 0x0202 ∷ Saved_USP 0xFD00 ∷ []
 
 -- ---- the rows
 
@@ -86,7 +86,7 @@ pub record Instructions : Type 0 where
 
 -- Loads, stores and entries in User mode.
 pub record Accesses : Type 0 where
-  pub and-entries :
+  pub and_entries :
       Hold
       (user 0x2B11 (word 0xB367 0x9ABD ∷ []) (reads 0xB367 ∷ R 5 0x9ABD ∷ PSR 0x8204 ∷ [])  -- LD R5, #-239
       ∷ user 0x3B11 [] (word 0xB367 0x9007 ∷ [])  -- ST R5, #-239
@@ -108,10 +108,10 @@ pub record Further : Type 0 where
       (user 0x6A42 (R 1 0xFE00 ∷ word 0x0102 0x9E01 ∷ []) (taken access 0x0102 0xB455)  -- LDR R5, R1, #2: access
       ∷ user 0x0000 (KBSR 0x4000 ∷ word 0x0180 0x9E01 ∷ [])  -- the keyboard's interrupt
       (unfetched ∷ enters (interrupt 0x0180) 0x9281 0x8202 0xB455 ∷ reads 0x0180
-      ∷ PC 0x9E01 ∷ PSR 0x0402 ∷ Saved-USP 0xFD00 ∷ KBSR 0xC000 ∷ [])
+      ∷ PC 0x9E01 ∷ PSR 0x0402 ∷ Saved_USP 0xFD00 ∷ KBSR 0xC000 ∷ [])
       ∷ user 0x0000 (TSR 0xC000 ∷ word 0x0181 0x9E01 ∷ [])  -- the timer's interrupt, with its interval 0
       (unfetched ∷ enters (interrupt 0x0181) 0x9281 0x8202 0xB455 ∷ reads 0x0181
-      ∷ PC 0x9E01 ∷ PSR 0x0602 ∷ Saved-USP 0xFD00 ∷ [])
+      ∷ PC 0x9E01 ∷ PSR 0x0602 ∷ Saved_USP 0xFD00 ∷ [])
       ∷ user 0x6A40 (R 1 0x9001 ∷ word 0x9001 0x9ABD ∷ [])  -- LDR R5, R1, #0
       (reads 0x9001 ∷ R 5 0x9ABD ∷ PSR 0x8204 ∷ [])
       ∷ user 0xABFD (PC 0x9003 ∷ word 0x9001 0xA001 ∷ word 0xA001 0x9ABD ∷ [])  -- LDI R5, #-3
@@ -122,7 +122,7 @@ pub record Further : Type 0 where
 
 -- Keys and trap vectors with each bit set and each clear; and two keys in one step, and four.
 pub record KeysAndVectors : Type 0 where
-  pub every-bit :
+  pub every_bit :
       Hold
       (user_quiet 0x0000 (key 0xFF ∷ []) (KBSR 0x8000 ∷ KBDR 0xFF ∷ [])  -- a key xFF
       ∷ user_quiet 0x0000 (key 0x00 ∷ []) (KBSR 0x8000 ∷ KBDR 0x00 ∷ [])  -- a key x00
@@ -139,7 +139,7 @@ pub record KeysAndVectors : Type 0 where
 
 -- Loads from each device register. The key has just arrived, and the count of the timer comes to zero in the step.
 pub record Loads : Type 0 where
-  pub of-registers :
+  pub of_registers :
       Hold
       (supervisor 0x6A40 (R 1 0xFE00 ∷ []) (R 5 0x8000 ∷ PSR 0x0204 ∷ [])  -- LDR, KBSR
       ∷ supervisor 0x6A40 (R 1 0xFE02 ∷ []) (KBSR 0 ∷ R 5 0x00E9 ∷ PSR 0x0201 ∷ [])  -- LDR, KBDR
@@ -155,7 +155,7 @@ pub record Loads : Type 0 where
 
 -- Loads beside the device registers; and from the status of a timer that is off.
 pub record MoreLoads : Type 0 where
-  pub beside-them :
+  pub beside_them :
       Hold
       (supervisor 0x6A40 (R 1 0xFFFA ∷ word 0xFFFA 0x9ABD ∷ [])  -- LDR, a plain word
       (reads 0xFFFA ∷ R 5 0x9ABD ∷ PSR 0x0204 ∷ [])
@@ -177,7 +177,7 @@ pub record MoreLoads : Type 0 where
 
 -- Stores to each device register, while the display is busy.
 pub record Stores : Type 0 where
-  pub to-registers :
+  pub to_registers :
       Hold
       (supervisor 0x7640 (R 1 0xFE00 ∷ R 3 0xC7D7 ∷ []) (KBSR 0xC000 ∷ [])  -- STR, KBSR
       ∷ supervisor 0x7640 (R 1 0xFE02 ∷ R 3 0xC7D7 ∷ []) []  -- STR, KBDR
@@ -193,7 +193,7 @@ pub record Stores : Type 0 where
 -- Stores beside the device registers; to DDR while the display is ready; an interval of 0, which leaves ready; and the
 -- least value that sets MCR, with the one below it.
 pub record MoreStores : Type 0 where
-  pub beside-them :
+  pub beside_them :
       Hold
       (supervisor 0x7640 (R 1 0xFFFA ∷ R 3 0xC7D7 ∷ []) (word 0xFFFA 0xC7D7 ∷ [])  -- STR, a plain word
       ∷ supervisor 0x7640 (R 1 0x2FFF ∷ R 3 0xC7D7 ∷ []) (word 0x2FFF 0xC7D7 ∷ [])  -- STR, a plain word
@@ -214,7 +214,7 @@ pub record Supervisor : Type 0 where
       (supervisor 0xBB11 (R 5 0x8203 ∷ word 0xB367 0xFFFC ∷ [])  -- STI R5, #-239: PSR
       (reads 0xB367 ∷ PSR 0x0203 ∷ [])
       ∷ supervisor 0x8000 (word 0x9341 0x8AAB ∷ word 0x9342 0x8101 ∷ [])  -- RTI to User mode
-      (reads 0x9341 ∷ reads 0x9342 ∷ R 6 0xDE87 ∷ PC 0x8AAB ∷ PSR 0x8101 ∷ Saved-SSP 0x9343 ∷ [])
+      (reads 0x9341 ∷ reads 0x9342 ∷ R 6 0xDE87 ∷ PC 0x8AAB ∷ PSR 0x8101 ∷ Saved_SSP 0x9343 ∷ [])
       ∷ supervisor 0x8000 (word 0x9341 0x8AAB ∷ word 0x9342 0x0101 ∷ [])  -- RTI to Supervisor mode
       (reads 0x9341 ∷ reads 0x9342 ∷ R 6 0x9343 ∷ PC 0x8AAB ∷ PSR 0x0101 ∷ [])
       ∷ supervisor 0xF0D3 (word 0x00D3 0x9E01 ∷ [])  -- TRAP xD3
@@ -228,7 +228,7 @@ pub record Supervisor : Type 0 where
 
 -- The five rules of the second edition, and what it shares.
 pub record Second : Type 0 where
-  pub by-five-rules :
+  pub by_five_rules :
       Hold
       (user_second 0xF0D3 (word 0x00D3 0x9E01 ∷ []) (reads 0x00D3 ∷ R 7 0xB456 ∷ PC 0x9E01 ∷ [])  -- TRAP xD3
       ∷ supervisor_second 0xF0D3 (word 0x00D3 0x9E01 ∷ []) (reads 0x00D3 ∷ R 7 0xB456 ∷ PC 0x9E01 ∷ [])  -- TRAP xD3
@@ -273,7 +273,7 @@ pub record SecondInUserModeLoads : Type 0 where
       ∷ user_second_quiet 0xAA01 (PC 0xFE00 ∷ KBSR 0x8000 ∷ [])  -- LDI R5, #1: a pointer at KBDR
       (reads 0x00D5 ∷ R 5 0xAA01 ∷ PSR 0x8204 ∷ KBSR 0 ∷ [])
       ∷ [])
-  pub ends-of-memory :
+  pub ends_of_memory :
       Hold
       (user_second_quiet 0x1A6F (PC 0xFFFF ∷ []) (R 5 0x5A4B ∷ PC 0x0000 ∷ PSR 0x8201 ∷ [])  -- ADD R5, R1, #15
       ∷ user_second_quiet 0x1A6F (PC 0x0000 ∷ []) (R 5 0x5A4B ∷ PSR 0x8201 ∷ [])  -- ADD R5, R1, #15

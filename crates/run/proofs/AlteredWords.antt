@@ -15,7 +15,8 @@ use Rattle.footprint.specs.Altered.{still_altered, NoneAltered, SameButAltered, 
 use Rattle.footprint.proofs.AlteredWords.{altered_words_unread, none_altered_all_same}
 use Rattle.run.specs.declared.Ending.{Ending}
 use Rattle.run.specs.declared.Ending.TheVariants.{Done, OutputFull}
-use Rattle.run.specs.Run.{Start, End, begin, ended_by, arriving, next_step_by, step_made_by, is_halted, is_full_by, run_by}
+use Rattle.run.specs.Run.{Start, End, begin, ended_by, arriving, next_step_by, step_made_by, is_halted, is_full_by}
+use Rattle.run.specs.Run.{run_by}
 use Rattle.run.specs.Call.{call_by}
 use Rattle.run.specs.Continuing.{remaining, joined}
 use Rattle.run.specs.AlteredWords.{reads_at, writes_at, altered_after, Unread, UnreadUpTo, Variants, SameEnds}

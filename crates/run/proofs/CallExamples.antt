@@ -8,10 +8,10 @@ use Rattle.run.proofs.Opened.{opened}
 pub call_examples_hold : CallExamplesHold
 unfolding opened
 call_examples_hold = record {
-  fresh-in-user-mode = refl;
-  fresh-in-supervisor-mode = refl;
+  fresh_in_user_mode = refl;
+  fresh_in_supervisor_mode = refl;
   refusals = λ memory size. rw (eq-eqb (length memory) 65536 size);
-  memory-size-first = λ memory size. rw (ne_eqb (length memory) 65536 size);
+  memory_size_first = λ memory size. rw (ne_eqb (length memory) 65536 size);
   admission_numbers = refl;
   admission_indices = refl;
   done_with_no_step = refl;
@@ -20,7 +20,7 @@ call_examples_hold = record {
   done_after_two = refl;
   not_full_while_busy = refl;
   full_once_ready = refl;
-  shown-once-ready = refl;
+  shown_once_ready = refl;
   display_takes_its_time = refl;
   interval_1 = refl;
   interval_2 = refl;

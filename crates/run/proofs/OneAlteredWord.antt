@@ -25,7 +25,8 @@ use Rattle.run.proofs.AlteredWords.{variants_swapped, wider_ends, altered_words}
 
 -- ---- the two starts
 
-other_accepted : (w v : ℕ) (s : Start) (n : ℕ) → admission_of s n ≡ Accepted → admission_of (with_word w v s) n ≡ Accepted
+other_accepted : (w v : ℕ) (s : Start) (n : ℕ) → admission_of s n ≡ Accepted
+    → admission_of (with_word w v s) n ≡ Accepted
 unfolding with_word
 other_accepted w v s n e =
     let a : Acceptable s n = accepted_is_acceptable s n e in

@@ -64,7 +64,8 @@ at_clock clock n times bytes refusal = with_bits 0x8002 0 0 0x8000 clock n times
 
 -- This busy count of the display, and the refusal.
 abbrev pub with_busy : ℕ → ℕ → Asked
-with_busy busy refusal = asked (record_with 0x8002 (devices_with 0 0 0x8000 busy (timer_with 0 0 0)) 1000) 5 [] 0 refusal 0
+with_busy busy refusal = asked (record_with 0x8002 (devices_with 0 0 0x8000 busy (timer_with 0 0 0)) 1000) 5
+    [] 0 refusal 0
 
 -- A timer with this status, interval and count, and the refusal.
 abbrev pub with_timer_of : ℕ → ℕ → ℕ → ℕ → Asked
@@ -219,7 +220,7 @@ timed i n =
 pub record CallExamplesHold : Type 0 where
   -- "A fresh record takes PC, mode and user stack pointer: codes Z, priority 0, MCR x8000, supervisor stack x3000. R6
   -- is the current mode's pointer and the other mode's is saved; all else is 0."
-  pub fresh-in-user-mode :
+  pub fresh_in_user_mode :
       fresh_of 0x1234 true 0x5678
       ≡ record {
         regs = 0 ∷ 0 ∷ 0 ∷ 0 ∷ 0 ∷ 0 ∷ 0x5678 ∷ 0 ∷ [];
@@ -230,7 +231,7 @@ pub record CallExamplesHold : Type 0 where
         devices = with_registers_of 0 0 0x8000;
         clock = 0;
       }
-  pub fresh-in-supervisor-mode :
+  pub fresh_in_supervisor_mode :
       fresh_of 0x1234 false 0x5678
       ≡ record {
         regs = 0 ∷ 0 ∷ 0 ∷ 0 ∷ 0 ∷ 0 ∷ 0x3000 ∷ 0 ∷ [];
@@ -243,7 +244,7 @@ pub record CallExamplesHold : Type 0 where
       }
   -- The refusals of the rows above, with any memory of 65,536 words; and with any other memory all of them are 11.
   pub refusals : (memory : List ℕ) → length memory ≡ 65536 → map (answered memory) calls ≡ calls
-  pub memory-size-first :
+  pub memory_size_first :
       (memory : List ℕ) → (length memory ≡ 65536 → ⊥)
       → map (answered memory) calls ≡ map (with_answer (Rejected MemorySize)) calls
   -- The number of each case, and its index: "every other answer has index 0".
@@ -258,7 +259,7 @@ pub record CallExamplesHold : Type 0 where
   -- "Output full now needs a display that isn't busy": eight stores are swallowed, and the ninth after the byte stops.
   pub not_full_while_busy : stores 0x8000 (0 ∷ []) 9 ≡ answers 9 2 1 0x0409 0x62 (0x41 ∷ []) Done
   pub full_once_ready : stores 0x8000 (0 ∷ []) 10 ≡ answers 9 2 1 0x0409 0x62 (0x41 ∷ []) OutputFull
-  pub shown-once-ready :
+  pub shown_once_ready :
       stores 0x8000 (0 ∷ 0 ∷ 0 ∷ []) 10 ≡ answers 10 2 2 0x040A 0x62 (0x41 ∷ 0x41 ∷ 0 ∷ []) Done
   -- "After a step that shows a byte, the display is busy for the next eight steps: DSR loads 0 and a DDR store shows
   -- nothing. The ninth step finds it ready."

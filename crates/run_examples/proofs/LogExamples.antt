@@ -8,7 +8,8 @@ use Rattle.logging.specs.LoggedCall.{logged_admitted_by, logged_call_by}
 use Rattle.run_examples.specs.LogExamples.{LogExamplesHold}
 
 pub log_examples_hold : LogExamplesHold
-unfolding opened fetched_word_by next_rule_by entry_by lacks_room begin_logged stopped_by step_logged_by one_more_logged_by
+unfolding opened fetched_word_by next_rule_by entry_by lacks_room begin_logged stopped_by step_logged_by
+    one_more_logged_by
     logged_run_by logged_admitted_by logged_call_by
 log_examples_hold = record {
   done_first = refl;

@@ -29,8 +29,10 @@ second_step = step_by second
 
 -- To unfold this is to unfold every definition of a run and of what its steps meet.
 run_opened : Unit {0}
-unfolding opened begin ended_by arriving next_step_by with_shown step_made_by is_halted shows_byte is_full_by one_more_by run_by
-    instruction_exclusions accesses_of address_exclusions access_exclusions obeyed_exclusions taken_exclusions exclusions_of
+unfolding opened begin ended_by arriving next_step_by with_shown step_made_by is_halted shows_byte is_full_by
+    one_more_by run_by
+    instruction_exclusions accesses_of address_exclusions access_exclusions obeyed_exclusions
+    taken_exclusions exclusions_of
 run_opened = tt
 
 call_opened : Unit {0}
@@ -129,9 +131,9 @@ fetch_computed : Computed (user 0x1021 (PC 0x0000 ∷ [])) privileged_address 1 
 unfolding run_opened call_opened
 fetch_computed = record { accepted = refl; meets = refl; steps = refl; by_second = refl; by_third = refl }
 
-data-computed : Computed (user 0x6040 (R 1 0x0000 ∷ [])) privileged_address 1 0 0x6040 0x0F1E
+data_computed : Computed (user 0x6040 (R 1 0x0000 ∷ [])) privileged_address 1 0 0x6040 0x0F1E
 unfolding run_opened call_opened
-data-computed = record { accepted = refl; meets = refl; steps = refl; by_second = refl; by_third = refl }
+data_computed = record { accepted = refl; meets = refl; steps = refl; by_second = refl; by_third = refl }
 
 pointer_computed : Computed (user 0xA1FE (word 0x2FFF 0x3000 ∷ [])) privileged_address 1 0 0xA1FE 0x0F1E
 unfolding run_opened call_opened
@@ -149,11 +151,11 @@ psr_store_computed : Computed (supervisor 0x7040 (R 1 0xFFFC ∷ [])) psr_addres
 unfolding run_opened call_opened
 psr_store_computed = record { accepted = refl; meets = refl; steps = refl; by_second = refl; by_third = refl }
 
-psr-pointer-computed :
+psr_pointer_computed :
     Computed (supervisor 0xA79B (PC 0x0060 ∷ word 0xFFFC 0x0500 ∷ word 0x0500 0x9ABC ∷ [])) psr_address 1
     3 0x9ABC 0xA79B
 unfolding run_opened call_opened
-psr-pointer-computed = record { accepted = refl; meets = refl; steps = refl; by_second = refl; by_third = refl }
+psr_pointer_computed = record { accepted = refl; meets = refl; steps = refl; by_second = refl; by_third = refl }
 
 stopped_computed : Computed (user 0x7040 (R 1 0xFE06 ∷ [])) privileged_address 0 8 0x3000 0x7040
 unfolding run_opened call_opened
@@ -165,11 +167,11 @@ exclusions_are_needed = record {
   trap_needed = differ trap_computed (λ h. omega arith);
   jsrr_r7_needed = differ jsrr_computed (λ h. omega arith);
   fetch_needed = differ fetch_computed (λ h. omega arith);
-  data-needed = differ data-computed (λ h. omega arith);
+  data_needed = differ data_computed (λ h. omega arith);
   pointer_needed = differ pointer_computed (λ h. omega arith);
   pointed_needed = differ pointed_computed (λ h. omega arith);
   psr_load_needed = differ psr_load_computed (λ h. omega arith);
   psr_store_needed = differ psr_store_computed (λ h. omega arith);
-  psr_pointer_needed = differ psr-pointer-computed (λ h. omega arith);
+  psr_pointer_needed = differ psr_pointer_computed (λ h. omega arith);
   stopped_step_needed = differ stopped_computed (λ h. omega arith);
 }

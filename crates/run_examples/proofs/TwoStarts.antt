@@ -15,7 +15,8 @@ use Rattle.machine.proofs.MemoryParts.{word_below_is_not_visible}
 use Rattle.machine.proofs.Opened.{opened}
 use Rattle.machine.specs.Step.{step_of}
 use Rattle.run.specs.declared.Admission.TheVariants.{Accepted}
-use Rattle.run.specs.Run.{Start, begin, ended_by, arriving, next_step_by, next_step, with_shown, step_made_by, is_halted}
+use Rattle.run.specs.Run.{Start, begin, ended_by, arriving, next_step_by, next_step, with_shown, step_made_by}
+use Rattle.run.specs.Run.{is_halted}
 use Rattle.run.specs.Run.{shows_byte, is_full_by, one_more_by, run_by, run_of}
 use Rattle.run.specs.Refusals.{wrong_size, undefined_timer, undefined_devices, undefined_record, too_many_steps}
 use Rattle.run.specs.Refusals.{unequal_lists, admission_of}
@@ -28,7 +29,8 @@ use Rattle.run.proofs.Noninterference.{cause_in_run, none_before_fewer}
 
 -- To unfold this is to unfold every definition of a run.
 run_opened : Unit {0}
-unfolding opened begin ended_by arriving next_step_by with_shown step_made_by is_halted shows_byte is_full_by one_more_by run_by
+unfolding opened begin ended_by arriving next_step_by with_shown step_made_by is_halted shows_byte is_full_by
+    one_more_by run_by
 run_opened = tt
 
 accepted₁ : admission_of start₁ 2 ≡ Accepted

@@ -15,8 +15,8 @@ pub data Fact : Type 0 where
   R : ℕ → ℕ → Fact
   PC : ℕ → Fact
   PSR : ℕ → Fact
-  Saved-SSP : ℕ → Fact
-  Saved-USP : ℕ → Fact
+  Saved_SSP : ℕ → Fact
+  Saved_USP : ℕ → Fact
   KBSR : ℕ → Fact
   word : ℕ → ℕ → Fact
 
@@ -44,7 +44,7 @@ examples =
     ∷ steps 0x41C0 (R 7 0x4000 ∷ []) (PC 0x4000 ∷ R 7 0x3001 ∷ PSR 0x8002 ∷ [])
     -- 8. x8000: word x2FFF is x8002, x2FFE is x3000, R6 x2FFE, Saved_USP xFDFF, PSR x0002, PC from x0100.
     ∷ steps 0x8000 (word 0x0100 0x0400 ∷ [])
-    (word 0x2FFF 0x8002 ∷ word 0x2FFE 0x3000 ∷ R 6 0x2FFE ∷ Saved-USP 0xFDFF ∷ PSR 0x0002 ∷ PC 0x0400 ∷ [])
+    (word 0x2FFF 0x8002 ∷ word 0x2FFE 0x3000 ∷ R 6 0x2FFE ∷ Saved_USP 0xFDFF ∷ PSR 0x0002 ∷ PC 0x0400 ∷ [])
     -- 9. x6040, R1 x2FFF: PC from x0102; R1 x3000 loads.
     ∷ steps 0x6040 (R 1 0x2FFF ∷ word 0x0102 0x0500 ∷ []) (PC 0x0500 ∷ PSR 0x0002 ∷ word 0x2FFE 0x3000 ∷ R 0 0 ∷ [])
     ∷ steps 0x6040 (R 1 0x3000 ∷ word 0x0102 0x0500 ∷ []) (R 0 0x6040 ∷ PSR 0x8001 ∷ PC 0x3001 ∷ [])
@@ -54,11 +54,11 @@ examples =
     -- 11. xF025: pushes x3001.
     ∷ steps 0xF025 (word 0x0025 0x0600 ∷ []) (word 0x2FFE 0x3001 ∷ word 0x2FFF 0x8002 ∷ R 6 0x2FFE ∷ PC 0x0600 ∷ [])
     -- 12. xF025, Saved_SSP x0026: PC x8002, because the push replaced the vector.
-    ∷ steps 0xF025 (Saved-SSP 0x0026 ∷ word 0x0025 0x0600 ∷ [])
+    ∷ steps 0xF025 (Saved_SSP 0x0026 ∷ word 0x0025 0x0600 ∷ [])
     (PC 0x8002 ∷ word 0x0025 0x8002 ∷ word 0x0024 0x3001 ∷ [])
     -- 13. Supervisor, x8000, R6 x2FFE, words x3001 and xFFFF there: PSR x8707, PC x3001, Saved_SSP x3000.
     ∷ steps 0x8000 (PSR 0x0002 ∷ R 6 0x2FFE ∷ word 0x2FFE 0x3001 ∷ word 0x2FFF 0xFFFF ∷ [])
-    (PSR 0x8707 ∷ PC 0x3001 ∷ Saved-SSP 0x3000 ∷ R 6 0 ∷ [])
+    (PSR 0x8707 ∷ PC 0x3001 ∷ Saved_SSP 0x3000 ∷ R 6 0 ∷ [])
     -- 14. KBSR xC000, PSR x8302: PSR x0402, PC from x0180; with PSR x8402 no interrupt.
     ∷ steps 0x0000 (KBSR 0xC000 ∷ PSR 0x8302 ∷ word 0x0180 0x0700 ∷ [])
     (PSR 0x0402 ∷ PC 0x0700 ∷ KBSR 0xC000 ∷ word 0x2FFF 0x8302 ∷ word 0x2FFE 0x3000 ∷ [])
@@ -82,8 +82,8 @@ abbrev pub with_fact : Fact → Machine → Machine
 with_fact (R r v) m = record_of (set m.regs r v) m.pc m.psr m.saved_ssp m.saved_usp m.devices.kbsr
 with_fact (PC v) m = record_of m.regs v m.psr m.saved_ssp m.saved_usp m.devices.kbsr
 with_fact (PSR v) m = record_of m.regs m.pc v m.saved_ssp m.saved_usp m.devices.kbsr
-with_fact (Saved-SSP v) m = record_of m.regs m.pc m.psr v m.saved_usp m.devices.kbsr
-with_fact (Saved-USP v) m = record_of m.regs m.pc m.psr m.saved_ssp v m.devices.kbsr
+with_fact (Saved_SSP v) m = record_of m.regs m.pc m.psr v m.saved_usp m.devices.kbsr
+with_fact (Saved_USP v) m = record_of m.regs m.pc m.psr m.saved_ssp v m.devices.kbsr
 with_fact (KBSR v) m = record_of m.regs m.pc m.psr m.saved_ssp m.saved_usp v
 with_fact (word a v) m = m
 
@@ -97,8 +97,8 @@ abbrev pub with_word : Fact → List ℕ → List ℕ
 with_word (R r v) mem = mem
 with_word (PC v) mem = mem
 with_word (PSR v) mem = mem
-with_word (Saved-SSP v) mem = mem
-with_word (Saved-USP v) mem = mem
+with_word (Saved_SSP v) mem = mem
+with_word (Saved_USP v) mem = mem
 with_word (KBSR v) mem = mem
 with_word (word a v) mem = set mem a v
 
@@ -116,8 +116,8 @@ abbrev pub found_at : End → Fact → Fact
 found_at e (R r v) = R r (get_or e.machine.regs r 0)
 found_at e (PC v) = PC e.machine.pc
 found_at e (PSR v) = PSR e.machine.psr
-found_at e (Saved-SSP v) = Saved-SSP e.machine.saved_ssp
-found_at e (Saved-USP v) = Saved-USP e.machine.saved_usp
+found_at e (Saved_SSP v) = Saved_SSP e.machine.saved_ssp
+found_at e (Saved_USP v) = Saved_USP e.machine.saved_usp
 found_at e (KBSR v) = KBSR e.machine.devices.kbsr
 found_at e (word a v) = word a (get_or e.memory a 0)
 

@@ -26,7 +26,8 @@ logs mcr output log n = told_of (logged_run_of (start_of (storing mcr) (replicat
 -- One step in User mode from here, where TRAP x25 stands everywhere, by an edition: its log.
 abbrev pub trap_logged : Edition → ℕ → List ℕ
 trap_logged edition pc =
-    (logged_run_by edition (start_of (fresh_of pc true 0xFDFF) (replicate 65536 0xF025) [] [] []) (1 ∷ 2 ∷ 3 ∷ []) 1).log
+    (logged_run_by edition (start_of (fresh_of pc true 0xFDFF) (replicate 65536 0xF025) [] [] [])
+    (1 ∷ 2 ∷ 3 ∷ []) 1).log
 
 -- Every case of an ending.
 abbrev pub endings : List LoggedEnding

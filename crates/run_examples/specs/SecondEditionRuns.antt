@@ -55,7 +55,7 @@ pub record ExclusionsAreNeeded : Type 0 where
   pub jsrr_r7_needed : Differ (user 0x41C0 []) jsrr_r7 1  -- JSRR R7
   -- "a privileged address in User mode, fetches included"
   pub fetch_needed : Differ (user 0x1021 (PC 0x0000 ∷ [])) privileged_address 1  -- ADD R0, R0, #1
-  pub data-needed : Differ (user 0x6040 (R 1 0x0000 ∷ [])) privileged_address 1  -- LDR R0, R1, #0
+  pub data_needed : Differ (user 0x6040 (R 1 0x0000 ∷ [])) privileged_address 1  -- LDR R0, R1, #0
   pub pointer_needed : Differ (user 0xA1FE (word 0x2FFF 0x3000 ∷ [])) privileged_address 1  -- LDI R0, #-2
   pub pointed_needed : Differ (user 0xA000 (word 0x3001 0x0000 ∷ [])) privileged_address 1  -- LDI R0, #0
   -- "xFFFC by a data or pointer access"

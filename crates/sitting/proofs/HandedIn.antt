@@ -25,7 +25,8 @@ use Rattle.run.specs.Fresh.{fresh_of}
 use Rattle.monitor.specs.Install.{install_of}
 use Rattle.monitor.proofs.Intact.{monitor_length, monitor_word}
 use Rattle.monitor.proofs.InstallLaws.{installed_is_intact}
-use Rattle.sitting.specs.Sitting.{is_enabled, stack_from, lowest_stack_word, is_secret_above, Call, answer_after, Begins}
+use Rattle.sitting.specs.Sitting.{is_enabled, stack_from, lowest_stack_word, is_secret_above, Call, answer_after}
+use Rattle.sitting.specs.Sitting.{Begins}
 use Rattle.sitting.specs.Sitting.{TellsNothing, HasMonitor}
 use Rattle.sitting.specs.HandedIn.{is_marking_word, BeginsIn, AcceptedFileBegins, Prepared, SameStarts}
 use Rattle.sitting.specs.HandedIn.{SameSittings, FilesLearnNothing, LiesInMarkingWords, AllLieInMarkingWords}
@@ -202,7 +203,8 @@ files_learn_nothing memory₁ memory₂ r file userStack =
       stay₂ = λ a h. privileged_words_stay file memory₂ userStack a (marking_is_privileged a h);
       prepared = record { monitor = monitor_stays file memory₁ userStack r.monitor; alike = e.memory };
       sittings = λ h.
-          sittings_alike memory₁ memory₂ (user_started_of file memory₁ userStack) (user_started_of file memory₂ userStack)
+          sittings_alike memory₁ memory₂ (user_started_of file memory₁ userStack)
+          (user_started_of file memory₂ userStack)
           (accepted_file_begins file memory₁ userStack r.monitor h)
           (privileged_words_stay file memory₂ userStack) e;
     }

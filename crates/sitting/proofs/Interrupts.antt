@@ -16,13 +16,15 @@ use Rattle.machine.specs.declared.Pending.TheVariants.{Nothing, Interrupt}
 use Rattle.machine.specs.Words.{next, before}
 use Rattle.machine.specs.Psr.{defined_psr, priority_of}
 use Rattle.machine.specs.Outcome.{interrupt}
-use Rattle.machine.specs.Interrupts.{keyboard_vector, keyboard_priority, timer_vector, timer_priority, timer_may_interrupt}
+use Rattle.machine.specs.Interrupts.{keyboard_vector, keyboard_priority, timer_vector, timer_priority}
+use Rattle.machine.specs.Interrupts.{timer_may_interrupt}
 use Rattle.machine.specs.Interrupts.{keyboard_may_interrupt, pending_interrupt}
 use Rattle.machine.specs.Entry.{stack_pointer_on_entry, pushed, after_entry, entry, interrupted}
 use Rattle.machine.specs.Return.{after_return, return}
 use Rattle.machine.specs.Return as Return
 use Rattle.machine.specs.Plan.{plan_by}
-use Rattle.machine.specs.Step.{perform_by, obeyed_by, obeyed, interrupted_or_obeyed_by, interrupted_or_obeyed, after_start}
+use Rattle.machine.specs.Step.{perform_by, obeyed_by, obeyed, interrupted_or_obeyed_by, interrupted_or_obeyed}
+use Rattle.machine.specs.Step.{after_start}
 use Rattle.machine.specs.Step.{step_by, step_of}
 use Rattle.machine.proofs.Tests.{both_true}
 use Rattle.monitor.proofs.Modes.{supervisor_mode_lem, allowed_in_supervisor_mode}

@@ -118,8 +118,10 @@ table_for ws =
 
 -- To unfold this is to compute the test of a claim.
 unfoldable pub testing : Unit {0}
-unfolding read_of codes_of is_device_by and_bits forget kind_of number_of same implies all_imply sum_with sum_of and_with and_of
-    not_of taking besides all_besides is_hidden is_own covers one_covers accepts is_stack is_free_stack is_loadable held from_cell
+unfolding read_of codes_of is_device_by and_bits forget kind_of number_of same implies all_imply sum_with sum_of
+    and_with and_of
+    not_of taking besides all_besides is_hidden is_own covers one_covers accepts is_stack is_free_stack is_loadable
+    held from_cell
     loaded_from stored_in remember is_first moved put loads_at loads_by stores_at stores_by loads_through stores_through
     refined_if is_above is_below where_taken where_not_taken either_way branches jumps_by calling calls_from
     calls_by returning returns_by harmless is_kept all_kept sound

@@ -23,7 +23,8 @@ use Rattle.machine.specs.Record.{with_devices}
 use Rattle.machine.specs.Words.{wrap, next, before, plus, word_and, register, with_register}
 use Rattle.machine.specs.Psr.{in_user_mode, defined_psr, codes_of, kept, set_from, recoded, is_taken}
 use Rattle.machine.specs.Outcome.{trap, Outcome, touching, plain_outcome, after_instruction}
-use Rattle.machine.specs.Devices.{DDR, MCR, is_device_by, is_device, lent_word_by, lent_word, loaded_value_by, loaded_value}
+use Rattle.machine.specs.Devices.{DDR, MCR, is_device_by, is_device, lent_word_by, lent_word, loaded_value_by}
+use Rattle.machine.specs.Devices.{loaded_value}
 use Rattle.machine.specs.Devices.{device_value, after_load, mcr_store, ddr_store, device_store, stored_by}
 use Rattle.machine.specs.Access.{load_to_by, load_to, store_at_by, store_at, by_pointer}
 use Rattle.machine.specs.Entry.{stack_pointer_on_entry, pushed, after_entry, entry, raised}
@@ -188,7 +189,8 @@ module _ (g : Setting) (σ : State) (m : Machine) (mem : List ℕ) (q : Disabled
   loaded_value_lem a = unfold loaded_from loaded_value_by in go (is_device a) refl
     where
       go : (b : Bool) → is_device a ≡ b
-          → Holds first (cond b any (from_cell c a (cell_at (cells_of g) a) σ)) (cond b (device_value a m) (get_or mem a 0))
+          → Holds first (cond b any (from_cell c a (cell_at (cells_of g) a) σ))
+          (cond b (device_value a m) (get_or mem a 0))
       go true e = tt
       go false e = cell_value a (cell_at (cells_of g) a) refl
 
@@ -403,7 +405,14 @@ module _ (g : Setting) (σ : State) (m : Machine) (mem : List ℕ) (q : Disabled
       let nn : next (sp + 1) ≡ sp + 2 = omega arith in
       let p : defined_psr (get_or mem (sp + 1) 0) < 0x8000 = low_psr (get_or mem (sp + 1) 0) l in
       let d : lowest g ≤ sp = omega (arith, (bounds g).low) in
-      rw (supervisor_mode_lem m.psr k.supervisor, six, n, nn, supervisor_mode_lem (defined_psr (get_or mem (sp + 1) 0)) p)
+      rw (
+        supervisor_mode_lem m.psr k.supervisor,
+        six,
+        n,
+        nn,
+        supervisor_mode_lem
+            (defined_psr (get_or mem (sp + 1) 0)) p,
+      )
       (record {
         reads = (
           stack_word_is_open g sp d (omega arith),
@@ -608,7 +617,8 @@ module _ (g : Setting) (σ : State) (m : Machine) (mem : List ℕ) (q : Disabled
       → where_taken mask d ≡ true → UserAddress (wrap first)
   found_where_taken mask d e t h = go (eqb mask 4) refl (unfold where_taken in h)
     where
-      go : (n : Bool) → eqb mask 4 ≡ n → cond n (is_above d) (eqb mask 3 && is_below d) ≡ true → UserAddress (wrap first)
+      go : (n : Bool) → eqb mask 4 ≡ n → cond n (is_above d) (eqb mask 3 && is_below d) ≡ true
+          → UserAddress (wrap first)
       go true z h =
           in_user_space_above first d h
           ((taken_if_negative (wrap (first + d)) e).0 (rw (eqb-true mask 4 z) at t))
@@ -621,7 +631,8 @@ module _ (g : Setting) (σ : State) (m : Machine) (mem : List ℕ) (q : Disabled
       → where_not_taken mask d ≡ true → UserAddress (wrap first)
   found_where_not_taken mask d e t h = go (eqb mask 4) refl (unfold where_not_taken in h)
     where
-      go : (n : Bool) → eqb mask 4 ≡ n → cond n (is_below d) (eqb mask 3 && is_above d) ≡ true → UserAddress (wrap first)
+      go : (n : Bool) → eqb mask 4 ≡ n → cond n (is_below d) (eqb mask 3 && is_above d) ≡ true
+          → UserAddress (wrap first)
       go true z h =
           in_user_space_below first d h
           ((taken_if_negative (wrap (first + d)) e).1 (rw (eqb-true mask 4 z) at t))

@@ -22,7 +22,8 @@ use Rattle.footprint.proofs.FootprintLaws.{step_writes}
 use Rattle.run.specs.declared.Admission.{Admission}
 use Rattle.run.specs.declared.Admission.TheVariants.{Accepted, Rejected}
 use Rattle.run.specs.declared.Ending.TheVariants.{Done, Halted, OutputFull, Refused}
-use Rattle.run.specs.Run.{Start, End, begin, ended_by, arriving, next_step_by, next_step, step_made_by, step_made, is_halted}
+use Rattle.run.specs.Run.{Start, End, begin, ended_by, arriving, next_step_by, next_step, step_made_by, step_made}
+use Rattle.run.specs.Run.{is_halted}
 use Rattle.run.specs.Run.{is_full, run_of}
 use Rattle.run.specs.Refusals.{wrong_size, admission_of}
 use Rattle.run.specs.Call.{call_of}
@@ -161,11 +162,11 @@ module _ (secret : ℕ → Bool) (Invariant : Machine → List ℕ → Type 0) w
         full_steps_alike = full_alike step_of (altered_words_unread third) v a next_alike
 
         -- The word fetched is one that the step reads.
-        fetched-alike :
+        fetched_alike :
             fetched_word (next_rule s₁ e₁) e₁.machine e₁.memory
             ≡ fetched_word (next_rule s₁ e₁) e₁.machine e₂.memory
         unfolding fetched_word_by next_rule_by
-        fetched-alike =
+        fetched_alike =
             go (is_interrupt (rule_of (next_step s₁ e₁).cause)) refl (denied e₁.machine.psr e₁.machine.pc) refl
           where
             go : (x : Bool) → is_interrupt (rule_of (next_step s₁ e₁).cause) ≡ x
@@ -183,7 +184,7 @@ module _ (secret : ℕ → Bool) (Invariant : Machine → List ℕ → Type 0) w
         entries_alike =
             let rule : rule_of (next_step s₁ e₁).cause ≡ rule_of (next_step s₂ e₂).cause =
             ap rule_of next_alike.cause in
-            let word = fetched-alike in
+            let word = fetched_alike in
             let m : e₁.machine ≡ e₂.machine = a.machine in
             cc
 

@@ -3,7 +3,8 @@
 -- exception or is interrupted, and whatever the monitor's routines do for it: each call of the one sitting is answered
 -- as that of the other, and no secret word is changed. So nothing that the program computes, nothing that is displayed
 -- and nothing that is logged depends on a secret word.
-use Rattle.std.specs.Prelude.{ℕ, ◌-◌, ◌≡◌, Bool, true, cond, ◌&&◌, ◌||◌, not, List, [], ◌∷◌, leb, ltb, eqb, length, take}
+use Rattle.std.specs.Prelude.{ℕ, ◌-◌, ◌≡◌, Bool, true, cond, ◌&&◌, ◌||◌, not, List, [], ◌∷◌, leb, ltb, eqb, length}
+use Rattle.std.specs.Prelude.{take}
 use Rattle.machine.specs.declared.Machine.{Machine}
 use Rattle.machine.specs.declared.Devices.{Devices}
 use Rattle.machine.specs.Psr.{in_user_mode}

@@ -1,7 +1,8 @@
 -- A class's monitor, what is claimed of it, and the test of the claim: one pass over a table that says what is known at
 -- each address. From each of its states the instruction at that address touches no secret word and leads to what the
 -- table says of the next address. Any tool may make the table: nothing is taken from it that is not tested.
-use Rattle.std.specs.Prelude.{ℕ, zero, suc, ◌+◌, ◌-◌, ◌%◌, Bool, true, false, cond, ◌&&◌, ◌||◌, not, List, [], ◌∷◌, ℤ, leb, ltb, eqb, length, get_or, set, replicate}
+use Rattle.std.specs.Prelude.{ℕ, zero, suc, ◌+◌, ◌-◌, ◌%◌, Bool, true, false, cond, ◌&&◌, ◌||◌, not, List, [], ◌∷◌, ℤ}
+use Rattle.std.specs.Prelude.{leb, ltb, eqb, length, get_or, set, replicate}
 use Rattle.word.specs.Field.{bits}
 use Rattle.word.specs.Reading.{read_of}
 use Rattle.word.specs.declared.Instruction.{Instruction}

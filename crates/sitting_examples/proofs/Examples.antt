@@ -52,7 +52,8 @@ prying_alike v w =
 
 -- To unfold this is to compute with the monitor in memory.
 unfoldable pub computing : Unit {0}
-unfolding opened fetched_word_by next_rule_by entry_by lacks_room begin_logged stopped_by step_logged_by one_more_logged_by
+unfolding opened fetched_word_by next_rule_by entry_by lacks_room begin_logged stopped_by step_logged_by
+    one_more_logged_by
     logged_run_by logged_admitted_by logged_call_by fresh used stack_elsewhere supervisor monitored prying
     showing unguarded interruptible packing vector_word vectors_from
     vector_table routine_words monitor_words install_of start_at answer_to answer_after
@@ -152,5 +153,5 @@ examples_hold = record {
   replaced_by_stack = replaced_by_stack;
   begins_too = interruptible_begins;
   ninth_and_tenth_before = before;
-  ninth-and-tenth-after = after;
+  ninth_and_tenth_after = after;
 }

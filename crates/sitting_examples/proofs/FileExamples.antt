@@ -49,9 +49,9 @@ replaced : get_or (started_of (answer_file 0x42) (with_answer 0x41) true 0xFDFF)
 unfolding computing
 replaced = refl
 
-start-would-change :
+start_would_change :
     MarkingWordsStay (with_answer 0x41) (started_of (answer_file 0x42) (with_answer 0x41) true 0xFDFF).memory → ⊥
-start-would-change f =
+start_would_change f =
     omega (arith, sym replaced ∙ f 0x2000 (unfold is_secret_above in refl) ∙ answer_there 0x41)
 
 stolen : ((first_answer 3 (started_of stealing (with_answer 0x41) true 0xFDFF)).output ≡ 0x41 ∷ [])
@@ -67,7 +67,8 @@ prepared : Prepared (with_answer 0x41) (with_answer 0x42)
 unfolding with_answer
 prepared =
     files_prepare (replicate 65536 0) (answer_file 0x41 ∷ mark_file ∷ []) (answer_file 0x42 ∷ mark_file ∷ [])
-    (length-replicate {A = ℕ} 65536 0) (answer_file_lem 0x41, (mark_file_lem, tt)) (answer_file_lem 0x42, (mark_file_lem, tt))
+    (length-replicate {A = ℕ} 65536 0) (answer_file_lem 0x41, (mark_file_lem, tt))
+    (answer_file_lem 0x42, (mark_file_lem, tt))
 
 start_would_tell : FilesLearnNothingBy (λ file memory userStack. started_of file memory true userStack) → ⊥
 unfolding answer_after
@@ -96,7 +97,7 @@ file_examples_hold = record {
   mark_file_lem = mark_file_lem;
   answer_there = answer_there;
   mark_there = mark_there;
-  start-would-change = start-would-change;
+  start_would_change = start_would_change;
   stolen = stolen;
   start_would_tell = start_would_tell;
   turned_away = turned_away;

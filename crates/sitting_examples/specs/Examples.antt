@@ -148,7 +148,8 @@ pub record ExamplesHold : Type 0 where
   -- the stack has six words, and two more for each device that is enabled
   pub six_words : secret_with 0 0 ∷ secret_with 0x8000 0x8000 ∷ []
       ≡ replicate 2 (true ∷ true ∷ true ∷ true ∷ true ∷ false ∷ [])
-  pub eight_words : secret_with 0x4000 0 ∷ secret_with 0xC000 0x8000 ∷ secret_with 0 0x4000 ∷ secret_with 0x8000 0xC000 ∷ []
+  pub eight_words : secret_with 0x4000 0 ∷ secret_with 0xC000 0x8000 ∷ secret_with 0 0x4000
+      ∷ secret_with 0x8000 0xC000 ∷ []
       ≡ replicate 4 (true ∷ true ∷ true ∷ false ∷ false ∷ false ∷ [])
   pub ten_words : secret_with 0x4000 0xC000 ≡ true ∷ false ∷ false ∷ false ∷ false ∷ false ∷ []
   -- PUTS halts, and nothing is shown
@@ -170,6 +171,6 @@ pub record ExamplesHold : Type 0 where
   -- the ninth and tenth words of the stack are used, where both devices may interrupt
   pub begins_too : Begins HasMonitor interruptible packing
   pub ninth_and_tenth_before : (get_or packing 0x2FF7 0 ≡ 0) × (get_or packing 0x2FF6 0 ≡ 0)
-  pub ninth-and-tenth-after :
+  pub ninth_and_tenth_after :
       (get_or (answer_to key_in_third_step interruptible packing).memory 0x2FF7 0 ≡ 0x0401)
       × (get_or (answer_to key_in_third_step interruptible packing).memory 0x2FF6 0 ≡ 0x027F)

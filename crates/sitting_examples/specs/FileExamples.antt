@@ -48,7 +48,7 @@ pub record FileExamplesHold : Type 0 where
   pub answer_there : (answer : ℕ) → get_or (with_answer answer) 0x2000 0 ≡ answer
   pub mark_there : (answer : ℕ) → get_or (with_answer answer) 0x2100 0 ≡ 7
   -- `start` lets a file replace an answer, so that marking words do not stay
-  pub start-would-change :
+  pub start_would_change :
       MarkingWordsStay (with_answer 0x41) (started_of (answer_file 0x42) (with_answer 0x41) true 0xFDFF).memory → ⊥
   -- `start` accepts the file that steals; within three steps the answer is shown
   pub stolen : ((first_answer 3 (started_of stealing (with_answer 0x41) true 0xFDFF)).output ≡ 0x41 ∷ [])

@@ -11,7 +11,8 @@ use Rattle.machine.specs.Psr.{defined_psr}
 use Rattle.run.specs.declared.Refusal.TheVariants.{TooManySteps, UnequalLists}
 use Rattle.run.specs.declared.Admission.TheVariants.{Rejected}
 use Rattle.run.specs.Fresh.{fresh_of}
-use Rattle.run.specs.Refusals.{wrong_size, undefined_timer, undefined_devices, undefined_record, too_many_steps, unequal_lists}
+use Rattle.run.specs.Refusals.{wrong_size, undefined_timer, undefined_devices, undefined_record, too_many_steps}
+use Rattle.run.specs.Refusals.{unequal_lists}
 use Rattle.run.specs.Refusals.{times_admission, admission_of}
 use Rattle.run.specs.Call.{start_of}
 use Rattle.start.specs.Start.{zero_machine, record_by}

@@ -17,7 +17,8 @@ loading_refused_first zero file h = absurd (h refl)
 loading_refused_first (suc n) file h = refl
 
 pub user_start_refused : (n : ℕ) (file memory : List ℕ) (userStack : ℕ) → (n ≡ 0 → ⊥)
-    → record { machine = zero_machine; words = 0; refusal = n; memory = memory } ≡ user_started_by n file memory userStack
+    → record { machine = zero_machine; words = 0; refusal = n; memory = memory }
+    ≡ user_started_by n file memory userStack
 unfolding user_started_by
 user_start_refused zero file memory userStack h = absurd (h refl)
 user_start_refused (suc n) file memory userStack h = refl

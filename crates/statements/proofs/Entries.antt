@@ -22,7 +22,8 @@ use Rattle.machine.specs.Timer.{after_timer}
 use Rattle.machine.specs.Interrupts.{pending_interrupt}
 use Rattle.machine.specs.Protection.{denied_by}
 use Rattle.machine.specs.Entry.{stack_pointer_on_entry, after_entry, entry, raised, interrupted}
-use Rattle.machine.specs.Devices.{KBSR, KBDR, DSR, DDR, TSR, TIR, PSR, is_device_by, lent_word_by, after_load, ddr_store}
+use Rattle.machine.specs.Devices.{KBSR, KBDR, DSR, DDR, TSR, TIR, PSR, is_device_by, lent_word_by, after_load}
+use Rattle.machine.specs.Devices.{ddr_store}
 use Rattle.machine.specs.Devices.{device_store, stored_by}
 use Rattle.machine.specs.Access.{checked_by, load_to_by, store_at_by, by_pointer_by}
 use Rattle.machine.specs.Return.{popped, return}

@@ -22,7 +22,8 @@ InterruptIsRule2 = (keys : List ℕ) (m : Machine) (mem : List ℕ)
 -- "For k up to the steps made, the state after k steps is the record that the same call with k in place of n answers
 -- and the memory that it leaves": that call makes all its k steps.
 abbrev pub FewerStepsAreMade : Type 0
-FewerStepsAreMade = (s : Start) (n k : ℕ) → admission_of s n ≡ Accepted → k ≤ (call_of s n).steps → (call_of s k).steps ≡ k
+FewerStepsAreMade = (s : Start) (n k : ℕ) → admission_of s n ≡ Accepted → k ≤ (call_of s n).steps
+    → (call_of s k).steps ≡ k
 
 -- The words below x3000, those of User mode and those from xFE00 on are all of memory.
 abbrev pub ThreePartsAreAll : Type 0

@@ -42,18 +42,18 @@ pub record ToldExamplesHold : Type 0 where
   -- an instruction takes the word at PC alone: ADD R5, R1, #15
   pub fetched_alone : supervisor third 0x1A6F [] ≡ 0 ∷ 0 ∷ 0 ∷ 0x1A6F ∷ 0 ∷ 1 ∷ 0x0400 ∷ 0 ∷ 0 ∷ 0 ∷ 0 ∷ 0 ∷ 0 ∷ []
   -- LDI R5, #5: fetch, pointer, datum; STI R5, #5 stores to the word pointed to
-  pub pointer-then-datum :
+  pub pointer_then_datum :
       supervisor third 0xAA05 (word 0x0406 0x0321 ∷ [])
       ≡ 0 ∷ 0 ∷ 0 ∷ 0xAA05 ∷ 0 ∷ 3 ∷ 0x0400 ∷ 0x0406 ∷ 0x0321 ∷ 0 ∷ 0 ∷ 0 ∷ 0 ∷ []
-  pub pointer-then-store :
+  pub pointer_then_store :
       supervisor third 0xBA05 (word 0x0406 0x0321 ∷ [])
       ≡ 0 ∷ 0 ∷ 0 ∷ 0xBA05 ∷ 0 ∷ 2 ∷ 0x0400 ∷ 0x0406 ∷ 0 ∷ 1 ∷ 0x0321 ∷ 0 ∷ 0 ∷ []
   -- STR R5, R1, #0 to DDR, and to xFFFC by each edition: no lent word stands behind a device register
   pub store_to_device :
       supervisor third 0x7A40 (R 1 0xFE06 ∷ []) ≡ 0 ∷ 0 ∷ 0 ∷ 0x7A40 ∷ 0 ∷ 1 ∷ 0x0400 ∷ 0 ∷ 0 ∷ 0 ∷ 0 ∷ 0 ∷ 0 ∷ []
-  pub store-to-psr :
+  pub store_to_psr :
       supervisor third 0x7A40 (R 1 0xFFFC ∷ []) ≡ 0 ∷ 0 ∷ 0 ∷ 0x7A40 ∷ 0 ∷ 1 ∷ 0x0400 ∷ 0 ∷ 0 ∷ 0 ∷ 0 ∷ 0 ∷ 0 ∷ []
-  pub second-stores-to-word :
+  pub second_stores_to_word :
       supervisor second 0x7A40 (R 1 0xFFFC ∷ [])
       ≡ 0 ∷ 0 ∷ 0 ∷ 0x7A40 ∷ 0 ∷ 1 ∷ 0x0400 ∷ 0 ∷ 0 ∷ 1 ∷ 0xFFFC ∷ 0 ∷ 0 ∷ []
   -- RTI pops two words
@@ -61,29 +61,29 @@ pub record ToldExamplesHold : Type 0 where
       supervisor third 0x8000 []
       ≡ 0 ∷ 0 ∷ 0 ∷ 0x8000 ∷ 0 ∷ 3 ∷ 0x0400 ∷ 0x0240 ∷ 0x0241 ∷ 0 ∷ 0 ∷ 0 ∷ 0 ∷ []
   -- TRAP x25 pushes two words by the third edition, PSR's first, and none by the second
-  pub trap-pushes :
+  pub trap_pushes :
       supervisor third 0xF025 []
       ≡ 0 ∷ 0 ∷ 0 ∷ 0xF025 ∷ 1 ∷ 2 ∷ 0x0400 ∷ 0x0025 ∷ 0 ∷ 2 ∷ 0x023F ∷ 0x023E ∷ 0 ∷ []
-  pub second-trap-links :
+  pub second_trap_links :
       supervisor second 0xF025 []
       ≡ 0 ∷ 0 ∷ 0 ∷ 0xF025 ∷ 0 ∷ 2 ∷ 0x0400 ∷ 0x0025 ∷ 0 ∷ 0 ∷ 0 ∷ 0 ∷ 0 ∷ []
   -- a fetch that is denied takes the vector word alone; the second edition denies none
-  pub fetch-denied :
+  pub fetch_denied :
       user third 0x1021 (PC 0x2FFF ∷ []) ≡ 0 ∷ 0 ∷ 0 ∷ 0 ∷ 4 ∷ 1 ∷ 0x0102 ∷ 0 ∷ 0 ∷ 2 ∷ 0x027F ∷ 0x027E ∷ 0 ∷ []
-  pub second-denies-none :
+  pub second_denies_none :
       user second 0x1021 (PC 0x2FFF ∷ []) ≡ 0 ∷ 0 ∷ 0 ∷ 0x1021 ∷ 0 ∷ 1 ∷ 0x2FFF ∷ 0 ∷ 0 ∷ 0 ∷ 0 ∷ 0 ∷ 0 ∷ []
   -- an interrupt by the key that arrives in the step, and one by a key that does not
-  pub key-arrives :
+  pub key_arrives :
       keyed third (41 ∷ []) (0x61 ∷ []) 0x1A6F (applied (PSR 0x0305 ∷ KBSR 0x4000 ∷ []) supervisor_mode)
       ≡ 0 ∷ 0 ∷ 0 ∷ 0 ∷ 5 ∷ 1 ∷ 0x0180 ∷ 0 ∷ 0 ∷ 2 ∷ 0x023F ∷ 0x023E ∷ 0 ∷ []
-  pub key-waits :
+  pub key_waits :
       keyed third (42 ∷ []) (0x61 ∷ []) 0x1A6F (applied (PSR 0x0305 ∷ KBSR 0x4000 ∷ []) supervisor_mode)
       ≡ 0 ∷ 0 ∷ 0 ∷ 0x1A6F ∷ 0 ∷ 1 ∷ 0x0400 ∷ 0 ∷ 0 ∷ 0 ∷ 0 ∷ 0 ∷ 0 ∷ []
   -- no step: halted, and refused under 11; under 13 at the last clock, where a call of no step is accepted; and the
   -- step before it
   pub halted : supervisor third 0x1A6F (MCR 0 ∷ []) ≡ 0 ∷ 0 ∷ 1 ∷ 0 ∷ 0 ∷ 0 ∷ 0 ∷ 0 ∷ 0 ∷ 0 ∷ 0 ∷ 0 ∷ 0 ∷ []
   pub refused_11 : called 41 [] ≡ 11 ∷ 0 ∷ 0 ∷ 0 ∷ 0 ∷ 0 ∷ 0 ∷ 0 ∷ 0 ∷ 0 ∷ 0 ∷ 0 ∷ 0 ∷ []
-  pub refused-13 :
+  pub refused_13 :
       called (2 ^ 48) (memory_with 0 [])
       ≡ 13 ∷ 0 ∷ 0 ∷ 0 ∷ 0 ∷ 0 ∷ 0 ∷ 0 ∷ 0 ∷ 0 ∷ 0 ∷ 0 ∷ 0 ∷ []
   pub last_step :

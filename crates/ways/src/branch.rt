@@ -1,7 +1,8 @@
 // BR: what it leads to by what is known of the codes.
 ghost use Rattle.std.specs.Prelude.{◌≡◌, cond, ◌&&◌, ◌||◌, List, ℕ, eqb, length};
 ghost use Rattle.machine.specs.Psr.{codes_of};
-ghost use Rattle.sitting.specs.Test.{is_above, is_below, where_taken, where_not_taken, refined_if, either_way, branches};
+ghost use Rattle.sitting.specs.Test.{is_above, is_below, where_taken, where_not_taken, refined_if, either_way};
+ghost use Rattle.sitting.specs.Test.{branches};
 ghost use Rattle.sitting.specs.Values.{low};
 ghost use Rattle.claims.specs.Encoding.{state_of, rows_of, accepted_in, claim_of};
 

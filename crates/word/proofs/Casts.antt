@@ -1,5 +1,6 @@
 -- What the tests and casts of an i16 say of its number, by cases on the sign.
-use Rattle.std.proofs.Common.{◌≡◌, ℕ, suc, ◌+◌, ◌-◌, ◌<◌, true, false, ℤ, pos, negsuc, refl, ◌∙◌, arith, to_z-of_z, w16, SFits, to_z, of_z, ltb-true}
+use Rattle.std.proofs.Common.{◌≡◌, ℕ, suc, ◌+◌, ◌-◌, ◌<◌, true, false, ℤ, pos, negsuc, refl, ◌∙◌, arith, to_z-of_z, w16}
+use Rattle.std.proofs.Common.{SFits, to_z, of_z, ltb-true}
 use lib.Signed.{mag, lt_z}
 use mir.Facts.{to_z_pos}
 use Rattle.word.specs.Field.{bits}

@@ -1,6 +1,7 @@
 -- The word with its fixed bits right differs from the word in exactly the masked bits: for each opcode, by the blocks
 -- of bits that the two have in common.
-use Rattle.std.proofs.Common.{◌≡◌, ℕ, zero, suc, ◌+◌, ◌-◌, ◌*◌, ◌/◌, ◌%◌, ◌^◌, ◌<◌, Bool, true, false, cond, eqb, get_or, sym, refl, ap, ◌∙◌, ap₂, add-zero, mod-eq_of_lt, div-add-mod', arith, eqb-true}
+use Rattle.std.proofs.Common.{◌≡◌, ℕ, zero, suc, ◌+◌, ◌-◌, ◌*◌, ◌/◌, ◌%◌, ◌^◌, ◌<◌, Bool, true, false, cond, eqb}
+use Rattle.std.proofs.Common.{get_or, sym, refl, ap, ◌∙◌, ap₂, add-zero, mod-eq_of_lt, div-add-mod', arith, eqb-true}
 use lib.Arith.{bin_ind}
 use lib.Bits.{differ, bit_and, bit_xor, xor_step, xor_self, xor_comm, xor_block, xor_add_and}
 use lib.Bits.{and_block, and_mask, and_comm}

@@ -1,5 +1,6 @@
 -- The mask is 0 exactly for a word whose fixed bits are right: for each opcode, by linear arithmetic.
-use Rattle.std.proofs.Common.{◌≡◌, ℕ, ◌+◌, ◌-◌, ◌*◌, ◌/◌, ◌%◌, ◌<◌, Bool, true, false, cond, eqb, ◌↔◌, get_or, refl, ap, arith, eqb-true}
+use Rattle.std.proofs.Common.{◌≡◌, ℕ, ◌+◌, ◌-◌, ◌*◌, ◌/◌, ◌%◌, ◌<◌, Bool, true, false, cond, eqb, ◌↔◌, get_or, refl, ap}
+use Rattle.std.proofs.Common.{arith, eqb-true}
 use Rattle.word.specs.Reading.{bits11to9, bits8to6, bit5, bit11, opcode}
 use Rattle.word.specs.FixedBits.{fixed_operand, fixed_jsr, fixed_forms, fixed_of}
 use Rattle.word.specs.Mask.{operand_mask, jsr_mask, masks, mask_of}

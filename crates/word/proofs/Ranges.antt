@@ -1,6 +1,7 @@
 -- What is read is in range, by the opcode; and what is in range is written and nothing else, since the tests of
 -- `write_of` are the bounds of `InRange`.
-use Rattle.std.proofs.Common.{◌≡◌, ℕ, ◌/◌, ◌%◌, ◌<◌, Bool, true, false, cond, ◌&&◌, eqb, ltb, ◌↔◌, List, [], ◌∷◌, refl, arith, ltb-true, lt-ltb}
+use Rattle.std.proofs.Common.{◌≡◌, ℕ, ◌/◌, ◌%◌, ◌<◌, Bool, true, false, cond, ◌&&◌, eqb, ltb, ◌↔◌, List, [], ◌∷◌, refl}
+use Rattle.std.proofs.Common.{arith, ltb-true, lt-ltb}
 use Rattle.word.specs.Reading.{bits11to9, bits8to6, bits2to0, opcode, read_of}
 use Rattle.word.specs.Writing.{all_up_to7, registers_in_range, field_in_range, mask_in_range, write_of}
 use Rattle.word.specs.Range.{InRange}

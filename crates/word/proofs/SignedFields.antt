@@ -1,6 +1,8 @@
 -- The laws of signed fields. Each is proved once, by cases on the sign and linear arithmetic, for every h, the half of
 -- a field's patterns; a field of k bits is the case h = 2 ^ (k - 1).
-use Rattle.std.proofs.Common.{◌≡◌, ℕ, zero, suc, ◌+◌, ◌-◌, ◌%◌, ◌^◌, ◌<◌, ◌≤◌, Bool, true, false, cond, ltb, leb, ℤ, pos, negsuc, sym, refl, ap, ◌∙◌, zero-le, mod-lt, mod-eq_of_lt, arith, pow_pos, pow_mono, pow-add, ltb-false, ltb-true, le-ltb, lt-ltb}
+use Rattle.std.proofs.Common.{◌≡◌, ℕ, zero, suc, ◌+◌, ◌-◌, ◌%◌, ◌^◌, ◌<◌, ◌≤◌, Bool, true, false, cond, ltb, leb, ℤ}
+use Rattle.std.proofs.Common.{pos, negsuc, sym, refl, ap, ◌∙◌, zero-le, mod-lt, mod-eq_of_lt, arith, pow_pos, pow_mono}
+use Rattle.std.proofs.Common.{pow-add, ltb-false, ltb-true, le-ltb, lt-ltb}
 use lib.Pow.{not_mod}
 use mathlib.Core.Bool.{and-true}
 use lib.Dec.{leb-zero, leb-suc-suc}

@@ -1,6 +1,7 @@
 -- Write after read gives the word with its fixed bits as in Figure A.2: what is read is in range, so it is written, and
 -- for each opcode its word is that one, by linear arithmetic.
-use Rattle.std.proofs.Common.{◌≡◌, ℕ, ◌+◌, ◌-◌, ◌*◌, ◌/◌, ◌%◌, ◌<◌, Bool, true, false, cond, eqb, get_or, ℤ, sym, refl, ap, ◌∙◌, arith, eqb-true}
+use Rattle.std.proofs.Common.{◌≡◌, ℕ, ◌+◌, ◌-◌, ◌*◌, ◌/◌, ◌%◌, ◌<◌, Bool, true, false, cond, eqb, get_or, ℤ, sym, refl}
+use Rattle.std.proofs.Common.{ap, ◌∙◌, arith, eqb-true}
 use borrow.Author.Tests.{eqb-false}
 use Rattle.word.specs.Field.{field, bits}
 use Rattle.word.specs.Reading.{bits11to9, bits8to6, bits2to0, opcode, read_jsr, read_of}

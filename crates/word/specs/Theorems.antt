@@ -1,6 +1,7 @@
 -- What is proved of instruction words. Each statement is a type; its proof, of the same name in small letters, is in
 -- proofs/.
-use Rattle.std.specs.Prelude.{◌≡◌, ℕ, ◌+◌, ◌-◌, ◌%◌, ◌^◌, ◌<◌, ◌≤◌, true, false, cond, ◌↔◌, ℤ, pos, ◌≢◌, bit_and, bit_xor, nat_lt}
+use Rattle.std.specs.Prelude.{◌≡◌, ℕ, ◌+◌, ◌-◌, ◌%◌, ◌^◌, ◌<◌, ◌≤◌, true, false, cond, ◌↔◌, ℤ, pos, ◌≢◌, bit_and}
+use Rattle.std.specs.Prelude.{bit_xor, nat_lt}
 use Rattle.word.specs.Field.{half, signed, field, bits}
 use Rattle.word.specs.Reading.{read_of}
 use Rattle.word.specs.Writing.{word_of, registers_in_range, field_in_range, mask_in_range, written, write_of}
@@ -95,7 +96,8 @@ pub record RefusalsOf (i : Instruction) : Type 0 where
   pub field : ((write_of i).refusal ≡ 2) ↔ ((registers_in_range i ≡ true) × (field_in_range i ≡ false))
   pub mask : ((write_of i).refusal ≡ 3) ↔
       ((registers_in_range i ≡ true) × (field_in_range i ≡ true) × (mask_in_range i ≡ false))
-  pub none : ((write_of i).refusal ≡ 0) ↔ ((registers_in_range i ≡ true) × (field_in_range i ≡ true) × (mask_in_range i ≡ true))
+  pub none : ((write_of i).refusal ≡ 0) ↔ ((registers_in_range i ≡ true) × (field_in_range i ≡ true)
+      × (mask_in_range i ≡ true))
 
 abbrev pub RefusalsInOrder : Type 0
 RefusalsInOrder = (i : Instruction) → RefusalsOf i

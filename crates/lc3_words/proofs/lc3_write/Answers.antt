@@ -20,6 +20,7 @@ returns c =
     let v : to_z w32 (of_z w32 f.value)
     ≡ f.value = to_z-of_z {w = w32} (record { sfits = c.struct_told-1.given.1.1.1.1.0.1 }) in
     let n : to_z w16 (of_z w16 c.to_signed-signed.result) ≡ clamp_signed f.value =
-    to_z-of_z {w = w16} (record { sfits = c.to_signed-signed.type_inv }) ∙ (c.to_signed-signed.ensures ∙ ap clamp_signed v) in
+    to_z-of_z {w = w16} (record { sfits = c.to_signed-signed.type_inv })
+    ∙ (c.to_signed-signed.ensures ∙ ap clamp_signed v) in
     let u = c.to_unsigned-unsigned.ensures ∙ ap clamp_unsigned v in
     clamped_written f _ _ _ _ (omega arith) n u c.unflatten-i.ensures c.write-written.ensures

@@ -40,5 +40,6 @@ returns c =
     let room = fits in
     let passed = same in
     then c.put_text-next.ensures (then
-    (then (then c.put_code-next.ensures c.put_code-next-2.ensures (omega arith)) c.put_code-next-3.ensures (omega arith))
+    (then (then c.put_code-next.ensures c.put_code-next-2.ensures (omega arith)) c.put_code-next-3.ensures
+    (omega arith))
     (rw (to_z-of_z c.ranges.n) at c.put_last_number.ensures) (omega arith)) (omega arith)

@@ -50,7 +50,8 @@ returns-in-AddRegister c = c.encode_registers.ensures ∙ sym (ap write_of c.in-
 pub returns-in-AddImmediate : goal.returns-in-AddImmediate
 unfolding write_of
 returns-in-AddImmediate c =
-    arm (field_form 0x1020 c.in-AddImmediate.dr c.in-AddImmediate.sr1 16) _ _ c.in-AddImmediate.imm5 _ c.encode_field.ensures (search rules)
+    arm (field_form 0x1020 c.in-AddImmediate.dr c.in-AddImmediate.sr1 16) _ _ c.in-AddImmediate.imm5 _
+    c.encode_field.ensures (search rules)
     c.in-AddImmediate.is refl
 
 -- Ld
@@ -89,21 +90,24 @@ returns-in-AndRegister c = c.encode_registers-in-AndRegister.ensures ∙ sym (ap
 pub returns-in-AndImmediate : goal.returns-in-AndImmediate
 unfolding write_of
 returns-in-AndImmediate c =
-    arm (field_form 0x5020 c.in-AndImmediate.dr c.in-AndImmediate.sr1 16) _ _ c.in-AndImmediate.imm5 _ c.encode_field-in-AndImmediate.ensures (search rules)
+    arm (field_form 0x5020 c.in-AndImmediate.dr c.in-AndImmediate.sr1 16) _ _ c.in-AndImmediate.imm5 _
+    c.encode_field-in-AndImmediate.ensures (search rules)
     c.in-AndImmediate.is refl
 
 -- Ldr
 pub returns-in-Ldr : goal.returns-in-Ldr
 unfolding write_of
 returns-in-Ldr c =
-    arm (field_form 0x6000 c.in-Ldr.dr c.in-Ldr.base 32) _ _ c.in-Ldr.offset6 _ c.encode_field-in-Ldr.ensures (search rules)
+    arm (field_form 0x6000 c.in-Ldr.dr c.in-Ldr.base 32) _ _ c.in-Ldr.offset6 _ c.encode_field-in-Ldr.ensures
+    (search rules)
     c.in-Ldr.is refl
 
 -- Str
 pub returns-in-Str : goal.returns-in-Str
 unfolding write_of
 returns-in-Str c =
-    arm (field_form 0x7000 c.in-Str.sr c.in-Str.base 32) _ _ c.in-Str.offset6 _ c.encode_field-in-Str.ensures (search rules)
+    arm (field_form 0x7000 c.in-Str.sr c.in-Str.base 32) _ _ c.in-Str.offset6 _ c.encode_field-in-Str.ensures
+    (search rules)
     c.in-Str.is refl
 
 -- Rti

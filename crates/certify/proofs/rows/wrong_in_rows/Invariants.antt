@@ -12,7 +12,8 @@ use Rattle.certify.proofs.rows.wrong_in_rows.Given as goal
 abbrev pub invariant-loop-j : goal.invariant-loop-j
 invariant-loop-j l =
     wrong_in_rows (claim_of l.memory l.kinds l.lowest l.watched l.ends l.table) l.table 0x0200 0 l.ends
-    ≡ wrong_in_rows (claim_of l.memory l.kinds l.lowest l.watched l.ends l.table) l.table (0x0200 + l.j) (start_of 0 l.ends l.j) (drop l.j l.ends)
+    ≡ wrong_in_rows (claim_of l.memory l.kinds l.lowest l.watched l.ends l.table) l.table (0x0200 + l.j)
+    (start_of 0 l.ends l.j) (drop l.j l.ends)
 
 abbrev pub decreases-loop-j : goal.decreases-loop-j
 decreases-loop-j l = length l.ends - l.j

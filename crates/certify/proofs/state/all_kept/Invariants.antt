@@ -16,7 +16,8 @@ abbrev pub invariant-loop-j : goal.invariant-loop-j
 invariant-loop-j l =
     (l.j ≤ 8) × ((lowest : ℕ) (rows : List Row)
     → all_kept (claim_with l.memory l.kinds lowest l.watched rows) l.sp l.watched (values_of (drop 9 l.s))
-    ≡ all_kept (claim_with l.memory l.kinds lowest l.watched rows) l.sp (drop l.j l.watched) (values_of (drop (9 + l.j) l.s)))
+    ≡ all_kept (claim_with l.memory l.kinds lowest l.watched rows) l.sp (drop l.j l.watched)
+    (values_of (drop (9 + l.j) l.s)))
 
 abbrev pub decreases-loop-j : goal.decreases-loop-j
 decreases-loop-j l = 8 - l.j

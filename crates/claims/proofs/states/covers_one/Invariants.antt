@@ -15,7 +15,8 @@ use Rattle.claims.proofs.states.covers_one.Given as goal
 
 abbrev pub invariant-loop-i : goal.invariant-loop-i
 invariant-loop-i l =
-    (l.i ≤ 17) × ((k : ℕ) → k < l.i → implies (value_of (get_or l.s k 0)) (value_of (get_or l.table (l.at + k) 0)) ≡ true)
+    (l.i ≤ 17)
+    × ((k : ℕ) → k < l.i → implies (value_of (get_or l.s k 0)) (value_of (get_or l.table (l.at + k) 0)) ≡ true)
 
 abbrev pub decreases-loop-i : goal.decreases-loop-i
 decreases-loop-i l = 17 - l.i

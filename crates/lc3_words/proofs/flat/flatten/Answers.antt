@@ -31,7 +31,8 @@ returns-in-AddRegister c = c.with_signed-in-AddRegister.ensures ∙ sym (ap flat
 pub returns-in-AddImmediate : goal.returns-in-AddImmediate
 unfolding flat_of
 returns-in-AddImmediate c =
-    arm (flat 2 c.in-AddImmediate.dr c.in-AddImmediate.sr1 0) _ _ c.in-AddImmediate.imm5 _ c.with_signed-in-AddImmediate.ensures (search rules)
+    arm (flat 2 c.in-AddImmediate.dr c.in-AddImmediate.sr1 0) _ _ c.in-AddImmediate.imm5 _
+    c.with_signed-in-AddImmediate.ensures (search rules)
     c.in-AddImmediate.is refl
 
 -- Ld
@@ -68,7 +69,8 @@ returns-in-AndRegister c = c.with_signed-in-AndRegister.ensures ∙ sym (ap flat
 pub returns-in-AndImmediate : goal.returns-in-AndImmediate
 unfolding flat_of
 returns-in-AndImmediate c =
-    arm (flat 8 c.in-AndImmediate.dr c.in-AndImmediate.sr1 0) _ _ c.in-AndImmediate.imm5 _ c.with_signed-in-AndImmediate.ensures (search rules)
+    arm (flat 8 c.in-AndImmediate.dr c.in-AndImmediate.sr1 0) _ _ c.in-AndImmediate.imm5 _
+    c.with_signed-in-AndImmediate.ensures (search rules)
     c.in-AndImmediate.is refl
 
 -- Ldr

@@ -2,7 +2,7 @@
 use mathlib.Core.Path.{sym, ap, ◌∙◌}
 use lib.ListN.{length}
 use borrow.Author.Rules.{rules}
-use Rattle.line.proofs.ShapeLaws.{proper_shown, data-shown}
+use Rattle.line.proofs.ShapeLaws.{proper_shown, data_shown}
 use Rattle.line.proofs.lengths.line_length.Goals as goal
 
 pub returns-then-mask-eq0 : goal.returns-then-mask-eq0
@@ -12,4 +12,4 @@ returns-then-mask-eq0 c =
 
 pub returns-else-mask-eq0 : goal.returns-else-mask-eq0
 returns-else-mask-eq0 c =
-    ap length (sym (data-shown c.args.word c.ranges.word.fits (λ e. c.if-mask-eq0.false (c.mask.ensures ∙ e))))
+    ap length (sym (data_shown c.args.word c.ranges.word.fits (λ e. c.if-mask-eq0.false (c.mask.ensures ∙ e))))

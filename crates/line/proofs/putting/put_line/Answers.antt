@@ -4,7 +4,7 @@ use borrow.Author.Rules.{rules}
 use Rattle.mnemonics.specs.Statement.{fill_line}
 use Rattle.line.specs.Line.{line_of}
 use Rattle.line.specs.Shapes.{proper_line}
-use Rattle.line.proofs.ShapeLaws.{proper_shown, data-shown}
+use Rattle.line.proofs.ShapeLaws.{proper_shown, data_shown}
 use Rattle.line.proofs.putting.put_line.Goals as goal
 
 pub put_proper-requires : goal.put_proper-requires
@@ -17,7 +17,7 @@ put_proper-requires c =
 pub put_fill-requires : goal.put_fill-requires
 put_fill-requires c =
     let data-line : (let w = c.args.word in line_of w ≡ fill_line w) =
-    data-shown c.args.word c.ranges.word.fits (λ e. c.if-mask-eq0.false (c.mask.ensures ∙ e))
+    data_shown c.args.word c.ranges.word.fits (λ e. c.if-mask-eq0.false (c.mask.ensures ∙ e))
     in
     rw (data-line) at c.requires
 
@@ -31,6 +31,6 @@ returns-then-mask-eq0 c =
 pub returns-else-mask-eq0 : goal.returns-else-mask-eq0
 returns-else-mask-eq0 c =
     let data-line : (let w = c.args.word in line_of w ≡ fill_line w) =
-    data-shown c.args.word c.ranges.word.fits (λ e. c.if-mask-eq0.false (c.mask.ensures ∙ e))
+    data_shown c.args.word c.ranges.word.fits (λ e. c.if-mask-eq0.false (c.mask.ensures ∙ e))
     in
     rw (data-line) c.put_fill.ensures

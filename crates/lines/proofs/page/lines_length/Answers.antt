@@ -21,16 +21,23 @@ pub overflow_add-length : goal.overflow_add-length
 overflow_add-length c =
     let l = c.loop-done in
     let w = get_or c.args.words.now l.done 0 in
-    omega (arith, c.line_length-length.ensures, longest_line w (omega (arith, c.shared_slice_known-in-loop-done-1.given l.done)))
+    omega (
+      arith,
+      c.line_length-length.ensures,
+      longest_line w
+          (omega (arith, c.shared_slice_known-in-loop-done-1.given l.done)),
+    )
 
 pub loop-done-preserved : goal.loop-done-preserved
 loop-done-preserved c =
     let l = c.loop-done in
     let words = c.args.words.now in
     let w = get_or words l.done 0 in
-    let short : length (line_of w) ≤ 17 = longest_line w (omega (arith, c.shared_slice_known-in-loop-done-1.given l.done)) in
+    let short : length (line_of w) ≤ 17 = longest_line w
+    (omega (arith, c.shared_slice_known-in-loop-done-1.given l.done)) in
     let more = ap length (line_more words l.done (omega arith)) in (
-      rw add-one (omega (arith, c.line_length-length.ensures, length-append (lines_of (take l.done words)) (line_of w))),
+      rw add-one
+          (omega (arith, c.line_length-length.ensures, length-append (lines_of (take l.done words)) (line_of w))),
       omega arith,
       omega (arith, c.line_length-length.ensures),
     )

@@ -25,7 +25,14 @@ put_line-at-requires c =
     let w = get_or words l.done 0 in
     let more = ap length (line_more words l.done (omega arith)) in
     let within = lines_within words (suc l.done) in
-    omega (arith, c.requires, l.invariant.0.place, l.invariant.2, length-append (lines_of (take l.done words)) (line_of w))
+    omega (
+      arith,
+      c.requires,
+      l.invariant.0.place,
+      l.invariant.2,
+      length-append
+          (lines_of (take l.done words)) (line_of w),
+    )
 
 pub loop-done-preserved : goal.loop-done-preserved
 loop-done-preserved c =

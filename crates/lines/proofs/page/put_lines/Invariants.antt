@@ -16,7 +16,8 @@ use Rattle.lines.proofs.page.put_lines.Given as goal
 
 abbrev pub invariant-loop-done : goal.invariant-loop-done
 invariant-loop-done l =
-    Put 0 (lines_of (take l.done l.words)) l.initial.output l.at l.output × (l.done ≤ length l.words) × (length l.output ≡ length l.initial.output)
+    Put 0 (lines_of (take l.done l.words)) l.initial.output l.at l.output × (l.done ≤ length l.words)
+    × (length l.output ≡ length l.initial.output)
 
 abbrev pub decreases-loop-done : goal.decreases-loop-done
 decreases-loop-done l = length l.words - l.done

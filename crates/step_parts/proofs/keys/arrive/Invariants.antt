@@ -2,7 +2,7 @@
 -- arrival.
 use Rattle.std.proofs.Common.{◌≡◌, ℕ, ◌-◌, List, length, drop, sym, refl, ◌∙◌, rules}
 use Rattle.machine.specs.Record.{whole}
-use Rattle.step_parts.proofs.KeyLaws.{one-key-arrives, no-key-arrives, keys-run-out}
+use Rattle.step_parts.proofs.KeyLaws.{one_key_arrives, no_key_arrives, keys_run_out}
 use Rattle.step_parts.specs.Delivery.{arrival_of}
 use Rattle.step_parts.proofs.keys.arrive.Given as goal
 
