@@ -18,9 +18,11 @@ import sys
 TOKEN = re.compile(r"[A-Za-z_][\w'′-]*")
 WORD = r"[^\s:(){}.,;λ=→]+"
 DECLARED = re.compile(rf"^\s*(?:(?:abbrev|unfoldable|pub)\s+)*((?:{WORD}\s+)*{WORD})\s*:(?:\s|$)")
-HEADED = re.compile(r"^\s*(?:(?:abbrev|unfoldable|pub)\s+)*(?:data|record|module|mod|use)\b")
+HEADED = re.compile(r"^\s*(?:(?:abbrev|unfoldable|pub)\s+)*(?:data|record|module|mod|use)\s")
 # Lemmas that port.py has turned, and that now have the name of a definition.
 TURNED = ["value_in"]
+# A definition whose signature stands over two lines, its name far from the colon.
+SPLIT = ["standsAt"]
 # Names that may meet in a file: a definition and a record's field, or a definition and the function
 # that answers it.
 MEETING = {"too_short", "is_below"}
@@ -29,13 +31,15 @@ QUOTED = re.compile(r"`[^`]*`")
 
 def snake(name):
     name = name.replace("-", "_")
+    if name[0].isupper():
+        return name
     name = re.sub(r"(?<=[a-z0-9])(?=[A-Z])", "_", name)
     return name.lower()
 
 
 def is_old(name):
     """Has a dash, or a capital after its first letter, and is no type or module."""
-    return name[0].islower() and ("-" in name or re.search(r"[A-Z]", name))
+    return "-" in name or (name[0].islower() and re.search(r"[A-Z]", name))
 
 
 def files():
@@ -52,7 +56,7 @@ def read(path):
 
 
 def own_names(texts):
-    found = set()
+    found = set(SPLIT)
     for path, text in texts.items():
         parts = path.split(os.sep)
         if not path.endswith(".antt") or (parts[2] == "proofs" and len(parts) > 4):
