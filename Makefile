@@ -17,20 +17,8 @@
 
 EXPORTS = lc3_machine lc3_step lc3_step_second lc3_logging lc3_telling lc3_long lc3_second lc3_words lc3_lines \
     lc3_objects lc3_monitor lc3_certify lc3_version
-ARCHIVES = $(EXPORTS:%=target/staticlib/lib%.a)
-# How many crates rt proves at a time, or wrong programs it tries. It waits for all of them before it begins the next
-# ones, so that twelve keep two cores busier than two would; each takes up to 1.9 GB, most of them below 1. That so many
-# cost no more than two: tools/long_slices.py.
-export RT_JOBS ?= $(shell awk '/^MemTotal:/ { print ($$2 < 12000000) ? 4 : ($$2 < 22000000) ? 6 : 12 }' /proc/meminfo)
-# The prover's allocator, mimalloc, is to keep the memory that it has freed, and not to give it back in the meantime,
-# and to ask for large pages, where the system has them: a check takes less time by that, and little more memory.
-export MIMALLOC_PURGE_DELAY ?= -1
-export MIMALLOC_ALLOW_LARGE_OS_PAGES ?= 1
-# For each check the prover writes some thousand small files, 0.2 GB, and takes them away again: in memory, if there is
-# a folder there with room for them. Each check takes two seconds of processor time less by that.
-SCRATCH := $(shell [ -w /dev/shm ] && [ "$$(df -P -k /dev/shm | awk 'END { print $$4 }')" -gt 4000000 ] && \
-    echo TMPDIR=/dev/shm)
-PROGRESS = env $(SCRATCH) tools/long_slices.py tools/progress
+ARCHIVES = $(EXPORTS:%=build/archives/lib%.a)
+PROGRESS = tools/progress
 # The product's version. The shared library has the name by which hosts ask for it, which ends in the version of the
 # header: that of the interface.
 RELEASE := $(shell cat VERSION)
@@ -64,7 +52,7 @@ FOLDERS = "$(LIBDIR)/pkgconfig" "$(MODULES)" $(foreach part,$(dir include/$(HEAD
 LOADER = @[ -n "$(DESTDIR)" ] || /sbin/ldconfig 2>/dev/null || \
     echo "Run ldconfig as root, so that programs find $(SONAME)."
 
-.PHONY: run told demo test tested lib page page-test page-rate install uninstall dist release-test bench rate soak mutants
+.PHONY: run told demo test lib page page-test page-rate install uninstall dist release-test bench rate soak mutants
 .PHONY: format lint clean host host-c host-counts host-rust host-python host-python-first host-python-second
 
 run: told lib
@@ -72,39 +60,38 @@ run: told lib
 
 told:
 	@command -v python3 >/dev/null || { echo "The command needs python3, and none is found." >&2; exit 2; }
-	@[ -e build/libfanthrig.so ] || echo "The library is proved and built first: about 5 and a half minutes on two cores, once."
+	@[ -e build/libfanthrig.so ] || echo "The library is proved and built first, once."
 
-# `make test` compares what it prints with crates/demo/stdout.
+# `make test` compares what it prints with crates/demo/stdout. rt runs a program in its own folder, and its files are in
+# data/: so it is run there once rt has built it, whatever came of that run.
 demo:
-	@echo "The demonstration. It is proved before it runs: about 3 minutes on two cores the first time, then seconds."
-	@$(PROGRESS) build/demo.log rt check demo
-	@cd crates/demo/data && ../../../target/bin/demo
+	@$(KIT)
+	@echo "The demonstration. It is proved before it runs: minutes the first time, then seconds."
+	@$(PROGRESS) build/demo.log env -C crates/demo rt check
+	@env -C crates/demo rt run </dev/null >build/demo.run.log 2>&1; \
+	    [ -e crates/demo/out/demo.stamp ] || { cat build/demo.run.log >&2; exit 1; }
+	@cd crates/demo/data && ../out/demo
 
-# Beside `rt ci` the rest is tested, and goes before it: formatting and style at once, and what hosts see as soon as all
-# crates are proved. These tests wait much for browsers, terminals and packages; the wrong programs take the processor
-# time that they leave. Until all has ended the log of `rt ci` has another name, so that a release that is packed
-# meanwhile has no half of it. Its verdict is repeated as the last line of all.
-CI = env PROVED=build/ci.proved TERM=dumb nice -n 19 $(PROGRESS) build/ci.part rt ci
+# What `rt ci` passes it keeps, beside the kit: where a run on this computer has passed the same files, it runs the
+# tests and programs alone. What it has proved is then compiled, and what hosts see is tested. These tests wait much for
+# browsers, terminals and packages, and run four at a time. The verdict is repeated as the last line of all.
 test:
-	@echo "Everything: formatting, all proofs from nothing, wrong programs that must be refused, and the host tests."
-	@echo "That takes about 30 minutes on two cores."
+	@echo "Everything: formatting, all proofs, wrong programs that must be refused, and the host tests."
 	@tools/prerequisites
-	@rm -f build/ci.log build/ci.proved
-	@tools/beside "$(CI)" "$(MAKE) --no-print-directory tested"
-	@mv build/ci.part build/ci.log
-	@tail -n 1 build/ci.log
-
-tested:
 	@$(MAKE) --no-print-directory format lint
-	@until [ -e build/ci.proved ]; do sleep 1; done
+	@rm -f build/ci.log build/ci.passed
+	@mkdir -p build && touch build/ci.began
+	@TERM=dumb $(PROGRESS) build/ci.log rt ci
+	@mv build/ci.began build/ci.passed
 	@$(MAKE) --no-print-directory lib page
 	@$(MAKE) --no-print-directory -j4 -O release-test page-test host
+	@tail -n 1 build/ci.log
 
+# The layout of crates is refused by `rt ci`, where it is not that of `rt fmt`.
 format:
 	python3 docs/check.py
 	python3 tools/contracts.py
 	python3 tools/way.py 9 14
-	rt fmt --check
 	cargo fmt --all --check --manifest-path host/Cargo.toml
 
 lint:
@@ -143,9 +130,9 @@ lib: build/libfanthrig.so
 
 # The archives, and the crates that they rest on, each proved once.
 KIT = command -v rt >/dev/null || { cat tools/no-kit.txt >&2; exit 2; }
-build/proved: crates.txt $(shell find crates -name '*.rt' -o -name '*.antt')
+build/proved: crates.txt $(shell find crates -name out -prune -o \( -name '*.rt' -o -name '*.antt' \) -print)
 	@$(KIT)
-	@$(PROGRESS) build/proved.log tools/prove.py staticlib $(EXPORTS)
+	@$(PROGRESS) build/proved.log tools/archives.py $(EXPORTS)
 	@touch $@
 
 BITCODE = $(EXPORTS:%=build/wasm/%.bc)
@@ -155,7 +142,7 @@ $(ARCHIVES) $(BITCODE): build/proved ;
 build/libfanthrig.a: build/proved
 	rm -rf $@ build/objects
 	@for name in $(EXPORTS); do \
-	    mkdir -p build/objects/$$name && (cd build/objects/$$name && ar x ../../../target/staticlib/lib$$name.a) && \
+	    mkdir -p build/objects/$$name && (cd build/objects/$$name && ar x ../../archives/lib$$name.a) && \
 	    for o in build/objects/$$name/*.o; do mv $$o build/objects/$$name-$${o##*/} || exit; done || exit; \
 	done
 	ar rcs $@ build/objects/*.o
@@ -250,4 +237,4 @@ mutants:
 	PYTHONPATH=tools python3 -m mutants
 
 clean:
-	rm -rf target build .mypy_cache
+	rm -rf build crates/*/out .mypy_cache

@@ -87,6 +87,7 @@ def names(root: Path, documents: list[Path]) -> list[str]:
     known = words(tuple(path for folder in SOURCES for path in sources(root / folder)))
     known.update(path.name for path in root.iterdir())
     known.update(path.name for path in (root / "docs").iterdir())
+    known.update(path.name for path in (root / "crates").iterdir())
     known.update(WORD.findall((root / "Makefile").read_text(encoding="utf-8")))
     return [
         f"{path.relative_to(root)}: nothing is named {name}"

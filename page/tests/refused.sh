@@ -19,6 +19,7 @@ refused() { # LINE WHY: puts a line before the first return; the module must be 
 refused '%odd = ptrtoint ptr null to i64' 'depends on the target'
 refused '%odd = inttoptr i64 8 to ptr' 'depends on the target'
 refused '%odd = or i32 1, 2' 'unknown instruction or'
+refused '%odd = load { i8, ptr }, ptr null' 'a record that is not of numbers'
 refused '%odd = fadd double 1.0, 2.0' 'depends on the target'
 echo 'declare void @puts(ptr)' >>"$work/version.ll"
 refused 'call void @puts(ptr null)' 'declares more'

@@ -93,8 +93,10 @@ class Provenance(unittest.TestCase):
 
     def test_the_verdict_is_of_these_sources(self) -> None:
         self.assertIn("no log", self.provenance.verdict()[0])
-        self.log.write_text("rt: one proved (2 s)\n1 passed, 0 failed\n")
-        told = ["one proved", "0 wrong programs refused", "1 passed, 0 failed"]
+        kept = "rt: one is kept: an earlier run proved it\n"
+        tried = "rt: must-fail one/wrong.edit: refused, as it must be: why\n"
+        self.log.write_text(f"rt: two proved\n{kept}{tried}2 passed, 0 failed\n")
+        told = ["one proved", "two proved", "1 wrong programs refused", "2 passed, 0 failed"]
         self.assertEqual(self.provenance.verdict(), told)
         later = self.log.stat().st_mtime + 5
         os.utime(self.source, (later, later))

@@ -11,6 +11,8 @@ from . import BUILD, ROOT, VERSION, interface, said
 
 LOG = BUILD / "ci.log"
 VERDICT = re.compile(r"^\d+ passed, \d+ failed$")
+# A crate that this run has proved, or that an earlier run has: rt keeps what it has passed.
+PROVED = re.compile(r"^rt: (\w+) (?:proved$|is kept: )")
 
 
 def hash_of(path: Path) -> str:
@@ -52,12 +54,11 @@ def verdict() -> list[str]:
     if changed_after(LOG):
         return ["the log of `rt ci` is older than the sources: its verdict is left out"]
     lines = LOG.read_text(encoding="utf-8", errors="replace").splitlines()
-    proved = [line for line in lines if re.match(r"^rt: \S+ proved \(", line)]
+    crates = [f"{found[1]} proved" for line in lines if (found := PROVED.match(line))]
     refused = sum(line.startswith("rt: must-fail ") and "refused" in line for line in lines)
     ended = [line for line in lines if VERDICT.match(line)][-1:]
-    # How long a proof took differs from one run to the next, and is left out.
-    crates = [re.sub(r" \(.*", "", line.removeprefix("rt: ")) for line in proved]
-    return [*crates, f"{refused} wrong programs refused", *(ended or ["it came to no end"])]
+    # Their order differs from one run to the next.
+    return [*sorted(crates), f"{refused} wrong programs refused", *(ended or ["it came to no end"])]
 
 
 def crates() -> list[str]:
@@ -72,7 +73,7 @@ def crates() -> list[str]:
 
 def built() -> list[str]:
     """The hash of each archive that the kit wrote, and of the library that is made of them."""
-    paths = [*sorted((ROOT / "target/staticlib").glob("*.a")), *sorted(BUILD.glob("libfanthrig.*"))]
+    paths = [*sorted((BUILD / "archives").glob("*.a")), *sorted(BUILD.glob("libfanthrig.*"))]
     return [f"{hash_of(path)}  {path.relative_to(ROOT)}" for path in paths if not path.is_symlink()]
 
 
