@@ -37,7 +37,7 @@ class Judge:
     def __init__(self, repository: Repository) -> None:
         self.repository, self.samples = repository, Samples()
         self.program = Program(repository, self.samples.hold)
-        step = next(d for d in repository.definitions() if d.name == 'stepBy')
+        step = next(d for d in repository.definitions() if d.name == 'step_by')
         self.samples.step = lambda *given: self.program.names[f'f_{step.number}'](*given)
         self.found: Found = statements(repository, self.program)
         self.found.untried += [s.name for s in self.found.laws if s.seconds > SLOW]
