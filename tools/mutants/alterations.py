@@ -137,6 +137,10 @@ class Alterer:
         if node.value == '-':
             new = f'({self.argument(right)} - {self.argument(left)})'
             self.replace('operands exchanged', node, new)
+        if node.value == '==':
+            for name in ('nat_le', 'nat_lt'):
+                new = f'({name} {self.argument(left)} {self.argument(right)})'
+                self.replace('comparison', node, new)
         if node.value == '∷':
             self.elements(node, types)
 

@@ -156,9 +156,10 @@ def parsed(crate: str, name: str, text: str) -> Module:
     for start, end in items(text):
         words = tokens(text, start, end)
         texts = [token.text for token in words]
-        if texts[0] == 'use':
+        if 'use' in texts and set(texts[:texts.index('use')]) <= set(MARKS):
             if '{' in texts:
-                module.uses.append((texts[1].rstrip('.'), used_names(texts)))
+                path = texts[texts.index('use') + 1]
+                module.uses.append((path.rstrip('.'), used_names(texts)))
         elif texts[:2] == ['pub', 'mod'] or texts[0] == 'unfolding':
             continue
         elif texts[:2] == ['pub', 'data']:
