@@ -77,7 +77,6 @@ class Conditions:
         bound = node.kind == 'proj' or node.kind == 'var' and node.value in types
         if bound and self.typing.of(definition.module, node, types) == 'ℕ':
             text = definition.module.text[node.start:node.end]
-            text = text if node.kind == 'var' else f'({text})'
             for loss in LOSSES:
                 yield Alteration(definition, 'bits lost', node.start, node.end, f'({text} {loss})')
         parts: List[Node] = node.parts
