@@ -264,4 +264,14 @@ class Repository:
             return next((case for case in cases if case.name == name), None)
         source = self.modules[crate, path.split('.')[-1]]
         found = source.definitions.get(name) or source.constructors.get(name)
-        return found or source.records.get(name)
+        return found or source.records.get(name) or self.passed_on(source, name)
+
+    def passed_on(self, source: Module, name: str) -> Optional[Meaning]:
+        """A name that a module has from another one, and passes on."""
+        for path, names in source.uses:
+            match = PATH.match(path)
+            if match and match.group(1) in self.crates:
+                for there, alias in names:
+                    if alias == name:
+                        return self.imported(match.group(1), match.group(2), there)
+        return None

@@ -177,7 +177,7 @@ class Parser:
             word = self.peek()
             if word is None or word in OPERATORS or word in CLOSING:
                 return function
-            if word == '{':                  # a level, as in Unit {0}
+            if word == '{':                    # a level, as in Unit {0}
                 self.skip_braces()
             else:
                 argument = self.atom()
