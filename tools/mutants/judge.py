@@ -19,7 +19,7 @@ from .samples import Samples
 from .statements import Found, Statement, statements
 
 SECONDS = 10                                   # for one definition; one that has no end is noticed
-SLOW = 0.75                                    # seconds beyond which a theorem is not tried
+SLOW = 1.0                                     # seconds beyond which a theorem is not tried
 QUICK = 0.05                                   # seconds up to which a statement may be asked first
 # Rows that take long, and the crates whose definitions they are for: no others are tried with them.
 LONG, OF_RUNS = 'numbers/Counts.ManySteps', ('run', 'logging')
