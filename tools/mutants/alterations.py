@@ -11,7 +11,9 @@ from .types import Types, Typing
 INSTEAD = {'<': ['≤'], '+': ['-'], '-': ['+'], '*': ['/'], '/': ['%', '*'], '%': ['/'],
            '&&': ['||'], '||': ['&&']}
 DROPPABLE = ('+', '-', '*', '/', '%', '&&', '||', '++', '×')
-COMPARISONS = (('eqb', 'leb', 'ltb'), ('leZ', 'ltZ'), ('take', 'drop'))
+COMPARISONS = (('eqb', 'leb', 'ltb'), ('nat_eq', 'nat_le', 'nat_lt'), ('int_le', 'int_lt'),
+               ('le_z', 'lt_z'), ('take', 'drop'))
+ALWAYS_KNOWN = ('eqb', 'nat_eq')             # comparisons that stand in for each other even unnamed
 
 
 @dataclass(frozen=True)
@@ -78,7 +80,7 @@ class Alterer:
     def argument(self, node: Node) -> str:
         """The text of a node as it can stand as an argument."""
         text = self.text(node)
-        return text if node.kind in ('par', 'num', 'var', 'str') else f'({text})'
+        return text if node.kind in ('par', 'num', 'var', 'str', 'proj') else f'({text})'
 
     def put(self, kind: str, start: int, end: int, new: str) -> None:
         if self.module.text[start:end] != new:
@@ -135,6 +137,10 @@ class Alterer:
         if node.value == '-':
             new = f'({self.argument(right)} - {self.argument(left)})'
             self.replace('operands exchanged', node, new)
+        if node.value == '==':
+            for name in ('nat_le', 'nat_lt'):
+                new = f'({name} {self.argument(left)} {self.argument(right)})'
+                self.replace('comparison', node, new)
         if node.value == '∷':
             self.elements(node, types)
 
@@ -166,8 +172,7 @@ class Alterer:
                 dot = self.module.text.rfind('.', node.parts[0].end, node.end)
                 for name in (alike[other % len(alike)] for other in (at + 1, at - 1, at + 2)):
                     if name != node.value:
-                        quoted = f'«{name}»' if '_' in name else name
-                        self.put('field', dot, node.end, f'.{quoted}')
+                        self.put('field', dot, node.end, f'.{name}')
 
     def record(self, node: Node, types: Types) -> None:
         known = self.repository.fields.values()
@@ -233,7 +238,7 @@ class Alterer:
             return
         for group in COMPARISONS:
             for name in group if head.value in group else ():
-                if name in self.module.scope or name != head.value and group[0] == 'eqb':
+                if name in self.module.scope or name != head.value and group[0] in ALWAYS_KNOWN:
                     self.replace('comparison', head, name)
         if head.value == 'cond' and len(arguments) == 3:
             self.exchange('branches exchanged', arguments[1], arguments[2])
@@ -246,7 +251,7 @@ class Alterer:
     def arguments(self, node: Node, head: Node, arguments: List[Node]) -> None:
         """Arguments of one type exchanged, or one of them in place of the result."""
         signature = self.typing.signature(self.module, head.value)
-        if not signature or head.value == 'eqb':
+        if not signature or head.value in ALWAYS_KNOWN:
             return
         for at, kind in enumerate(signature[:-1][:len(arguments)]):
             for other in range(at + 1, min(len(signature) - 1, len(arguments))):

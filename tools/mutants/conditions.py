@@ -12,17 +12,17 @@ from .types import Types, Typing
 CRATES = ('machine', 'run', 'logging')
 LOSSES = ('% 0x80', '% 0x8000', '/ 2 * 2')
 OF_MACHINE = (
-    'eqb ({} .devices .busy) 0', 'eqb ({} .devices .«timer_interval») 0',
-    'not (eqb ({} .devices .«timer_interval») 0)',
-    'ltb ({} .devices .«timer_status») 0x8000', 'leb 0x8000 ({} .devices .«timer_status»)',
-    'not (eqb ({} .devices .«timer_count») ({} .devices .«timer_interval»))',
-    'ltb ({} .devices .kbsr) 0x8000', 'leb 0x8000 ({} .devices .kbsr)',
-    'leb 0x8000 ({} .devices .mcr)',
-    'ltb ({} .psr) 0x8000', 'leb 0x8000 ({} .psr)', 'ltb ({} .psr % 0x800) 0x400',
-    'leb 0x400 ({} .psr % 0x800)',
-    'ltb ({} .pc) 0x8000', 'ltb ({} .devices .kbdr) 0x80')
-OF_END = ('eqb ({} .keys) 0', 'eqb ({} .steps) 0', 'eqb ({} .shown) 0', 'not (eqb ({} .steps) 0)',
-          'leb 0x8000 ({} .machine .devices .mcr)', 'eqb ({} .machine .devices .busy) 0')
+    'eqb {}.devices.busy 0', 'eqb {}.devices.timer_interval 0',
+    'not (eqb {}.devices.timer_interval 0)',
+    'ltb {}.devices.timer_status 0x8000', 'leb 0x8000 {}.devices.timer_status',
+    'not (eqb {}.devices.timer_count {}.devices.timer_interval)',
+    'ltb {}.devices.kbsr 0x8000', 'leb 0x8000 {}.devices.kbsr',
+    'leb 0x8000 {}.devices.mcr',
+    'ltb {}.psr 0x8000', 'leb 0x8000 {}.psr', 'ltb ({}.psr % 0x800) 0x400',
+    'leb 0x400 ({}.psr % 0x800)',
+    'ltb {}.pc 0x8000', 'ltb {}.devices.kbdr 0x80')
+OF_END = ('eqb {}.keys 0', 'eqb {}.steps 0', 'eqb {}.shown 0', 'not (eqb {}.steps 0)',
+          'leb 0x8000 {}.machine.devices.mcr', 'eqb {}.machine.devices.busy 0')
 CONDITIONS = {'Machine': OF_MACHINE, 'End': OF_END}
 
 
@@ -32,7 +32,7 @@ def allow_conditions(repository: Repository) -> None:
     for module in repository.modules.values():
         for name in ('cond', 'not', 'eqb', 'leb', 'ltb', 'false', '[]'):
             module.scope.setdefault(name, Primitive(name))
-        module.scope.setdefault('plainOutcome', outcome.definitions['plainOutcome'])
+        module.scope.setdefault('plain_outcome', outcome.definitions['plain_outcome'])
 
 
 class Conditions:
@@ -68,7 +68,7 @@ class Conditions:
         if result == kind:
             return name
         if result == 'Outcome' and kind == 'Machine' and 'mem' in types:
-            return f'(plainOutcome {name} mem)'
+            return f'(plain_outcome {name} mem)'
         simple: Dict[str, str] = {'Bool': 'false', 'ℕ': '0', 'List ℕ': '[]', 'Pending': 'Nothing'}
         return simple.get(result)
 
@@ -77,7 +77,6 @@ class Conditions:
         bound = node.kind == 'proj' or node.kind == 'var' and node.value in types
         if bound and self.typing.of(definition.module, node, types) == 'ℕ':
             text = definition.module.text[node.start:node.end]
-            text = text if node.kind == 'var' else f'({text})'
             for loss in LOSSES:
                 yield Alteration(definition, 'bits lost', node.start, node.end, f'({text} {loss})')
         parts: List[Node] = node.parts

@@ -19,7 +19,7 @@ from .samples import Samples
 from .statements import Found, Statement, statements
 
 SECONDS = 10                                   # for one definition; one that has no end is noticed
-SLOW = 0.5                                     # seconds beyond which a theorem is not tried
+SLOW = 1.0                                     # seconds beyond which a theorem is not tried
 QUICK = 0.05                                   # seconds up to which a statement may be asked first
 # Rows that take long, and the crates whose definitions they are for: no others are tried with them.
 LONG, OF_RUNS = 'numbers/Counts.ManySteps', ('run', 'logging')
@@ -37,7 +37,7 @@ class Judge:
     def __init__(self, repository: Repository) -> None:
         self.repository, self.samples = repository, Samples()
         self.program = Program(repository, self.samples.hold)
-        step = next(d for d in repository.definitions() if d.name == 'stepBy')
+        step = next(d for d in repository.definitions() if d.name == 'step_by')
         self.samples.step = lambda *given: self.program.names[f'f_{step.number}'](*given)
         self.found: Found = statements(repository, self.program)
         self.found.untried += [s.name for s in self.found.laws if s.seconds > SLOW]

@@ -11,7 +11,7 @@ from .syntax import Node, Parser, Token, arrows, items, tokens, type_text
 RUST = {'bool': 'Bool', 'i16': 'ℤ', 'i32': 'ℤ', 'i64': 'ℤ'}
 RUST.update((name, 'ℕ') for name in ('u8', 'u16', 'u32', 'u64', 'usize'))
 MARKS = ('abbrev', 'unfoldable', 'pub')
-PATH = re.compile(r'Rattle·(\w+)(?:·specs\.specs|\.specs)\.(.*)$')
+PATH = re.compile(r'Rattle\.(\w+)\.specs\.(.*)$')
 
 
 @dataclass
@@ -156,9 +156,10 @@ def parsed(crate: str, name: str, text: str) -> Module:
     for start, end in items(text):
         words = tokens(text, start, end)
         texts = [token.text for token in words]
-        if texts[0] == 'use':
+        if 'use' in texts and set(texts[:texts.index('use')]) <= set(MARKS):
             if '{' in texts:
-                module.uses.append((texts[1].rstrip('.'), used_names(texts)))
+                path = texts[texts.index('use') + 1]
+                module.uses.append((path.rstrip('.'), used_names(texts)))
         elif texts[:2] == ['pub', 'mod'] or texts[0] == 'unfolding':
             continue
         elif texts[:2] == ['pub', 'data']:
@@ -202,7 +203,7 @@ class Repository:
         self.fields: Dict[Tuple[str, str], List[Tuple[str, str]]] = {}
         self.enums: Dict[str, List[Constructor]] = {}
         lines = (root / 'crates.txt').read_text().splitlines()
-        self.crates = [line.split(':')[0] for line in lines if line and line[0] != '#']
+        self.crates = [re.split('[ :]', line)[0] for line in lines if line and line[0] != '#']
         for crate in self.crates:
             self.read(crate)
         for module in self.modules.values():
@@ -247,7 +248,7 @@ class Repository:
             match = PATH.match(path)
             for name, alias in names:
                 meaning: Optional[Meaning] = Primitive(name)
-                if match:
+                if match and match.group(1) in self.crates:
                     meaning = self.imported(match.group(1), match.group(2), name)
                 if meaning:
                     module.scope[alias] = meaning
@@ -259,8 +260,18 @@ class Repository:
 
     def imported(self, crate: str, path: str, name: str) -> Optional[Meaning]:
         if path.startswith('declared.'):
-            cases = self.enums.get(path.split('.')[-2], []) if path.endswith('the-variants') else []
+            cases = self.enums.get(path.split('.')[-2], []) if path.endswith('TheVariants') else []
             return next((case for case in cases if case.name == name), None)
         source = self.modules[crate, path.split('.')[-1]]
         found = source.definitions.get(name) or source.constructors.get(name)
-        return found or source.records.get(name)
+        return found or source.records.get(name) or self.passed_on(source, name)
+
+    def passed_on(self, source: Module, name: str) -> Optional[Meaning]:
+        """A name that a module has from another one, and passes on."""
+        for path, names in source.uses:
+            match = PATH.match(path)
+            if match and match.group(1) in self.crates:
+                for there, alias in names:
+                    if alias == name:
+                        return self.imported(match.group(1), match.group(2), there)
+        return None

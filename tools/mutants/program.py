@@ -13,8 +13,9 @@ CONSTANTS = {'true': 'True', 'false': 'False', '[]': '()', 'zero': '0', 'Unit': 
 BINARY = {
     '+': '({} + {})', '-': 'minus({}, {})', '*': '({} * {})', '/': 'divided({}, {})',
     '%': 'remainder({}, {})', '^': 'power({}, {})', '&&': '({} and {})', '||': '({} or {})',
-    '∷': 'cons({}, {})', '++': 'append({}, {})', '≡': '({} == {})', '<': '({} < {})',
-    '≤': '({} <= {})', '×': '({} and {})', '↔': '(bool({}) == bool({}))', '→': '((not {}) or {})',
+    '∷': 'cons({}, {})', '++': 'append({}, {})', '≡': '({} == {})', '≢': '({} != {})',
+    '==': '({} == {})', '<': '({} < {})', '≤': '({} <= {})', '×': '({} and {})',
+    '↔': '(bool({}) == bool({}))', '→': '((not {}) or {})',
 }
 
 
@@ -24,12 +25,12 @@ def which(test: Function, count: int, first: int) -> Value:
 
 # Recursion over a string, over memory and over all addresses: computed at once instead.
 AT_ONCE: Dict[Tuple[str, str], Callable[..., Value]] = {
-    ('Rows', 'withWord'): values.put,
+    ('Rows', 'with_word'): values.put,
     ('Registers', 'which'): which,
-    ('Characters', 'codesIn'): lambda text: tuple(map(ord, text)),
+    ('Characters', 'codes_in'): lambda text: tuple(map(ord, text)),
 }
 # Runs by their last step ask for the same run again and again, and steps for the same words.
-REMEMBERED = ('runBy', 'loggedRunBy', 'nextStepBy', 'entriesBy', 'readOf')
+REMEMBERED = ('run_by', 'logged_run_by', 'next_step_by', 'entries_by', 'read_of')
 
 Names = Dict[str, str]
 Sampler = Callable[[List[Tuple[str, str]], Callable[..., Value]], bool]

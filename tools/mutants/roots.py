@@ -20,7 +20,7 @@ LEFT_OUT = ('monitor', 'sitting', 'monitor_examples', 'sitting_examples')
 # Of the monitor its words are not altered: they are a program, and what it does is proved of its
 # routines. Its table of vectors and its calls are.
 PROGRAM = 'Routines'
-GHOST = re.compile(r'ghost use Rattle·(\w+)(?:·specs\.specs|\.specs)\.(\w+)\.\{([^}]*)\}')
+GHOST = re.compile(r'ghost use Rattle\.(\w+)\.specs\.(\w+)\.\{([^}]*)\}')
 
 
 def named_by_contracts(repository: Repository) -> Iterator[Meaning]:
@@ -30,6 +30,8 @@ def named_by_contracts(repository: Repository) -> Iterator[Meaning]:
             if 'extern "C"' not in code:
                 continue
             for source, module, names in GHOST.findall(code):
+                if source not in repository.crates:
+                    continue                   # a library's
                 scope = repository.modules[source, module].scope
                 called = [name.strip() for name in names.split(',')]
                 yield from (scope[name] for name in called if name in scope)

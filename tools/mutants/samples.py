@@ -39,7 +39,7 @@ NUMBERS: Dict[str, Sequence[int]] = {
     'origin': [0, 0x30FE, 0x3000, 0xFDFF, 0xFFFF, 65536],
     'status': STATUS, 'psr': [0, 2, 0x8002, 0x8304, 0x0701],
     'high': [0, 1, 0x30, 0xFD, 0xFF], 'low': [0, 1, 0xFF], 'clock': [0, 5],
-    'userStack': [0x1234, 0xFDFF], 'index': [0, 1, 5, 0x81, 0x8001],
+    'user_stack': [0x1234, 0xFDFF], 'index': [0, 1, 5, 0x81, 0x8001],
     'm': [0, 1, 9, 10, 11, 99, 100, 101, 1024],
 }
 ROUTINES = ('getc', 'out', 'puts', 'input', 'putsp', 'halt', 'trap', 'exception', 'interrupt')

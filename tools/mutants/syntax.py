@@ -6,14 +6,16 @@ import re
 from dataclasses import dataclass, field
 from typing import Any, List, Optional, Tuple
 
-TOKEN = re.compile(r'\s+|--[^\n]*|"(?:[^"\\]|\\.)*"|[(){};,]|«[^»]*»|[^\s(){};,"]+')
+TOKEN = re.compile(r'\s+|--[^\n]*|"(?:[^"\\]|\\.)*"|[(){};,]|[^\s(){};,"]+')
+PART = re.compile(r'\.?[^.]+')
 NUMBER = re.compile(r'0x[0-9A-Fa-f]+|\d+')
 
 # Binary operators: how tightly they bind, and whether they group to the right, left or not at all.
 OPERATORS = {
-    '→': (2, 'r'), '↔': (4, 'r'), '×': (6, 'r'), '≡': (8, 'n'), '<': (8, 'n'), '≤': (8, 'n'),
-    '||': (10, 'r'), '&&': (12, 'r'), '∷': (14, 'r'), '++': (14, 'r'), '+': (16, 'l'),
-    '-': (16, 'l'), '*': (18, 'l'), '/': (18, 'l'), '%': (18, 'l'), '^': (20, 'r'),
+    '→': (2, 'r'), '↔': (4, 'r'), '×': (6, 'r'), '≡': (8, 'n'), '≢': (8, 'n'), '<': (8, 'n'),
+    '≤': (8, 'n'), '||': (10, 'r'), '&&': (12, 'r'), '==': (13, 'n'), '∷': (14, 'r'),
+    '++': (14, 'r'), '+': (16, 'l'), '-': (16, 'l'), '*': (18, 'l'), '/': (18, 'l'),
+    '%': (18, 'l'), '^': (20, 'r'),
 }
 CLOSING = (')', '}', ';', ',', '=', ':', 'in', 'where')
 
@@ -38,12 +40,18 @@ class Node:
     types: List[Node] = field(default_factory=list)
 
 
-def unquoted(token: Token) -> Token:
-    return Token(token.text.replace('«', '').replace('»', ''), token.start, token.end)
+def projections(token: Token) -> List[Token]:
+    """A word and the projections tight behind it, as in m.devices.busy: each is a token."""
+    found: List[Token] = []
+    start = token.start
+    for part in PART.findall(token.text):
+        found.append(Token(part, start, start + len(part)))
+        start += len(part)
+    return found
 
 
 def tokens(text: str, start: int, end: int) -> List[Token]:
-    """The tokens of a stretch of text. A projection of a quoted name, .«x», is one token."""
+    """The tokens of a stretch of text. The path of a `use` is one token."""
     found: List[Token] = []
     while start < end:
         match = TOKEN.match(text, start)
@@ -51,9 +59,9 @@ def tokens(text: str, start: int, end: int) -> List[Token]:
         word, begin, start = match.group(), start, match.end()
         if word.isspace() or word.startswith('--'):
             continue
-        if word.startswith('«') and found and found[-1].text == '.' and found[-1].end == begin:
-            begin, word = found.pop().start, '.' + word
-        found.append(unquoted(Token(word, begin, start)))
+        token = Token(word, begin, start)
+        whole = word[0] == '"' or word.endswith('.') or bool(found) and found[-1].text == 'use'
+        found += [token] if whole else projections(token)
     return found
 
 
@@ -169,11 +177,7 @@ class Parser:
             word = self.peek()
             if word is None or word in OPERATORS or word in CLOSING:
                 return function
-            if word.startswith('.') and len(word) > 1:
-                end = self.take().end
-                for name in word[1:].split('.'):
-                    function = Node('proj', name, [function], function.start, end)
-            elif word == '{':                  # a level, as in Unit {0}
+            if word == '{':                    # a level, as in Unit {0}
                 self.skip_braces()
             else:
                 argument = self.atom()
@@ -186,6 +190,14 @@ class Parser:
                 pass
 
     def atom(self) -> Node:
+        """The smallest expression, with the projections that stand tight behind it."""
+        node = self.simple()
+        while str(self.peek()).startswith('.') and self.words[self.at].start == node.end:
+            token = self.take()
+            node = Node('proj', token.text[1:], [node], node.start, token.end)
+        return node
+
+    def simple(self) -> Node:
         token = self.take()
         if token.text == '(':
             inner = self.expression()

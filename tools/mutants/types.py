@@ -53,7 +53,7 @@ class Typing:
     def of_binary(self, module: Module, node: Node, types: Types) -> Optional[str]:
         if node.value in '+-*/%^':
             return 'ℕ'
-        if node.value in ('&&', '||'):
+        if node.value in ('&&', '||', '=='):
             return 'Bool'
         if node.value == '∷':
             element = self.of(module, node.parts[0], types)
@@ -77,7 +77,7 @@ class Typing:
             return None
         if head.value == 'cond' and given == 3:
             return self.of(module, node.parts[2], types) or self.of(module, node.parts[3], types)
-        if head.value == 'getD' and given == 3:
+        if head.value in ('get_or', 'slice_index_or') and given == 3:
             return self.of(module, node.parts[3], types)
         signature = self.signature(module, head.value)
         return ' → '.join(signature[given:]) if signature and len(signature) > given else None

@@ -155,6 +155,14 @@ def signed(number: int) -> Case:
     return Case('pos', (number,)) if number >= 0 else Case('negsuc', (-1 - number,))
 
 
+def at_most(a: Case, b: Case) -> bool:
+    return integer(a) <= integer(b)
+
+
+def below(a: Case, b: Case) -> bool:
+    return integer(a) < integer(b)
+
+
 @dataclass(frozen=True)
 class Builtin:
     arity: int
@@ -170,24 +178,32 @@ BUILTINS: Dict[str, Builtin] = {
     'eqb': Builtin(2, lambda a, b: a == b, TEST),
     'leb': Builtin(2, lambda a, b: a <= b, TEST),
     'ltb': Builtin(2, lambda a, b: a < b, TEST),
+    'nat_eq': Builtin(2, lambda a, b: a == b, TEST),
+    'nat_le': Builtin(2, lambda a, b: a <= b, TEST),
+    'nat_lt': Builtin(2, lambda a, b: a < b, TEST),
     'not': Builtin(1, lambda a: not a, 'Bool → Bool'),
     'suc': Builtin(1, lambda a: a + 1, 'ℕ → ℕ'),
     'min': Builtin(2, min, SUM),
-    'bitAnd': Builtin(2, lambda a, b: a & b, SUM),
-    'bitXor': Builtin(2, lambda a, b: a ^ b, SUM),
+    'bit_and': Builtin(2, lambda a, b: a & b, SUM),
+    'bit_xor': Builtin(2, lambda a, b: a ^ b, SUM),
     'length': Builtin(1, len, 'List ℕ → ℕ'),
-    'getD': Builtin(3, get),
+    'get_or': Builtin(3, get),
+    'slice_index': Builtin(2, lambda values, at: get(values, at, 0), 'List ℕ → ℕ → ℕ'),
+    'slice_index_or': Builtin(3, get),
     'set': Builtin(3, put, 'List ℕ → ℕ → ℕ → List ℕ'),
+    'slice_set': Builtin(3, put, 'List ℕ → ℕ → ℕ → List ℕ'),
     'sets': Builtin(3, put_all, 'List ℕ → ℕ → List ℕ → List ℕ'),
     'take': Builtin(2, take, 'ℕ → List ℕ → List ℕ'),
     'drop': Builtin(2, drop, 'ℕ → List ℕ → List ℕ'),
     'replicate': Builtin(2, replicate),
     'map': Builtin(2, mapped),
     'cond': Builtin(3, lambda test, yes, no: yes if test else no),
-    'leZ': Builtin(2, lambda a, b: integer(a) <= integer(b), 'ℤ → ℤ → Bool'),
-    'ltZ': Builtin(2, lambda a, b: integer(a) < integer(b), 'ℤ → ℤ → Bool'),
-    'negℤ': Builtin(1, lambda a: signed(-integer(a)), 'ℤ → ℤ'),
+    'int_le': Builtin(2, at_most, 'ℤ → ℤ → Bool'),
+    'int_lt': Builtin(2, below, 'ℤ → ℤ → Bool'),
+    'le_z': Builtin(2, at_most, 'ℤ → ℤ → Bool'),
+    'lt_z': Builtin(2, below, 'ℤ → ℤ → Bool'),
+    'neg_ℤ': Builtin(1, lambda a: signed(-integer(a)), 'ℤ → ℤ'),
     'pos': Builtin(1, lambda n: Case('pos', (n,)), 'ℕ → ℤ'),
     'negsuc': Builtin(1, lambda n: Case('negsuc', (n,)), 'ℕ → ℤ'),
-    'areBytes': Builtin(1, lambda values: all(v < 256 for v in elements(values)), 'List ℕ → Bool'),
+    'are_bytes': Builtin(1, lambda values: all(v < 256 for v in elements(values)), 'List ℕ → Bool'),
 }
