@@ -14,7 +14,7 @@ import sys
 from collections import Counter
 from dataclasses import replace
 from pathlib import Path
-from typing import Dict, Iterator, List, Optional, Tuple
+from typing import Dict, Iterator, List, Optional, Set, Tuple
 
 from .alterations import Alteration, Alterer
 from .conditions import Conditions, allow_conditions
@@ -135,6 +135,14 @@ def judged(judge: Judge, alterations: Iterator[Alteration], chosen: argparse.Nam
                 yield verdict
 
 
+def not_asked(repository: Repository, extra: bool) -> Set[str]:
+    """What --extra alone alters, where it is not given."""
+    if extra:
+        return set()
+    every, asked = (set(map(str, all_alterations(repository, [], more))) for more in (True, False))
+    return every - asked
+
+
 def judge_all(chosen: argparse.Namespace) -> int:
     repository = Repository(chosen.root)
     if chosen.extra:
@@ -154,7 +162,7 @@ def judge_all(chosen: argparse.Namespace) -> int:
     for line in sorted(surviving - set(known)):
         print('survives:', line)
     if not chosen.names:
-        for line in sorted(set(known) - surviving):
+        for line in sorted(set(known) - surviving - not_asked(repository, chosen.extra)):
             print('in unchanged.txt, and survives no longer:', line)
     return 1 if surviving - set(known) else 0
 
