@@ -5,13 +5,11 @@ use Rattle.std.proofs.Common.{get_or, sym, refl, ap, ◌∙◌, ap₂, add-zero,
 use lib.Arith.{bin_ind}
 use lib.Bits.{differ, bit_and, bit_xor, xor_step, xor_self, xor_comm, xor_block, xor_add_and}
 use lib.Bits.{and_block, and_mask, and_comm}
-use Rattle.word.specs.Reading.{bits11to9, bits8to6, bit5, bit11, opcode, read_of}
-use Rattle.word.specs.Writing.{written, write_of}
+use Rattle.word.specs.Reading.{bits11to9, bits8to6, bit5, bit11, opcode}
 use Rattle.word.specs.FixedBits.{fixed_operand, fixed_jsr, fixed_forms, fixed_of}
 use Rattle.word.specs.Mask.{operand_mask, jsr_mask, masks, mask_of, operand_places, jsr_places, places, places_of}
 use Rattle.word.specs.Theorems.{WrittenDiffersInMaskedBits, WriteAfterReadByMask}
 use Rattle.word.specs.Theorems.{MaskInPlaces, ReadingIgnoresMaskedBits}
-use Rattle.word.specs.declared.Written.{Written}
 use Rattle.word.proofs.Opcodes.{Below, ◌&◌, each}
 use Rattle.word.proofs.WriteAfterRead.{top, write_after_read, write_after_read_exactly}
 use Rattle.word.proofs.WriteAfterRead.{reading_ignores_fixed_bits}
@@ -119,7 +117,7 @@ differs w h = each (Differs w) 16 cases (opcode w) (omega arith) refl
         & tt
 
 pub written_differs_in_masked_bits : WrittenDiffersInMaskedBits
-written_differs_in_masked_bits w h = ap (λ (r : Written). bit_xor r.word w) (write_after_read w h) ∙ differs w h
+written_differs_in_masked_bits w h = rw (write_after_read w h) (differs w h)
 
 pub write_after_read_by_mask : WriteAfterReadByMask
 write_after_read_by_mask w h =

@@ -10,7 +10,6 @@ use Rattle.word.specs.declared.Instruction.{Instruction}
 use Rattle.word.specs.declared.Instruction.TheVariants.{Br, AddRegister, AddImmediate, Ld, St, Jsr, Jsrr}
 use Rattle.word.specs.declared.Instruction.TheVariants.{AndRegister, AndImmediate, Ldr, Str, Rti, Not, Ldi, Sti}
 use Rattle.word.specs.declared.Instruction.TheVariants.{Jmp, Reserved, Lea, Trap}
-use Rattle.word.specs.declared.Written.{Written}
 use Rattle.word.proofs.SignedFields.{signed_fields_of_the_figure as fields}
 use Rattle.word.proofs.Opcodes.{form, read_as}
 use Rattle.word.proofs.Ranges.{written_in_range}
@@ -141,4 +140,4 @@ read_word (Trap trapvect8) r = trap trapvect8 r
 read_word (Reserved low12) r = reserved low12 r
 
 pub read_after_write : ReadAfterWrite
-read_after_write i r = ap (λ (x : Written). read_of x.word) (written_in_range i r) ∙ read_word i r
+read_after_write i r = rw (written_in_range i r) (read_word i r)

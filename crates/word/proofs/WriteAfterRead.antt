@@ -3,9 +3,11 @@
 use Rattle.std.proofs.Common.{◌≡◌, ℕ, ◌+◌, ◌-◌, ◌*◌, ◌/◌, ◌%◌, ◌<◌, Bool, true, false, cond, eqb, get_or, ℤ, sym, refl}
 use Rattle.std.proofs.Common.{ap, ◌∙◌, arith, eqb-true}
 use borrow.Author.Tests.{eqb-false}
+use Rattle.std.specs.Prelude.{Result, Ok}
+use Rattle.std.specs.Result.{result_unwrap_or}
 use Rattle.word.specs.Field.{field, bits}
 use Rattle.word.specs.Reading.{bits11to9, bits8to6, bits2to0, opcode, read_jsr, read_of}
-use Rattle.word.specs.Writing.{word_of, written, write_of}
+use Rattle.word.specs.Writing.{word_of}
 use Rattle.word.specs.Range.{InRange}
 use Rattle.word.specs.FixedBits.{fixed_operand, fixed_jsr, fixed_forms, fixed_of}
 use Rattle.word.specs.Theorems.{WriteAfterRead, WriteAfterReadExactly, ReadingIgnoresFixedBits}
@@ -14,11 +16,11 @@ use Rattle.word.specs.declared.Instruction.{Instruction}
 use Rattle.word.specs.declared.Instruction.TheVariants.{Br, AddRegister, AddImmediate, Ld, St, Jsr, Jsrr}
 use Rattle.word.specs.declared.Instruction.TheVariants.{AndRegister, AndImmediate, Ldr, Str, Rti, Not, Ldi, Sti}
 use Rattle.word.specs.declared.Instruction.TheVariants.{Jmp, Reserved, Lea, Trap}
-use Rattle.word.specs.declared.Written.{Written}
+use Rattle.word.specs.declared.WriteRefusal.{WriteRefusal}
 use Rattle.word.proofs.SignedFields.{signed_fields_of_the_figure as fields}
 use Rattle.word.proofs.Opcodes.{form, Below, ◌&◌, each}
 use Rattle.word.proofs.Ranges.{read_in_range, written_in_range}
-use Rattle.word.proofs.ReadAfterWrite.{read_word, read_after_write}
+use Rattle.word.proofs.ReadAfterWrite.{read_word}
 
 -- ---- each form, put together again from its parts
 with_pcoffset9 : (w k : ℕ) → opcode w ≡ k → k * 4096 + bits11to9 w * 512 + bits 256 (field 9 w) ≡ w
@@ -109,17 +111,19 @@ word_of_read w h = each (Back w) 16 cases (opcode w) (omega arith) refl
         & tt
 
 pub write_after_read : WriteAfterRead
-write_after_read w h = written_in_range (read_of w) (read_in_range w h) ∙ ap written (word_of_read w h)
+write_after_read w h = written_in_range (read_of w) (read_in_range w h) ∙ ap Ok (word_of_read w h)
 
 pub write_after_read_exactly : WriteAfterReadExactly
 write_after_read_exactly w h =
-    (λ e. ap (λ (r : Written). r.word) (sym (write_after_read w h) ∙ e), λ e. write_after_read w h ∙ ap written e)
+    (λ e. ap word_or_0 (sym (write_after_read w h) ∙ e), λ e. write_after_read w h ∙ ap Ok e)
+  where
+    word_or_0 : Result ℕ WriteRefusal → ℕ
+    word_or_0 r = result_unwrap_or r 0
 
 -- ---- fixed bits
 read_fixed : (w : ℕ) → w < 65536 → read_of (fixed_of w) ≡ read_of w
 read_fixed w h =
-    ap (λ (r : Written). read_of r.word) (sym (write_after_read w h))
-    ∙ read_after_write (read_of w) (read_in_range w h)
+    ap read_of (sym (word_of_read w h)) ∙ read_word (read_of w) (read_in_range w h)
 
 pub reading_ignores_fixed_bits : ReadingIgnoresFixedBits
 reading_ignores_fixed_bits v w p q e = sym (read_fixed v p) ∙ (ap read_of e ∙ read_fixed w q)
@@ -147,5 +151,4 @@ word_fits (Reserved low12) r = omega arith
 
 pub writing_sets_fixed_bits : WritingSetsFixedBits
 writing_sets_fixed_bits i r =
-    let e : (write_of i).word ≡ word_of i = ap (λ (x : Written). x.word) (written_in_range i r) in
-    rw e (sym (word_of_read (word_of i) (word_fits i r)) ∙ ap word_of (read_word i r))
+    rw (written_in_range i r) (sym (word_of_read (word_of i) (word_fits i r)) ∙ ap word_of (read_word i r))

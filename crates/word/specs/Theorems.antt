@@ -1,15 +1,16 @@
 -- What is proved of instruction words. Each statement is a type; its proof, of the same name in small letters, is in
 -- proofs/.
-use Rattle.std.specs.Prelude.{◌≡◌, ℕ, ◌+◌, ◌-◌, ◌%◌, ◌^◌, ◌<◌, ◌≤◌, true, false, cond, ◌↔◌, ℤ, pos, ◌≢◌, bit_and}
-use Rattle.std.specs.Prelude.{bit_xor, nat_lt}
+use Rattle.std.specs.Prelude.{◌≡◌, ℕ, ◌+◌, ◌-◌, ◌%◌, ◌^◌, ◌<◌, ◌≤◌, true, false, cond, ◌↔◌, ℤ, pos, bit_and}
+use Rattle.std.specs.Prelude.{bit_xor, nat_lt, Ok, IsOk, IsOkAnd, IsErrOf}
 use Rattle.word.specs.Field.{half, signed, field, bits}
 use Rattle.word.specs.Reading.{read_of}
-use Rattle.word.specs.Writing.{word_of, registers_in_range, field_in_range, mask_in_range, written, write_of}
+use Rattle.word.specs.Writing.{word_of, registers_in_range, field_in_range, mask_in_range, write_of}
 use Rattle.word.specs.Range.{Within, InRange}
 use Rattle.word.specs.FixedBits.{fixed_of}
 use Rattle.word.specs.Mask.{mask_of, places_of}
 use Rattle.word.specs.declared.Instruction.{Instruction}
 use Rattle.word.specs.declared.Instruction.TheVariants.{AddImmediate, Jmp}
+use Rattle.word.specs.declared.WriteRefusal.TheVariants.{Register, Field, BranchMask}
 
 -- The laws of signed fields of k bits.
 pub record FieldLaws (k : ℕ) : Type 0 where
@@ -43,26 +44,27 @@ ReadInRange = (w : ℕ) → w < 65536 → InRange (read_of w)
 
 -- Read after write gives the instruction back.
 abbrev pub ReadAfterWrite : Type 0
-ReadAfterWrite = (i : Instruction) → InRange i → read_of (write_of i).word ≡ i
+ReadAfterWrite = (i : Instruction) → InRange i → IsOkAnd (write_of i) (λ w. read_of w ≡ i)
 
 -- Write after read gives the word with its fixed bits as in the figure, and is never refused.
 abbrev pub WriteAfterRead : Type 0
-WriteAfterRead = (w : ℕ) → w < 65536 → write_of (read_of w) ≡ written (fixed_of w)
+WriteAfterRead = (w : ℕ) → w < 65536 → write_of (read_of w) ≡ Ok (fixed_of w)
 
 -- So it gives the word back exactly when its fixed bits were right.
 abbrev pub WriteAfterReadExactly : Type 0
-WriteAfterReadExactly = (w : ℕ) → w < 65536 → (write_of (read_of w) ≡ written w) ↔ (fixed_of w ≡ w)
+WriteAfterReadExactly = (w : ℕ) → w < 65536 → (write_of (read_of w) ≡ Ok w) ↔ (fixed_of w ≡ w)
 
 -- The word written after reading differs from the word in exactly the masked bits: the mask is their exclusive or.
 abbrev pub WrittenDiffersInMaskedBits : Type 0
-WrittenDiffersInMaskedBits = (w : ℕ) → w < 65536 → bit_xor (write_of (read_of w)).word w ≡ mask_of w
+WrittenDiffersInMaskedBits =
+    (w : ℕ) → w < 65536 → IsOkAnd (write_of (read_of w)) (λ v. bit_xor v w ≡ mask_of w)
 
 -- The mask is 0 exactly where the fixed bits were right, and so exactly where write after read gives the word back.
 abbrev pub MaskIsZeroExactly : Type 0
 MaskIsZeroExactly = (w : ℕ) → w < 65536 → (mask_of w ≡ 0) ↔ (fixed_of w ≡ w)
 
 abbrev pub WriteAfterReadByMask : Type 0
-WriteAfterReadByMask = (w : ℕ) → w < 65536 → (write_of (read_of w) ≡ written w) ↔ (mask_of w ≡ 0)
+WriteAfterReadByMask = (w : ℕ) → w < 65536 → (write_of (read_of w) ≡ Ok w) ↔ (mask_of w ≡ 0)
 
 -- The mask has bits only where the figure fixes bits.
 abbrev pub MaskInPlaces : Type 0
@@ -80,31 +82,28 @@ ReadingIgnoresFixedBits = (v w : ℕ) → v < 65536 → w < 65536 → fixed_of v
 
 -- Writing sets them as in the figure.
 abbrev pub WritingSetsFixedBits : Type 0
-WritingSetsFixedBits = (i : Instruction) → InRange i → fixed_of (write_of i).word ≡ (write_of i).word
+WritingSetsFixedBits = (i : Instruction) → InRange i → IsOkAnd (write_of i) (λ w. fixed_of w ≡ w)
 
--- An instruction is written, with its word of the figure and 0, exactly when every part is in range.
+-- An instruction is written, with its word of the figure, exactly when every part is in range.
 abbrev pub WrittenInRange : Type 0
-WrittenInRange = (i : Instruction) → InRange i → write_of i ≡ written (word_of i)
+WrittenInRange = (i : Instruction) → InRange i → write_of i ≡ Ok (word_of i)
 
 abbrev pub NotRefusedExactly : Type 0
-NotRefusedExactly = (i : Instruction) → ((write_of i).refusal ≡ 0) ↔ InRange i
+NotRefusedExactly = (i : Instruction) → IsOk (write_of i) ↔ InRange i
 
--- The refusals, each exactly where M11.3 has it: 1 if a register is above 7, else 2 if a signed field, trap
--- vector or reserved field is out of range, else 3 if the BR mask is above 7, and 0 in every other case.
+-- The refusals, each exactly where M11.3 has it: of a register if one is above 7, else of the field if a signed field,
+-- trap vector or reserved field is out of range, else of the mask if that of a BR is above 7, and none in every other
+-- case.
 pub record RefusalsOf (i : Instruction) : Type 0 where
-  pub register : ((write_of i).refusal ≡ 1) ↔ (registers_in_range i ≡ false)
-  pub field : ((write_of i).refusal ≡ 2) ↔ ((registers_in_range i ≡ true) × (field_in_range i ≡ false))
-  pub mask : ((write_of i).refusal ≡ 3) ↔
+  pub register : IsErrOf (write_of i) Register ↔ (registers_in_range i ≡ false)
+  pub field : IsErrOf (write_of i) Field ↔ ((registers_in_range i ≡ true) × (field_in_range i ≡ false))
+  pub mask : IsErrOf (write_of i) BranchMask ↔
       ((registers_in_range i ≡ true) × (field_in_range i ≡ true) × (mask_in_range i ≡ false))
-  pub none : ((write_of i).refusal ≡ 0) ↔ ((registers_in_range i ≡ true) × (field_in_range i ≡ true)
+  pub none : IsOk (write_of i) ↔ ((registers_in_range i ≡ true) × (field_in_range i ≡ true)
       × (mask_in_range i ≡ true))
 
 abbrev pub RefusalsInOrder : Type 0
 RefusalsInOrder = (i : Instruction) → RefusalsOf i
-
--- A refused write answers word 0.
-abbrev pub RefusedWordIsZero : Type 0
-RefusedWordIsZero = (i : Instruction) → ((write_of i).refusal ≢ 0) → (write_of i).word ≡ 0
 
 -- M15.1: x14E7 reads as ADD R2, R3, #7.
 abbrev pub Example1 : Type 0
@@ -112,4 +111,4 @@ Example1 = read_of 0x14E7 ≡ AddImmediate 2 3 (pos 7)
 
 -- RET, xC1C0 in the figure, is JMP R7.
 abbrev pub RetIsJmpR7 : Type 0
-RetIsJmpR7 = (read_of 0xC1C0 ≡ Jmp 7) × (write_of (Jmp 7) ≡ written 0xC1C0)
+RetIsJmpR7 = (read_of 0xC1C0 ≡ Jmp 7) × (write_of (Jmp 7) ≡ Ok 0xC1C0)

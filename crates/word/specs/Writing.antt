@@ -1,11 +1,12 @@
 -- What an instruction is written as: its word in Figure A.2, or its refusal.
-use Rattle.std.specs.Prelude.{ℕ, ◌+◌, ◌*◌, Bool, true, cond, ◌&&◌, List, [], ◌∷◌, ◌==◌, nat_lt}
+use Rattle.std.specs.Prelude.{ℕ, ◌+◌, ◌*◌, Bool, true, cond, ◌&&◌, List, [], ◌∷◌, nat_lt, Result, Ok, Err}
 use Rattle.word.specs.Field.{half, bits, within}
 use Rattle.word.specs.declared.Instruction.{Instruction}
 use Rattle.word.specs.declared.Instruction.TheVariants.{Br, AddRegister, AddImmediate, Ld, St, Jsr, Jsrr}
 use Rattle.word.specs.declared.Instruction.TheVariants.{AndRegister, AndImmediate, Ldr, Str, Rti, Not, Ldi, Sti}
 use Rattle.word.specs.declared.Instruction.TheVariants.{Jmp, Reserved, Lea, Trap}
-use Rattle.word.specs.declared.Written.{Written}
+use Rattle.word.specs.declared.WriteRefusal.{WriteRefusal}
+use Rattle.word.specs.declared.WriteRefusal.TheVariants.{Register, Field, BranchMask}
 
 -- Figure A.2, row by row: the opcode with the fixed bits, then a register or the BR mask at bit 9 (512), a register at
 -- bit 6 (64), and a register or the field at bit 0. RET, the figure's row JMP with BaseR 111, is Jmp 7
@@ -106,24 +107,17 @@ mask_in_range (Str sr base offset6) = true
 mask_in_range (Trap trapvect8) = true
 mask_in_range (Reserved low12) = true
 
--- 1 if a register is above 7, else 2 if the field is out of range, else 3 if the mask is above 7, else 0
-abbrev pub refusal : Bool → Bool → Bool → ℕ
-refusal registersRight fieldRight maskRight = cond registersRight (cond fieldRight (cond maskRight 0 3) 2) 1
-
-abbrev pub refusal_of : Instruction → ℕ
-refusal_of i = refusal (registers_in_range i) (field_in_range i) (mask_in_range i)
-
--- the answers: a word, or a refusal with word 0
-abbrev pub written : ℕ → Written
-written w = record { word = w; refusal = 0 }
-
-abbrev pub refused : ℕ → Written
-refused r = record { word = 0; refusal = r }
-
--- the word with 0 where nothing refuses it, else word 0 with the refusal
-abbrev pub answer : ℕ → ℕ → Written
-answer r w = cond (r == 0) (written w) (refused r)
+-- the word where nothing refuses it, else the refusal: of a register, else of the field, else of the mask
+abbrev pub answer : Bool → Bool → Bool → ℕ → Result ℕ WriteRefusal
+answer registersRight fieldRight maskRight w =
+    cond registersRight (cond fieldRight (cond maskRight (Ok w) (Err BranchMask)) (Err Field)) (Err Register)
 
 -- what `write` answers
-unfoldable pub write_of : Instruction → Written
-write_of i = answer (refusal_of i) (word_of i)
+unfoldable pub write_of : Instruction → Result ℕ WriteRefusal
+write_of i = answer (registers_in_range i) (field_in_range i) (mask_in_range i) (word_of i)
+
+-- 1 where a register is above 7, 2 where the field is out of range, 3 where the mask is above 7
+abbrev pub refusal_number : WriteRefusal → ℕ
+refusal_number Register = 1
+refusal_number Field = 2
+refusal_number BranchMask = 3

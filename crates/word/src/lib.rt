@@ -2,13 +2,16 @@
 // The forms are those of Figure A.2; names of fields are the figure's.
 #![tactic(auto)]
 
+ghost use Rattle.std.specs.Prelude.{◌≡◌};
+ghost use Rattle.word.specs.Writing.{refusal_number};
+
 pub mod fields;
 pub mod masks;
 pub mod reading;
 
 // An instruction, one variant for each form of Figure A.2, in the order of the opcodes.
 // Registers and the BR mask are u8; signed fields are signed numbers.
-#[derive(Clone, Copy)]
+#[derive(Clone, Copy, Debug, PartialEq, Eq)]
 pub enum Instruction {
     // BR: the mask n, z, p (4 for n, 2 for z, 1 for p) and PCoffset9
     Br(u8, i16),
@@ -57,10 +60,25 @@ pub struct Read {
     pub mask: u16,
 }
 
-// What `writing::write` answers: the word and 0, or word 0 and the reason of the refusal:
-// 1 a register above 7, 2 a field out of range, 3 a BR mask above 7.
-#[derive(Clone, Copy)]
-pub struct Written {
-    pub word: u16,
-    pub refusal: u8,
+// Why `writing::write` writes no word; the first of these that applies (M11.3). A host gets its number.
+#[derive(Clone, Copy, Debug, PartialEq, Eq)]
+pub enum WriteRefusal {
+    // 1: a register above 7
+    Register,
+    // 2: a signed field, trap vector or reserved field out of range
+    Field,
+    // 3: a BR mask above 7
+    BranchMask,
+}
+
+impl From<WriteRefusal> for u32 {
+    ghost from_gives = { λ refusal number. number ≡ refusal_number refusal };
+
+    fn from(refusal: WriteRefusal) -> u32 {
+        match refusal {
+            WriteRefusal::Register => 1,
+            WriteRefusal::Field => 2,
+            WriteRefusal::BranchMask => 3,
+        }
+    }
 }
