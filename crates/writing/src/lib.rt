@@ -1,18 +1,20 @@
 // Writing an instruction as a word (M4.6, M11.3). An instruction with a
-// part out of range is refused with word 0; bits that Figure A.2 fixes are set as in the figure.
+// part out of range is refused; bits that Figure A.2 fixes are set as in the figure.
 #![tactic(auto)]
 
-ghost use Rattle.std.specs.Prelude.{◌≡◌, ◌≤◌};
-ghost use Rattle.word.specs.Writing.{write_of, refused};
+ghost use Rattle.std.specs.Prelude.{◌≡◌, ◌≤◌, ◌<◌, MatchResult};
+ghost use Rattle.word.specs.Writing.{write_of};
+ghost use Rattle.word.specs.declared.WriteRefusal.TheVariants.{Register};
 ghost use Rattle.writing.specs.Encoding.{field_form, registers_form, number_form, branch_form};
 
 use word::fields::{size, truncate};
-use word::{Instruction, Written};
+use word::{Instruction, WriteRefusal};
 
 // The word of an instruction, or its refusal. The first argument of each encoder is the opcode
 // with the fixed bits of Figure A.2. Where a form lacks a register, 0 stands for it, and where it
 // lacks a field, the number 0 in a field of half 1.
-pub fn write(i: Instruction) -> Written
+#[tactic(auto, unfolding(word::specs::Writing::write_of))]
+pub fn write(i: Instruction) -> Result<u16, WriteRefusal>
     ensures { result ≡ write_of i }
 {
     match i {
@@ -27,10 +29,7 @@ pub fn write(i: Instruction) -> Written
         Instruction::AndImmediate(dr, sr1, imm5) => encode_field(0x5020, dr, sr1, 16, imm5),
         Instruction::Ldr(dr, base, offset6) => encode_field(0x6000, dr, base, 32, offset6),
         Instruction::Str(sr, base, offset6) => encode_field(0x7000, sr, base, 32, offset6),
-        Instruction::Rti => Written {
-            word: 0x8000,
-            refusal: 0,
-        },
+        Instruction::Rti => Ok(0x8000),
         Instruction::Not(dr, sr) => encode_field(0x903F, dr, sr, 1, 0),
         Instruction::Ldi(dr, pcoffset9) => encode_field(0xA000, dr, 0, 256, pcoffset9),
         Instruction::Sti(sr, pcoffset9) => encode_field(0xB000, sr, 0, 256, pcoffset9),
@@ -42,71 +41,66 @@ pub fn write(i: Instruction) -> Written
 }
 
 // A register at bit 9, one at bit 6, and a signed field of the given half at bit 0.
-fn encode_field(fixed: u16, bits11to9: u8, bits8to6: u8, half: u16, n: i16) -> Written
+fn encode_field(
+    fixed: u16,
+    bits11to9: u8,
+    bits8to6: u8,
+    half: u16,
+    n: i16,
+) -> Result<u16, WriteRefusal>
     requires { (fixed ≤ 0xE000) × (half ≤ 1024) }
     ensures { result ≡ field_form fixed bits11to9 bits8to6 half n }
 {
-    if 7 < bits11to9 {
-        return refuse(1);
-    }
-    if 7 < bits8to6 {
-        return refuse(1);
-    }
+    let high = fixed + register(bits11to9)? * 512 + register(bits8to6)? * 64;
     if half <= size(n) {
-        return refuse(2);
+        return Err(WriteRefusal::Field);
     }
-    let word = fixed + (bits11to9 as u16) * 512 + (bits8to6 as u16) * 64 + truncate(n, half);
-    Written { word, refusal: 0 }
+    Ok(high + truncate(n, half))
 }
 
 // Registers at bits 9, 6 and 0.
-fn encode_registers(fixed: u16, bits11to9: u8, bits8to6: u8, bits2to0: u8) -> Written
+fn encode_registers(
+    fixed: u16,
+    bits11to9: u8,
+    bits8to6: u8,
+    bits2to0: u8,
+) -> Result<u16, WriteRefusal>
     requires { fixed ≤ 0xE000 }
     ensures { result ≡ registers_form fixed bits11to9 bits8to6 bits2to0 }
 {
-    if 7 < bits11to9 {
-        return refuse(1);
-    }
-    if 7 < bits8to6 {
-        return refuse(1);
-    }
-    if 7 < bits2to0 {
-        return refuse(1);
-    }
-    let word = fixed + (bits11to9 as u16) * 512 + (bits8to6 as u16) * 64 + (bits2to0 as u16);
-    Written { word, refusal: 0 }
+    Ok(fixed + register(bits11to9)? * 512 + register(bits8to6)? * 64 + register(bits2to0)?)
 }
 
 // A number below the limit at bit 0: the trap vector and the reserved field.
-fn encode_number(fixed: u16, limit: u16, n: u16) -> Written
+fn encode_number(fixed: u16, limit: u16, n: u16) -> Result<u16, WriteRefusal>
     requires { (fixed ≤ 0xF000) × (limit ≤ 4096) }
     ensures { result ≡ number_form fixed limit n }
 {
     if limit <= n {
-        return refuse(2);
+        return Err(WriteRefusal::Field);
     }
-    let word = fixed + n;
-    Written { word, refusal: 0 }
+    Ok(fixed + n)
 }
 
 // BR: the mask at bit 9 and PCoffset9 at bit 0; the field is tested before the mask.
-fn encode_branch(mask: u8, pcoffset9: i16) -> Written
+fn encode_branch(mask: u8, pcoffset9: i16) -> Result<u16, WriteRefusal>
     ensures { result ≡ branch_form mask pcoffset9 }
 {
-    let magnitude = size(pcoffset9);
-    if 256 <= magnitude {
-        return refuse(2);
+    if 256 <= size(pcoffset9) {
+        return Err(WriteRefusal::Field);
     }
     if 7 < mask {
-        return refuse(3);
+        return Err(WriteRefusal::BranchMask);
     }
-    let word = (mask as u16) * 512 + truncate(pcoffset9, 256);
-    Written { word, refusal: 0 }
+    Ok((mask as u16) * 512 + truncate(pcoffset9, 256))
 }
 
-// The answer to a refused write: word 0, and the reason.
-fn refuse(refusal: u8) -> Written
-    ensures { result ≡ refused refusal }
+// A register for a word, which has three bits for each.
+fn register(r: u8) -> Result<u16, WriteRefusal>
+    ensures { MatchResult result (λ bits. (r < 8) × (bits ≡ r)) (λ refusal. (8 ≤ r) × (refusal ≡ Register)) }
 {
-    Written { word: 0, refusal }
+    if 7 < r {
+        return Err(WriteRefusal::Register);
+    }
+    Ok(r as u16)
 }
