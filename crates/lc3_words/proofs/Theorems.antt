@@ -3,30 +3,31 @@
 use Prim.Native.Nat.{ℕ, zero-le, ◌≤◌, ◌<◌}
 use native.Mathlib.Omega.{arith}
 use mathlib.Core.Path.{◌≡◌, refl, sym, ap, ◌∙◌}
-use mathlib.Core.Bool.{Bool, true, false, cond, ◌&&◌}
-use lib.Dec.{ltb, eqb}
+use mathlib.Core.Bool.{Bool, true, false, ◌&&◌}
+use lib.Dec.{ltb}
 use lib.ListN.{get_or}
 use lib.IntN.{ℤ, pos, negsuc}
 use lib.Bits.{bit_xor}
-use borrow.Author.Tests.{le-ltb, le-leb, eqb-true}
+use borrow.Author.Tests.{le-ltb, le-leb}
+use Rattle.std.specs.Prelude.{◌≢◌, Result, Ok, Err}
 use Rattle.word.specs.Reading.{read_of}
-use Rattle.word.specs.Writing.{word_of, registers_in_range, field_in_range, mask_in_range, refusal, written, refused}
-use Rattle.word.specs.Writing.{answer}
-use Rattle.word.specs.Writing.{refusal_of, write_of}
+use Rattle.word.specs.Writing.{word_of, registers_in_range, field_in_range, mask_in_range, answer, write_of}
 use Rattle.word.specs.declared.Instruction.{Instruction}
 use Rattle.word.specs.declared.Instruction.TheVariants.{Br, AddRegister, AddImmediate, Ld, St, Jsr, Jsrr, AndRegister}
 use Rattle.word.specs.declared.Instruction.TheVariants.{AndImmediate, Ldr, Str, Rti, Not, Ldi, Sti, Jmp, Reserved, Lea}
 use Rattle.word.specs.declared.Instruction.TheVariants.{Trap}
-use Rattle.word.proofs.ReadAfterWrite.{read_after_write}
+use Rattle.word.specs.declared.WriteRefusal.{WriteRefusal}
+use Rattle.word.proofs.Ranges.{written_in_range}
+use Rattle.word.proofs.ReadAfterWrite.{read_word}
 use Rattle.word.proofs.WriteAfterRead.{write_after_read}
 use Rattle.word.proofs.MaskBits.{written_differs_in_masked_bits}
 use Rattle.word.proofs.Opcodes.{Below, each, ◌&◌}
 use Rattle.lc3_words.specs.Flat.{flat_of}
 use Rattle.lc3_words.specs.Unflat.{kinds, form_of, unsigned, instruction_of}
 use Rattle.lc3_words.specs.Range.{below, value_ranges}
-use Rattle.lc3_words.specs.Writing.{host_answer, written_of}
+use Rattle.lc3_words.specs.Writing.{refusal, host_answer, flat_write_of, written_of}
 use Rattle.lc3_words.specs.Theorems.{FlatAndBack, FlatRoundTrip, FlatReadAfterWrite, FlatWriteAfterRead}
-use Rattle.lc3_words.specs.Theorems.{FlatWrittenDiffersInMaskedBits, KnownKind, UnknownKind, BeyondSixteenBits}
+use Rattle.lc3_words.specs.Theorems.{FlatWrittenDiffersInMaskedBits, KnownKind, UnknownKind, RefusedWordIsZero, BeyondSixteenBits}
 use Rattle.lc3_words.specs.declared.Lc3Written.{Lc3Written}
 use Rattle.lc3_words.proofs.ByKind.{known_kind_written, unknown_kind_refused}
 
@@ -62,24 +63,25 @@ flat_round_trip i = known_kind_written (flat_of i) (rows i).0
 
 pub flat_read_after_write : FlatReadAfterWrite
 flat_read_after_write i r =
-    ap (λ (x : Lc3Written). flat_of (read_of x.word)) (flat_round_trip i) ∙ ap flat_of (read_after_write i r)
+    ap (λ (x : Lc3Written). flat_of (read_of x.word)) (flat_round_trip i ∙ ap host_answer (written_in_range i r))
+    ∙ ap flat_of (read_word i r)
 
 pub flat_write_after_read : FlatWriteAfterRead
 flat_write_after_read w p = flat_round_trip (read_of w) ∙ ap host_answer (write_after_read w p)
 
 pub flat_written_differs_in_masked_bits : FlatWrittenDiffersInMaskedBits
 flat_written_differs_in_masked_bits w p =
-    ap (λ (x : Lc3Written). bit_xor x.word w) (flat_round_trip (read_of w)) ∙ written_differs_in_masked_bits w p
+    ap (λ (x : Lc3Written). bit_xor x.word w) (flat_write_after_read w p)
+    ∙ rw (write_after_read w p) at (written_differs_in_masked_bits w p)
 
 -- ---- refusals
 
 -- the refusal that an answer carries
-carried : (r w : ℕ) → (answer r w).refusal ≡ r
-carried r w = go (eqb r 0) refl
-  where
-    go : (t : Bool) → eqb r 0 ≡ t → (cond t (written w) (refused r)).refusal ≡ r
-    go true e = sym (eqb-true r 0 e)
-    go false e = refl
+carried : (a b c : Bool) (w : ℕ) → (host_answer (answer a b c w)).refusal ≡ refusal a b c
+carried false b c w = refl
+carried true false c w = refl
+carried true true false w = refl
+carried true true true w = refl
 
 -- a trap vector or reserved field is in range exactly when the value is
 unsigned_range : (limit : ℕ) (v : ℤ) → limit ≤ 65535 → ltb (unsigned v) limit ≡ below limit v
@@ -103,12 +105,20 @@ unfolding write_of
 known_kind f p =
     let i = instruction_of f in
     ap (λ (x : Lc3Written). x.refusal) (known_kind_written f p)
-    ∙ (carried (refusal_of i) (word_of i)
+    ∙ (carried (registers_in_range i) (field_in_range i) (mask_in_range i) (word_of i)
     ∙ ap (λ (t : Bool). refusal (registers_in_range i) t (mask_in_range i))
     (field_range f.kind f.a f.b f.c f.value p))
 
 pub unknown_kind : UnknownKind
 unknown_kind = unknown_kind_refused
+
+pub refused_word_is_zero : RefusedWordIsZero
+unfolding written_of
+refused_word_is_zero f = zero_word (flat_write_of f)
+  where
+    zero_word : (r : Result ℕ WriteRefusal) → ((host_answer r).refusal ≢ 0) → (host_answer r).word ≡ 0
+    zero_word (Ok w) h = absurd (h refl)
+    zero_word (Err e) h = refl
 
 pub beyond_sixteen_bits : BeyondSixteenBits
 unfolding written_of write_of

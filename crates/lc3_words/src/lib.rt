@@ -8,11 +8,10 @@ pub mod unflat;
 ghost use Rattle.std.specs.Prelude.{◌≡◌};
 ghost use Rattle.word.specs.Mask.{read_with_mask_of};
 ghost use Rattle.lc3_words.specs.Flat.{flat_read_of};
-ghost use Rattle.lc3_words.specs.Writing.{written_of};
+ghost use Rattle.lc3_words.specs.Writing.{flat_write_of, written_of};
 
-use flat::flatten;
-use unflat::{to_signed, to_unsigned, unflatten};
 use word::masks::read_with_mask;
+use word::{Read, WriteRefusal};
 use writing::write;
 
 // An instruction: its kind, 0 for BR to 18 for TRAP; a, b, c its registers (of a BR, a is the mask) in the order in
@@ -48,41 +47,31 @@ pub struct Lc3Written {
 pub fn lc3_read(word: u16) -> Lc3Reading
     ensures { result ≡ flat_read_of (read_with_mask_of word) }
 {
-    let read = read_with_mask(word);
-    let i = read.instruction;
-    let instruction = flatten(i);
+    let Read { instruction, mask } = read_with_mask(word);
     Lc3Reading {
-        instruction,
-        mask: read.mask,
+        instruction: instruction.into(),
+        mask,
     }
 }
 
 // The word of an instruction, or its refusal. Operands that the kind does not use are ignored. A kind after TRAP, 18,
 // is refused as a field out of range.
+#[tactic(auto, unfolding(crate::specs::Writing::written_of))]
 pub fn lc3_write(instruction: Lc3Instruction) -> Lc3Written
     ensures { result ≡ written_of instruction }
 {
-    let kind = instruction.kind;
-    if 18 < kind {
-        return Lc3Written {
+    match write_flat(instruction) {
+        Ok(word) => Lc3Written { word, refusal: 0 },
+        Err(refusal) => Lc3Written {
             word: 0,
-            refusal: 2,
-        };
+            refusal: refusal.into(),
+        },
     }
-    let value = instruction.value;
-    let signed = to_signed(value);
-    let unsigned = to_unsigned(value);
-    let i = unflatten(
-        kind,
-        instruction.a,
-        instruction.b,
-        instruction.c,
-        signed,
-        unsigned,
-    );
-    let written = write(i);
-    Lc3Written {
-        word: written.word,
-        refusal: written.refusal as u32,
-    }
+}
+
+#[tactic(auto, using(crate::proofs::ByKind::clamped_written))]
+fn write_flat(instruction: Lc3Instruction) -> Result<u16, WriteRefusal>
+    ensures { result ≡ flat_write_of instruction }
+{
+    write(instruction.try_into()?)
 }
