@@ -17,10 +17,9 @@ use Rattle.word.specs.declared.Instruction.{Instruction}
 use Rattle.word.specs.declared.Instruction.TheVariants.{Br, AddRegister, AddImmediate, Ld, St, Jsr, Jsrr, AndRegister}
 use Rattle.word.specs.declared.Instruction.TheVariants.{AndImmediate, Ldr, Str, Rti, Not, Ldi, Sti, Jmp, Reserved, Lea}
 use Rattle.word.specs.declared.Instruction.TheVariants.{Trap}
-use Rattle.word.specs.declared.Written.{Written}
 use Rattle.word.proofs.Opcodes.{Below, ◌&◌, each}
-use Rattle.word.proofs.Ranges.{read_in_range, written_in_range}
-use Rattle.word.proofs.WriteAfterRead.{write_after_read}
+use Rattle.word.proofs.Ranges.{read_in_range}
+use Rattle.word.proofs.WriteAfterRead.{word_of_read}
 use Rattle.text.specs.Characters.{space, dot, A, B, D, E, I, J, L, M, N, O, P, R, S, T, lower_n, lower_z, lower_p}
 use Rattle.text.specs.Operands.{register, digits, decimal, hex_byte}
 use Rattle.mnemonics.specs.Statement.{statement, fill_line, trap_line, branch_line}
@@ -168,11 +167,6 @@ instruction_back w (Sti sr pcoffset9) p r e = simp (digit_back, signed_back pcof
 instruction_back w (Str sr base offset6) p r e = simp (digit_back, signed_back offset6) e
 instruction_back w (Trap trapvect8) p r e = trap_back trapvect8 r ∙ e
 instruction_back w (Reserved low12) p r e = fill_back w p
-
--- a word with right fixed bits is what its instruction is written as
-word_of_read : (w : ℕ) → w < 65536 → word_of (read_of w) ≡ fixed_of w
-word_of_read w p =
-    ap (λ (x : Written). x.word) (sym (written_in_range (read_of w) (read_in_range w p)) ∙ write_after_read w p)
 
 pub line_back : (w : ℕ) → w < 65536 → assembled (line_of w) ≡ w
 unfolding line_of

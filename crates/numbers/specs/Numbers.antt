@@ -5,7 +5,6 @@ use Rattle.word.specs.declared.Instruction.{Instruction}
 use Rattle.word.specs.declared.Instruction.TheVariants.{Br, AddRegister, AddImmediate, Ld, St, Jsr, Jsrr, AndRegister}
 use Rattle.word.specs.declared.Instruction.TheVariants.{AndImmediate, Ldr, Str, Rti, Not, Ldi, Sti, Jmp, Reserved, Lea}
 use Rattle.word.specs.declared.Instruction.TheVariants.{Trap}
-use Rattle.word.specs.Writing.{refused, written}
 use Rattle.machine.specs.declared.Rule.{Rule}
 use Rattle.machine.specs.declared.Rule.TheVariants.{Instruction as Obeyed, Trap as Trapped, Privilege, Illegal, Access}
 use Rattle.machine.specs.declared.Rule.TheVariants.{Keyboard, Timer}
@@ -19,7 +18,7 @@ use Rattle.run.specs.Refusals.{ending_refusal, ending_index, ending_stop}
 use Rattle.logging.specs.declared.LoggedEnding.TheVariants.{Run, LogFull}
 use Rattle.logging.specs.LoggedCall.{logged_stop}
 use Rattle.lc3_words.specs.Flat.{flat, flat_of}
-use Rattle.lc3_words.specs.Writing.{host_answer, written_of}
+use Rattle.lc3_words.specs.Writing.{refused, written, written_of}
 
 -- Every ending of a run.
 abbrev pub endings : List Ending
@@ -121,12 +120,12 @@ pub record NumbersHold : Type 0 where
       ∷ flat 18 0 0 0 (pos 0x00A5)
       ∷ []
   -- the last kind that there is, and the first that there is none of
-  pub last_kind : written_of (flat 18 0 0 0 (pos 0x00A5)) ≡ host_answer (written 0xF0A5)
-  pub no_kind_19 : written_of (flat 19 0 0 0 (pos 0)) ≡ host_answer (refused 2)
+  pub last_kind : written_of (flat 18 0 0 0 (pos 0x00A5)) ≡ written 0xF0A5
+  pub no_kind_19 : written_of (flat 19 0 0 0 (pos 0)) ≡ refused 2
   -- what writing refuses: "1 if a register is above 7, else 2 if a signed field .. is out of range, else 3 if the BR
   -- mask is above 7"; a negative value is no trap vector and no reserved field
-  pub register_1 : written_of (flat 2 8 0 0 (pos 16)) ≡ host_answer (refused 1)
-  pub field_2 : written_of (flat 0 8 0 0 (pos 256)) ≡ host_answer (refused 2)
-  pub mask_3 : written_of (flat 0 8 0 0 (pos 255)) ≡ host_answer (refused 3)
-  pub negative_vector : written_of (flat 18 0 0 0 (negsuc 0)) ≡ host_answer (refused 2)
-  pub negative_reserved : written_of (flat 16 0 0 0 (negsuc 0)) ≡ host_answer (refused 2)
+  pub register_1 : written_of (flat 2 8 0 0 (pos 16)) ≡ refused 1
+  pub field_2 : written_of (flat 0 8 0 0 (pos 256)) ≡ refused 2
+  pub mask_3 : written_of (flat 0 8 0 0 (pos 255)) ≡ refused 3
+  pub negative_vector : written_of (flat 18 0 0 0 (negsuc 0)) ≡ refused 2
+  pub negative_reserved : written_of (flat 16 0 0 0 (negsuc 0)) ≡ refused 2

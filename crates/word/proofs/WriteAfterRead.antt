@@ -86,7 +86,7 @@ not w e = omega (arith, top w 9 e)
 abbrev Back : ℕ → ℕ → Type 0
 Back w k = opcode w ≡ k → word_of (form w k) ≡ get_or (fixed_forms w) k 0
 
-word_of_read : (w : ℕ) → w < 65536 → word_of (read_of w) ≡ fixed_of w
+pub word_of_read : (w : ℕ) → w < 65536 → word_of (read_of w) ≡ fixed_of w
 unfolding read_of fixed_of Below
 word_of_read w h = each (Back w) 16 cases (opcode w) (omega arith) refl
   where

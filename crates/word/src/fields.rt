@@ -62,13 +62,12 @@ pub fn truncate(n: i16, half: u16) -> u16
 pub fn word_of(n: i16) -> u16
     ensures { result ≡ bits 32768 n }
 {
-    let magnitude = size(n);
-    if n < 0 { 65535 - magnitude } else { magnitude }
+    n.cast_unsigned()
 }
 
 // An address or a register plus a signed field, modulo 65,536.
 pub fn offset(base: u16, n: i16) -> u16
     ensures { result ≡ (base + bits 32768 n) % 65536 }
 {
-    std::num::wrapping_add_u16(base, word_of(n))
+    base.wrapping_add_signed(n)
 }
