@@ -1,5 +1,5 @@
 -- The mask is 0 exactly for a word whose fixed bits are right: for each opcode, by linear arithmetic.
-use Rattle.std.proofs.Common.{◌≡◌, ℕ, ◌+◌, ◌-◌, ◌*◌, ◌/◌, ◌%◌, ◌<◌, Bool, true, false, cond, eqb, ◌↔◌, get_or, refl, ap}
+use Rattle.std.proofs.Common.{◌≡◌, ℕ, ◌+◌, ◌-◌, ◌*◌, ◌/◌, ◌%◌, Bool, true, false, cond, eqb, ◌↔◌, get_or, refl}
 use Rattle.std.proofs.Common.{arith, eqb-true}
 use Rattle.word.specs.Reading.{bits11to9, bits8to6, bit5, bit11, opcode}
 use Rattle.word.specs.FixedBits.{fixed_operand, fixed_jsr, fixed_forms, fixed_of}
@@ -7,44 +7,6 @@ use Rattle.word.specs.Mask.{operand_mask, jsr_mask, masks, mask_of}
 use Rattle.word.specs.Theorems.{MaskIsZeroExactly}
 use Rattle.word.proofs.Opcodes.{Below, ◌&◌, each}
 use Rattle.word.proofs.WriteAfterRead.{top}
-
--- ---- the mask by the opcode
-pub mask_as : (w k : ℕ) → opcode w ≡ k → mask_of w ≡ get_or (masks w) k 0
-unfolding mask_of
-mask_as w k e = ap (λ (o : ℕ). get_or (masks w) o 0) e
-
--- no fixed bits but for these opcodes
-abbrev Other : ℕ → Type 0
-Other k =
-    ((((((Unit {0} × (k ≡ 1 → ⊥)) × (k ≡ 4 → ⊥)) × (k ≡ 5 → ⊥)) × (k ≡ 8 → ⊥)) × (k ≡ 9 → ⊥)) × (k ≡ 12 → ⊥))
-    × (k ≡ 15 → ⊥)
-
-abbrev Nothing : ℕ → ℕ → Type 0
-Nothing w k = Other k → get_or (masks w) k 0 ≡ 0
-
-pub mask_nothing : (w : ℕ) → w < 65536 → Other (opcode w) → mask_of w ≡ 0
-unfolding mask_of Below
-mask_nothing w h = each (Nothing w) 16 cases (opcode w) (omega arith)
-  where
-    cases : Below (Nothing w) 16
-    cases =
-        (λ o. refl)
-        & (λ o. absurd (o.0.0.0.0.0.0.1 refl))
-        & (λ o. refl)
-        & (λ o. refl)
-        & (λ o. absurd (o.0.0.0.0.0.1 refl))
-        & (λ o. absurd (o.0.0.0.0.1 refl))
-        & (λ o. refl)
-        & (λ o. refl)
-        & (λ o. absurd (o.0.0.0.1 refl))
-        & (λ o. absurd (o.0.0.1 refl))
-        & (λ o. refl)
-        & (λ o. refl)
-        & (λ o. absurd (o.0.1 refl))
-        & (λ o. refl)
-        & (λ o. refl)
-        & (λ o. absurd (o.1 refl))
-        & tt
 
 -- ---- where it is 0
 -- bits 10 and 9 are bits 11 to 9 where bit 11 is 0
