@@ -21,8 +21,14 @@ impl TryFrom<Lc3Instruction> for Instruction {
             c,
             value,
         } = flat;
+        if 18 < kind {
+            return Err(WriteRefusal::Field);
+        }
         let n = i16::try_from(value).unwrap_or(32767);
-        let u = u16::try_from(value).unwrap_or(65535);
+        let u = match value {
+            0..=65535 => value as u16,
+            _ => 65535,
+        };
         Ok(match kind {
             0 => Instruction::Br(a, n),
             1 => Instruction::AddRegister(a, b, c),
@@ -42,8 +48,7 @@ impl TryFrom<Lc3Instruction> for Instruction {
             15 => Instruction::Jmp(a),
             16 => Instruction::Reserved(u),
             17 => Instruction::Lea(a, n),
-            18 => Instruction::Trap(u),
-            _ => return Err(WriteRefusal::Field),
+            _ => Instruction::Trap(u),
         })
     }
 }
