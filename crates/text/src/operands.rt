@@ -1,30 +1,56 @@
 // Operands as text: registers, signed fields in decimal, and numbers in hexadecimal.
 ghost use Rattle.std.specs.Prelude.{◌≡◌, ◌≤◌, ◌<◌, length};
 ghost use Rattle.text.specs.Operands.{register, decimal, signed_number, hex_digit, hex_byte};
-ghost use Rattle.text.specs.Placing.{Room, Put};
+ghost use Rattle.text.specs.Writing.{Fits, Wrote};
 
-use super::characters::{put, put_text};
+use super::characters::Writer;
 use word::fields::size;
 
-// R0 to R7.
-pub fn put_register(output: &mut [u8], at: usize, r: u8) -> usize
-    requires { (r < 8) × Room at (register r) output.old }
-    ensures { Put at (register r) output.old result output.new }
-{
-    let next = put(output, at, b'R');
-    put(output, next, b'0' + r)
-}
+impl<'a> Writer<'a> {
+    // R0 to R7.
+    pub fn put_register(&mut self, r: u8)
+        requires { (r < 8) × Fits self.old (register r) }
+        ensures { Wrote self.old (register r) self.new }
+    {
+        self.put(b'R');
+        self.put(b'0' + r);
+    }
 
-// The digits of n / 10, then that of n % 10.
-pub fn put_decimal(output: &mut [u8], at: usize, n: u16) -> usize
-    requires { Room at (decimal n) output.old }
-    ensures { Put at (decimal n) output.old result output.new }
-{
-    if n < 10 {
-        put(output, at, b'0' + n as u8)
-    } else {
-        let next = put_decimal(output, at, n / 10);
-        put(output, next, b'0' + (n % 10) as u8)
+    // The digits of n / 10, then that of n % 10.
+    pub fn put_decimal(&mut self, n: u16)
+        requires { Fits self.old (decimal n) }
+        ensures { Wrote self.old (decimal n) self.new }
+    {
+        if n < 10 {
+            self.put(b'0' + n as u8);
+        } else {
+            self.put_decimal(n / 10);
+            self.put(b'0' + (n % 10) as u8);
+        }
+    }
+
+    // # and the number, with a minus sign below zero.
+    pub fn put_number(&mut self, n: i16)
+        requires { Fits self.old (signed_number n) }
+        ensures { Wrote self.old (signed_number n) self.new }
+    {
+        let magnitude = size(n);
+        if n < 0 {
+            self.put_text(b"#-");
+            self.put_decimal(magnitude + 1);
+        } else {
+            self.put_text(b"#");
+            self.put_decimal(magnitude);
+        }
+    }
+
+    // Two hexadecimal digits.
+    pub fn put_hex(&mut self, n: u8)
+        requires { Fits self.old (hex_byte n) }
+        ensures { Wrote self.old (hex_byte n) self.new }
+    {
+        self.put(hex_digit(n / 16));
+        self.put(hex_digit(n % 16));
     }
 }
 
@@ -47,21 +73,6 @@ pub fn decimal_length(n: u16) -> usize
     5
 }
 
-// # and the number, with a minus sign below zero.
-pub fn put_number(output: &mut [u8], at: usize, n: i16) -> usize
-    requires { Room at (signed_number n) output.old }
-    ensures { Put at (signed_number n) output.old result output.new }
-{
-    let magnitude = size(n);
-    if n < 0 {
-        let next = put_text(output, at, b"#-");
-        put_decimal(output, next, magnitude + 1)
-    } else {
-        let next = put_text(output, at, b"#");
-        put_decimal(output, next, magnitude)
-    }
-}
-
 // How many characters `put_number` writes; few enough for any sum of lengths.
 pub fn number_length(n: i16) -> usize
     ensures { (result ≡ length (signed_number n)) × (result ≤ 32771) }
@@ -82,11 +93,3 @@ fn hex_digit(d: u8) -> u8
     if d < 10 { b'0' + d } else { b'A' + (d - 10) }
 }
 
-// Two hexadecimal digits.
-pub fn put_hex(output: &mut [u8], at: usize, n: u8) -> usize
-    requires { Room at (hex_byte n) output.old }
-    ensures { Put at (hex_byte n) output.old result output.new }
-{
-    let next = put(output, at, hex_digit(n / 16));
-    put(output, next, hex_digit(n % 16))
-}

@@ -1,6 +1,5 @@
 -- `line::putting::put_line` meets its contract: by the mask.
 use mathlib.Core.Path.{◌≡◌, sym, ◌∙◌}
-use borrow.Author.Rules.{rules}
 use Rattle.mnemonics.specs.Statement.{fill_line}
 use Rattle.line.specs.Line.{line_of}
 use Rattle.line.specs.Shapes.{proper_line}
