@@ -1,4 +1,5 @@
 // The line of a word put at a place of the output: each character goes straight to its place.
+ghost use Rattle.text.specs.Placing.{Room, Put};
 ghost use Rattle.text.specs.Writing.{Fits, Wrote};
 ghost use Rattle.line.specs.Line.{line_of};
 ghost use Rattle.line.specs.Shapes.{proper_line, relative_line, based_line, operate_line};
@@ -12,8 +13,19 @@ use text::characters::Writer;
 use word::fields::{bits2to0, bits8to6, bits11to9, extend};
 use word::masks::mask;
 
+// The line of a word, by a writer of its own: where it stays in this call the writer is kept in registers, and a line
+// takes 30 instructions less.
+pub fn put_line(output: &mut [u8], at: usize, word: u16) -> usize
+    requires { Room at (line_of word) output.old }
+    ensures { Put at (line_of word) output.old result output.new }
+{
+    let mut writer = Writer { output, at };
+    put_word(&mut writer, word);
+    writer.at
+}
+
 // A word with wrong fixed bits is data.
-pub fn put_line(writer: &mut Writer, word: u16)
+fn put_word(writer: &mut Writer, word: u16)
     requires { Fits writer.old (line_of word) }
     ensures { Wrote writer.old (line_of word) writer.new }
 {
@@ -50,6 +62,7 @@ fn put_proper(writer: &mut Writer, word: u16)
 }
 
 // LD, LDI, LEA, ST and STI.
+#[inline(always)]
 fn put_relative(writer: &mut Writer, mnemonic: &[u8], word: u16)
     requires { Fits writer.old (relative_line mnemonic.now word) }
     ensures { Wrote writer.old (relative_line mnemonic.now word) writer.new }
@@ -58,6 +71,7 @@ fn put_relative(writer: &mut Writer, mnemonic: &[u8], word: u16)
 }
 
 // LDR and STR.
+#[inline(always)]
 fn put_based(writer: &mut Writer, mnemonic: &[u8], word: u16)
     requires { Fits writer.old (based_line mnemonic.now word) }
     ensures { Wrote writer.old (based_line mnemonic.now word) writer.new }
@@ -66,6 +80,7 @@ fn put_based(writer: &mut Writer, mnemonic: &[u8], word: u16)
 }
 
 // ADD and AND.
+#[inline(always)]
 fn put_operate(writer: &mut Writer, mnemonic: &[u8], word: u16)
     requires { Fits writer.old (operate_line mnemonic.now word) }
     ensures { Wrote writer.old (operate_line mnemonic.now word) writer.new }
@@ -78,6 +93,7 @@ fn put_operate(writer: &mut Writer, mnemonic: &[u8], word: u16)
 }
 
 // A BR that tests nothing is data.
+#[inline(always)]
 fn put_br(writer: &mut Writer, word: u16)
     requires { Fits writer.old (br_line word) }
     ensures { Wrote writer.old (br_line word) writer.new }
@@ -91,6 +107,7 @@ fn put_br(writer: &mut Writer, word: u16)
 }
 
 // JSRR and JSR.
+#[inline(always)]
 fn put_call(writer: &mut Writer, word: u16)
     requires { Fits writer.old (call_line word) }
     ensures { Wrote writer.old (call_line word) writer.new }
@@ -103,6 +120,7 @@ fn put_call(writer: &mut Writer, word: u16)
 }
 
 // JMP R7 is RET.
+#[inline(always)]
 fn put_jump(writer: &mut Writer, word: u16)
     requires { Fits writer.old (jump_line word) }
     ensures { Wrote writer.old (jump_line word) writer.new }
@@ -116,6 +134,7 @@ fn put_jump(writer: &mut Writer, word: u16)
 }
 
 // NOT.
+#[inline(always)]
 fn put_not(writer: &mut Writer, word: u16)
     requires { Fits writer.old (not_line word) }
     ensures { Wrote writer.old (not_line word) writer.new }

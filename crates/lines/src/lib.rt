@@ -8,7 +8,6 @@ ghost use Rattle.line.specs.Line.{line_of};
 use lent::Refusal;
 use line::lengths::line_length;
 use line::putting::put_line;
-use text::characters::Writer;
 
 pub mod page;
 
@@ -19,9 +18,7 @@ pub fn line(word: u16, output: &mut [u8]) -> Result<usize, Refusal>
     if !fits(word, output.len()) {
         return Err(Refusal::NoRoom);
     }
-    let mut writer = Writer { output, at: 0 };
-    put_line(&mut writer, word);
-    Ok(writer.at)
+    Ok(put_line(output, 0, word))
 }
 
 // Whether the line of a word fits so many bytes. No line is longer than 17, so most calls need not ask for its length.

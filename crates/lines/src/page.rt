@@ -7,7 +7,6 @@ ghost use Rattle.lines.specs.Page.{lines_of, range_of, page_of};
 use lent::Refusal;
 use line::lengths::line_length;
 use line::putting::put_line;
-use text::characters::Writer;
 
 // The lines of `count` words from `first` on, from the output's start; the rest stays as lent. A page that is turned
 // away leaves the output untouched.
@@ -59,9 +58,9 @@ fn put_lines(words: &[u16], output: &mut [u8]) -> usize
     requires { length (lines_of words.now) ≤ length output.old }
     ensures { Put 0 (lines_of words.now) output.old result output.new }
 {
-    let mut writer = Writer { output, at: 0 };
+    let mut at = 0;
     for word in words {
-        put_line(&mut writer, *word);
+        at = put_line(output, at, *word);
     }
-    writer.at
+    at
 }

@@ -11,6 +11,7 @@ ghost use Rattle.text.specs.Writing.{Fits, Wrote};
 use text::characters::Writer;
 
 // A separator and a register.
+#[inline(always)]
 fn put_operand(writer: &mut Writer, separator: &[u8], r: u8)
     requires { (r < 8) × Fits writer.old (separator.now ++ register r) }
     ensures { Wrote writer.old (separator.now ++ register r) writer.new }
@@ -20,6 +21,7 @@ fn put_operand(writer: &mut Writer, separator: &[u8], r: u8)
 }
 
 // A separator, a signed field, and the line feed.
+#[inline(always)]
 fn put_last_number(writer: &mut Writer, separator: &[u8], n: i16)
     requires { Fits writer.old (separator.now ++ (signed_number n ++ line_feed ∷ [])) }
     ensures { Wrote writer.old (separator.now ++ (signed_number n ++ line_feed ∷ [])) writer.new }
@@ -30,6 +32,7 @@ fn put_last_number(writer: &mut Writer, separator: &[u8], n: i16)
 }
 
 // JMP and JSRR.
+#[inline(always)]
 pub fn put_one(writer: &mut Writer, mnemonic: &[u8], a: u8)
     requires { (a < 8) × Fits writer.old (statement mnemonic.now (register a ∷ [])) }
     ensures { Wrote writer.old (statement mnemonic.now (register a ∷ [])) writer.new }
@@ -40,6 +43,7 @@ pub fn put_one(writer: &mut Writer, mnemonic: &[u8], a: u8)
 }
 
 // NOT.
+#[inline(always)]
 pub fn put_two(writer: &mut Writer, mnemonic: &[u8], a: u8, b: u8)
     requires { (a < 8) × (b < 8) × Fits writer.old (statement mnemonic.now (register a ∷ register b ∷ [])) }
     ensures { Wrote writer.old (statement mnemonic.now (register a ∷ register b ∷ [])) writer.new }
@@ -51,6 +55,7 @@ pub fn put_two(writer: &mut Writer, mnemonic: &[u8], a: u8, b: u8)
 }
 
 // ADD and AND with SR2.
+#[inline(always)]
 pub fn put_three(writer: &mut Writer, mnemonic: &[u8], a: u8, b: u8, c: u8)
     requires { (a < 8) × (b < 8) × (c < 8)
         × Fits writer.old (statement mnemonic.now (register a ∷ register b ∷ register c ∷ [])) }
@@ -64,6 +69,7 @@ pub fn put_three(writer: &mut Writer, mnemonic: &[u8], a: u8, b: u8, c: u8)
 }
 
 // JSR.
+#[inline(always)]
 pub fn put_offset(writer: &mut Writer, mnemonic: &[u8], n: i16)
     requires { Fits writer.old (statement mnemonic.now (signed_number n ∷ [])) }
     ensures { Wrote writer.old (statement mnemonic.now (signed_number n ∷ [])) writer.new }
@@ -73,6 +79,7 @@ pub fn put_offset(writer: &mut Writer, mnemonic: &[u8], n: i16)
 }
 
 // LD, LDI, LEA, ST and STI.
+#[inline(always)]
 pub fn put_one_offset(writer: &mut Writer, mnemonic: &[u8], a: u8, n: i16)
     requires { (a < 8) × Fits writer.old (statement mnemonic.now (register a ∷ signed_number n ∷ [])) }
     ensures { Wrote writer.old (statement mnemonic.now (register a ∷ signed_number n ∷ [])) writer.new }
@@ -83,6 +90,7 @@ pub fn put_one_offset(writer: &mut Writer, mnemonic: &[u8], a: u8, n: i16)
 }
 
 // ADD and AND with imm5, LDR and STR.
+#[inline(always)]
 pub fn put_two_offset(writer: &mut Writer, mnemonic: &[u8], a: u8, b: u8, n: i16)
     requires { (a < 8) × (b < 8)
         × Fits writer.old (statement mnemonic.now (register a ∷ register b ∷ signed_number n ∷ [])) }
@@ -95,6 +103,7 @@ pub fn put_two_offset(writer: &mut Writer, mnemonic: &[u8], a: u8, b: u8, n: i16
 }
 
 // TRAP.
+#[inline(always)]
 pub fn put_trap(writer: &mut Writer, trapvect8: u16)
     requires { (trapvect8 < 256) × Fits writer.old (trap_line trapvect8) }
     ensures { Wrote writer.old (trap_line trapvect8) writer.new }
@@ -105,6 +114,7 @@ pub fn put_trap(writer: &mut Writer, trapvect8: u16)
 }
 
 // A word as data.
+#[inline(always)]
 pub fn put_fill(writer: &mut Writer, word: u16)
     requires { Fits writer.old (fill_line word) }
     ensures { Wrote writer.old (fill_line word) writer.new }
@@ -116,6 +126,7 @@ pub fn put_fill(writer: &mut Writer, word: u16)
 }
 
 // The letter of a condition code that is tested.
+#[inline(always)]
 fn put_code(writer: &mut Writer, bit: u8, letter: u8)
     requires { Fits writer.old (code bit letter) }
     ensures { Wrote writer.old (code bit letter) writer.new }
@@ -126,6 +137,7 @@ fn put_code(writer: &mut Writer, bit: u8, letter: u8)
 }
 
 // BR with those of n, z, p that it tests.
+#[inline(always)]
 pub fn put_branch(writer: &mut Writer, mask: u8, n: i16)
     requires { Fits writer.old (branch_line mask n) }
     ensures { Wrote writer.old (branch_line mask n) writer.new }

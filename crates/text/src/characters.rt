@@ -11,6 +11,7 @@ pub struct Writer<'a> {
 
 impl<'a> Writer<'a> {
     // One character.
+    #[inline(always)]
     pub fn put(&mut self, character: u8)
         requires { Fits self.old (character ∷ []) }
         ensures { Wrote self.old (character ∷ []) self.new }
@@ -19,13 +20,14 @@ impl<'a> Writer<'a> {
         self.at += 1;
     }
 
-    // Each character of a text in turn.
+    // Each character of a text in turn. `copy_from_slice` tests for an overlap, which takes 10 instructions a line more.
+    #[inline(always)]
     pub fn put_text(&mut self, text: &[u8])
         requires { Fits self.old text.now }
         ensures { Wrote self.old text.now self.new }
     {
-        let end = self.at + text.len();
-        self.output[self.at..end].copy_from_slice(text);
-        self.at = end;
+        for character in text {
+            self.put(*character);
+        }
     }
 }

@@ -1,6 +1,7 @@
 // Operands as text: registers, signed fields in decimal, and numbers in hexadecimal.
 ghost use Rattle.std.specs.Prelude.{◌≡◌, ◌≤◌, ◌<◌, length};
 ghost use Rattle.text.specs.Operands.{register, decimal, signed_number, hex_digit, hex_byte};
+ghost use Rattle.text.specs.Placing.{Room, Put};
 ghost use Rattle.text.specs.Writing.{Fits, Wrote};
 
 use super::characters::Writer;
@@ -8,6 +9,7 @@ use word::fields::size;
 
 impl<'a> Writer<'a> {
     // R0 to R7.
+    #[inline(always)]
     pub fn put_register(&mut self, r: u8)
         requires { (r < 8) × Fits self.old (register r) }
         ensures { Wrote self.old (register r) self.new }
@@ -16,20 +18,17 @@ impl<'a> Writer<'a> {
         self.put(b'0' + r);
     }
 
-    // The digits of n / 10, then that of n % 10.
+    // Most significant digit first.
+    #[inline(always)]
     pub fn put_decimal(&mut self, n: u16)
         requires { Fits self.old (decimal n) }
         ensures { Wrote self.old (decimal n) self.new }
     {
-        if n < 10 {
-            self.put(b'0' + n as u8);
-        } else {
-            self.put_decimal(n / 10);
-            self.put(b'0' + (n % 10) as u8);
-        }
+        self.at = put_digits(self.output, self.at, n);
     }
 
     // # and the number, with a minus sign below zero.
+    #[inline(always)]
     pub fn put_number(&mut self, n: i16)
         requires { Fits self.old (signed_number n) }
         ensures { Wrote self.old (signed_number n) self.new }
@@ -45,12 +44,29 @@ impl<'a> Writer<'a> {
     }
 
     // Two hexadecimal digits.
+    #[inline(always)]
     pub fn put_hex(&mut self, n: u8)
         requires { Fits self.old (hex_byte n) }
         ensures { Wrote self.old (hex_byte n) self.new }
     {
         self.put(hex_digit(n / 16));
         self.put(hex_digit(n % 16));
+    }
+}
+
+// The digits of n / 10, then that of n % 10; answers the place after them. It takes the place and not the writer, so that
+// no call needs the writer in memory: with it there a line takes 40 instructions more.
+fn put_digits(output: &mut [u8], at: usize, n: u16) -> usize
+    requires { Room at (decimal n) output.old }
+    ensures { Put at (decimal n) output.old result output.new }
+{
+    if n < 10 {
+        output[at] = b'0' + n as u8;
+        at + 1
+    } else {
+        let last = put_digits(output, at, n / 10);
+        output[last] = b'0' + (n % 10) as u8;
+        last + 1
     }
 }
 

@@ -1,7 +1,6 @@
 -- `lines::line` meets its contract: where the line fits, it is put at the output's start.
-use Rattle.std.proofs.Common.{sym, ◌∙◌, rules}
+use Rattle.std.proofs.Common.{sym, ◌∙◌}
 use borrow.Author.Tests.{leb-true, leb-false}
-use Rattle.text.specs.Placing.{Put}
 use Rattle.line.specs.Line.{line_of}
 use Rattle.lines.proofs.Answering.{too_long, written}
 use Rattle.lines.proofs.line.Goals as goal
@@ -14,5 +13,5 @@ returns-then-not-fits c =
 pub returns : goal.returns
 returns c =
     let a = c.args in
-    let put : Put 0 (line_of a.word) a.output.now c.put_line.new.writer.at _ = search rules in
-    written (line_of a.word) a.output.now _ _ (leb-true _ _ (sym c.fits.ensures ∙ c.if-not-fits.false)) put
+    let fits = leb-true _ _ (sym c.fits.ensures ∙ c.if-not-fits.false) in
+    written (line_of a.word) a.output.now _ _ fits c.put_line.ensures

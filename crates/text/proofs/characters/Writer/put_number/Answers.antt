@@ -1,5 +1,5 @@
 -- `text::characters::Writer::put_number` meets its contract: by the sign.
-use Rattle.std.proofs.Common.{◌≡◌, arith, ap, ◌∙◌, to_z-of_z}
+use Rattle.std.proofs.Common.{◌≡◌, ap, ◌∙◌, to_z-of_z}
 use lib.Signed.{mag}
 use Rattle.text.proofs.Placing.{wrote_then}
 use Rattle.text.proofs.Signs.{below_zero, not_below_zero}
