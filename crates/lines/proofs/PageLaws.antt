@@ -1,5 +1,5 @@
 -- The lines of two lists of words are joined, so a page splits anywhere; and pages of one line and of none.
-use Prim.Native.Nat.{ℕ, suc, zero-le, ◌+◌, ◌≤◌, ◌<◌}
+use Prim.Native.Nat.{ℕ, suc, zero-le, ◌+◌, ◌*◌, ◌≤◌, ◌<◌}
 use native.Mathlib.Omega.{arith}
 use mathlib.Core.Path.{◌≡◌, refl, sym, ap, ◌∙◌}
 use mathlib.Core.Bool.{Bool, true, false, cond}
@@ -12,7 +12,10 @@ use Rattle.std.specs.Prelude.{Result, Ok, Err}
 use Rattle.lent.specs.declared.Refusal.{Refusal}
 use Rattle.lent.specs.declared.Refusal.TheVariants.{MemorySize, RangePastMemory}
 use Rattle.lent.specs.Lent.{wrong_size, too_short, written_by, written_whole, counted}
+use Rattle.std.specs.List.{sum_by}
+use Rattle.std.proofs.lemmas.List.Recursion.{is_sum_by}
 use Rattle.line.specs.Line.{line_of}
+use Rattle.line.proofs.LongestLine.{longest_line}
 use Rattle.lines.specs.Page.{lines_of, range_of, page_text, page_of}
 use Rattle.lines.specs.Theorems.{PageSplits, PageOfOne, PageOfNone}
 
@@ -43,6 +46,25 @@ lines_within words k =
     let whole = ap (λ (l : List ℕ). length (lines_of l)) (take-append-drop k words) in
     let parts = ap length (lines_append (take k words) (drop k words)) in
     omega (arith, length-append (lines_of (take k words)) (lines_of (drop k words)))
+
+-- the length of all lines is the sum of their lengths, and each has at most 17 bytes
+pub lengths_added : (words : List ℕ) → sum_by (λ w. length (line_of w)) words ≡ length (lines_of words)
+unfolding lines_of
+lengths_added words =
+    sym (is_sum_by (λ l. length (lines_of l)) (λ w. length (line_of w)) refl
+    (λ w l. length-append (line_of w) (lines_of l)) words)
+
+pub short_lines : (words : List ℕ) → ((i : ℕ) → get_or words i 0 < 65536)
+    → length (lines_of words) ≤ 17 * length words
+unfolding lines_of
+short_lines [] fits = zero-le
+short_lines (w ∷ words) fits =
+    omega (
+      arith,
+      longest_line w (fits 0),
+      short_lines words (λ i. fits (suc i)),
+      length-append (line_of w) (lines_of words),
+    )
 
 pub page_splits : PageSplits
 page_splits memory first a b =

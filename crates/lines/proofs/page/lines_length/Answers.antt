@@ -1,29 +1,24 @@
--- `lines::page::lines_length` meets its contract: the length is that of the lines passed, each of at most 17 bytes.
-use Rattle.std.proofs.Common.{zero-le, ◌≤◌, length, get_or, take, ap, refl, arith, length-append}
-use native.Mathlib.Numerals.{add-one}
+-- `lines::page::lines_length` meets its contract: the lengths of the lines, each of at most 17 bytes, are added.
+use Rattle.std.proofs.Common.{length, arith, rules, ◌∙◌, ◌<◌}
+use Rattle.std.specs.List.{sum_by}
+use Rattle.std.proofs.lemmas.Iterator.{YieldsList-from_slice, YieldsList-from_map}
+use Rattle.std.proofs.lemmas.Iterator.Consumers.{sum_by_from_yields_List, fits_by_from_yields_list}
 use Rattle.line.specs.Line.{line_of}
-use Rattle.lines.specs.Page.{lines_of}
-use Rattle.line.proofs.LongestLine.{longest_line}
-use Rattle.lines.proofs.PageLaws.{line_more}
+use Rattle.lines.proofs.PageLaws.{lengths_added, short_lines}
 use Rattle.lines.proofs.page.lines_length.Goals as goal
 
-pub loop-word-init : goal.loop-word-init
-unfolding lines_of
-loop-word-init c = (refl, zero-le)
-
-pub overflow_add-length : goal.overflow_add-length
-overflow_add-length c =
-    let w = get_or c.args.words.now c.loop-word.word-index 0 in
-    omega (arith, c.line_length-length.ensures, longest_line w (c.type_inv.words c.loop-word.word-index).fits)
-
-pub loop-word-preserved : goal.loop-word-preserved
-loop-word-preserved c =
-    let k = c.loop-word.word-index in
+pub sum-requires-clause-fits : goal.sum-requires-clause-fits
+sum-requires-clause-fits c =
     let words = c.args.words.now in
-    let w = get_or words k 0 in
-    let more = ap length (line_more words k (omega arith)) in
-    let short : length (line_of w) ≤ 17 = longest_line w (c.type_inv.words k).fits in (
-      rw add-one
-          (omega (arith, c.line_length-length.ensures, length-append (lines_of (take k words)) (line_of w))),
-      omega (arith, c.line_length-length.ensures),
-    )
+    let short : sum_by (λ w. length (line_of w)) words < 18446744073709551616 =
+    omega (arith, c.requires, lengths_added words, short_lines words (λ i. (c.type_inv.words i).fits)) in
+    fits_by_from_yields_list _ _ c.map.result _
+    (YieldsList-from_map _ (λ w. length (line_of w)) (YieldsList-from_slice words cc) c.map.ensures.closure
+    (λ x r q k. search rules)) short
+
+pub returns : goal.returns
+returns c =
+    let words = c.args.words.now in
+    sum_by_from_yields_List _ _ c.map.result _ c.sum.ensures.ran
+    (YieldsList-from_map _ (λ w. length (line_of w)) (YieldsList-from_slice words cc) c.map.ensures.closure
+    (λ x r q k. search rules)) ∙ lengths_added words

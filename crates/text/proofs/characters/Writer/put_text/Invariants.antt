@@ -1,4 +1,5 @@
--- `text::characters::Writer::put_text` meets its contract: after each turn of the loop the characters passed are written.
+-- `text::characters::Writer::put_text` meets its contract: after each turn of the loop the characters passed
+-- are written.
 use Rattle.std.proofs.Common.{take}
 use Rattle.text.specs.Writing.{Wrote}
 use Rattle.text.proofs.characters.Writer.put_text.Given as goal
