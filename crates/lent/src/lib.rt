@@ -37,13 +37,6 @@ impl From<Refusal> for u32 {
     }
 }
 
-// The number of bytes written, with 0; or 0, with the number of the refusal.
-#[derive(Clone, Copy)]
-pub struct Counted {
-    pub count: usize,
-    pub refusal: u8,
-}
-
 // For a host: the number of items written, with 0; or 0, with the number of the refusal.
 #[repr(C)]
 #[derive(Clone, Copy)]

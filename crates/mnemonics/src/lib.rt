@@ -1,5 +1,6 @@
 // Lines by their operands. Each function writes a whole line: the mnemonic, the operands in the book's order, the line
-// feed.
+// feed. Those that differ in the number of operands are no function over a slice of them: whoever calls it would need a
+// local array, and no function that puts a line has one (M20.2).
 #![tactic(auto)]
 
 ghost use Rattle.std.specs.Prelude.{[], ◌∷◌, ◌++◌, ◌<◌};
