@@ -16,11 +16,7 @@ use lines::page::page;
 pub fn lc3_line(word: u16, output: &mut [u8]) -> Lc3Counted
     ensures { host_counted result output.new ≡ written_whole (line_of word) output.old }
 {
-    let counted = line(word, output);
-    Lc3Counted {
-        count: counted.count as u64,
-        refusal: counted.refusal as u32,
-    }
+    Lc3Counted::from(line(word, output))
 }
 
 // The byte count of the line of a word, its line feed included.
@@ -34,9 +30,5 @@ pub fn lc3_line_length(word: u16) -> usize
 pub fn lc3_page(memory: &[u16], first: u16, count: usize, output: &mut [u8]) -> Lc3Counted
     ensures { host_counted result output.new ≡ page_of memory.now first count output.old }
 {
-    let written = page(memory, first, count, output);
-    Lc3Counted {
-        count: written.count as u64,
-        refusal: written.refusal as u32,
-    }
+    Lc3Counted::from(page(memory, first, count, output))
 }

@@ -1,148 +1,151 @@
 // Lines by their operands. Each function writes a whole line: the mnemonic, the operands in the book's order, the line
-// feed.
+// feed. Those that differ in the number of operands are no function over a slice of them: whoever calls it would need a
+// local array, and no function that puts a line has one (M20.2).
 #![tactic(auto)]
 
 ghost use Rattle.std.specs.Prelude.{[], ◌∷◌, ◌++◌, ◌<◌};
 ghost use Rattle.text.specs.Characters.{line_feed};
 ghost use Rattle.text.specs.Operands.{register, signed_number};
 ghost use Rattle.mnemonics.specs.Statement.{statement, code, fill_line, trap_line, branch_line};
-ghost use Rattle.text.specs.Placing.{Room, Put};
+ghost use Rattle.text.specs.Writing.{Fits, Wrote};
 
-use text::characters::{put, put_text};
-use text::operands::{put_hex, put_number, put_register};
+use text::characters::Writer;
 
 // A separator and a register.
-fn put_operand(output: &mut [u8], at: usize, separator: &[u8], r: u8) -> usize
-    requires { (r < 8) × Room at (separator.now ++ register r) output.old }
-    ensures { Put at (separator.now ++ register r) output.old result output.new }
+#[inline(always)]
+fn put_operand(writer: &mut Writer, separator: &[u8], r: u8)
+    requires { (r < 8) × Fits writer.old (separator.now ++ register r) }
+    ensures { Wrote writer.old (separator.now ++ register r) writer.new }
 {
-    let next = put_text(output, at, separator);
-    put_register(output, next, r)
+    writer.put_text(separator);
+    writer.put_register(r);
 }
 
 // A separator, a signed field, and the line feed.
-fn put_last_number(output: &mut [u8], at: usize, separator: &[u8], n: i16) -> usize
-    requires { Room at (separator.now ++ (signed_number n ++ line_feed ∷ [])) output.old }
-    ensures { Put at (separator.now ++ (signed_number n ++ line_feed ∷ []))
-        output.old result output.new }
+#[inline(always)]
+fn put_last_number(writer: &mut Writer, separator: &[u8], n: i16)
+    requires { Fits writer.old (separator.now ++ (signed_number n ++ line_feed ∷ [])) }
+    ensures { Wrote writer.old (separator.now ++ (signed_number n ++ line_feed ∷ [])) writer.new }
 {
-    let next = put_text(output, at, separator);
-    let next = put_number(output, next, n);
-    put(output, next, b'\n')
+    writer.put_text(separator);
+    writer.put_number(n);
+    writer.put(b'\n');
 }
 
 // JMP and JSRR.
-pub fn put_one(output: &mut [u8], at: usize, mnemonic: &[u8], a: u8) -> usize
-    requires { (a < 8) × Room at (statement mnemonic.now (register a ∷ [])) output.old }
-    ensures { Put at (statement mnemonic.now (register a ∷ []))
-        output.old result output.new }
+#[inline(always)]
+pub fn put_one(writer: &mut Writer, mnemonic: &[u8], a: u8)
+    requires { (a < 8) × Fits writer.old (statement mnemonic.now (register a ∷ [])) }
+    ensures { Wrote writer.old (statement mnemonic.now (register a ∷ [])) writer.new }
 {
-    let next = put_text(output, at, mnemonic);
-    let next = put_operand(output, next, b" ", a);
-    put(output, next, b'\n')
+    writer.put_text(mnemonic);
+    put_operand(writer, b" ", a);
+    writer.put(b'\n');
 }
 
 // NOT.
-pub fn put_two(output: &mut [u8], at: usize, mnemonic: &[u8], a: u8, b: u8) -> usize
-    requires { (a < 8) × (b < 8) × Room at (statement mnemonic.now (register a ∷ register b ∷ [])) output.old }
-    ensures { Put at (statement mnemonic.now (register a ∷ register b ∷ []))
-        output.old result output.new }
+#[inline(always)]
+pub fn put_two(writer: &mut Writer, mnemonic: &[u8], a: u8, b: u8)
+    requires { (a < 8) × (b < 8) × Fits writer.old (statement mnemonic.now (register a ∷ register b ∷ [])) }
+    ensures { Wrote writer.old (statement mnemonic.now (register a ∷ register b ∷ [])) writer.new }
 {
-    let next = put_text(output, at, mnemonic);
-    let next = put_operand(output, next, b" ", a);
-    let next = put_operand(output, next, b", ", b);
-    put(output, next, b'\n')
+    writer.put_text(mnemonic);
+    put_operand(writer, b" ", a);
+    put_operand(writer, b", ", b);
+    writer.put(b'\n');
 }
 
 // ADD and AND with SR2.
-pub fn put_three(output: &mut [u8], at: usize, mnemonic: &[u8], a: u8, b: u8, c: u8) -> usize
+#[inline(always)]
+pub fn put_three(writer: &mut Writer, mnemonic: &[u8], a: u8, b: u8, c: u8)
     requires { (a < 8) × (b < 8) × (c < 8)
-        × Room at (statement mnemonic.now (register a ∷ register b ∷ register c ∷ [])) output.old }
-    ensures { Put at (statement mnemonic.now (register a ∷ register b ∷ register c ∷ []))
-        output.old result output.new }
+        × Fits writer.old (statement mnemonic.now (register a ∷ register b ∷ register c ∷ [])) }
+    ensures { Wrote writer.old (statement mnemonic.now (register a ∷ register b ∷ register c ∷ [])) writer.new }
 {
-    let next = put_text(output, at, mnemonic);
-    let next = put_operand(output, next, b" ", a);
-    let next = put_operand(output, next, b", ", b);
-    let next = put_operand(output, next, b", ", c);
-    put(output, next, b'\n')
+    writer.put_text(mnemonic);
+    put_operand(writer, b" ", a);
+    put_operand(writer, b", ", b);
+    put_operand(writer, b", ", c);
+    writer.put(b'\n');
 }
 
 // JSR.
-pub fn put_offset(output: &mut [u8], at: usize, mnemonic: &[u8], n: i16) -> usize
-    requires { Room at (statement mnemonic.now (signed_number n ∷ [])) output.old }
-    ensures { Put at (statement mnemonic.now (signed_number n ∷ []))
-        output.old result output.new }
+#[inline(always)]
+pub fn put_offset(writer: &mut Writer, mnemonic: &[u8], n: i16)
+    requires { Fits writer.old (statement mnemonic.now (signed_number n ∷ [])) }
+    ensures { Wrote writer.old (statement mnemonic.now (signed_number n ∷ [])) writer.new }
 {
-    let next = put_text(output, at, mnemonic);
-    put_last_number(output, next, b" ", n)
+    writer.put_text(mnemonic);
+    put_last_number(writer, b" ", n);
 }
 
 // LD, LDI, LEA, ST and STI.
-pub fn put_one_offset(output: &mut [u8], at: usize, mnemonic: &[u8], a: u8, n: i16) -> usize
-    requires { (a < 8) × Room at (statement mnemonic.now (register a ∷ signed_number n ∷ [])) output.old }
-    ensures { Put at (statement mnemonic.now (register a ∷ signed_number n ∷ []))
-        output.old result output.new }
+#[inline(always)]
+pub fn put_one_offset(writer: &mut Writer, mnemonic: &[u8], a: u8, n: i16)
+    requires { (a < 8) × Fits writer.old (statement mnemonic.now (register a ∷ signed_number n ∷ [])) }
+    ensures { Wrote writer.old (statement mnemonic.now (register a ∷ signed_number n ∷ [])) writer.new }
 {
-    let next = put_text(output, at, mnemonic);
-    let next = put_operand(output, next, b" ", a);
-    put_last_number(output, next, b", ", n)
+    writer.put_text(mnemonic);
+    put_operand(writer, b" ", a);
+    put_last_number(writer, b", ", n);
 }
 
 // ADD and AND with imm5, LDR and STR.
-pub fn put_two_offset(output: &mut [u8], at: usize, mnemonic: &[u8], a: u8, b: u8, n: i16) -> usize
+#[inline(always)]
+pub fn put_two_offset(writer: &mut Writer, mnemonic: &[u8], a: u8, b: u8, n: i16)
     requires { (a < 8) × (b < 8)
-        × Room at (statement mnemonic.now (register a ∷ register b ∷ signed_number n ∷ [])) output.old }
-    ensures { Put at (statement mnemonic.now (register a ∷ register b ∷ signed_number n ∷ []))
-        output.old result output.new }
+        × Fits writer.old (statement mnemonic.now (register a ∷ register b ∷ signed_number n ∷ [])) }
+    ensures { Wrote writer.old (statement mnemonic.now (register a ∷ register b ∷ signed_number n ∷ [])) writer.new }
 {
-    let next = put_text(output, at, mnemonic);
-    let next = put_operand(output, next, b" ", a);
-    let next = put_operand(output, next, b", ", b);
-    put_last_number(output, next, b", ", n)
+    writer.put_text(mnemonic);
+    put_operand(writer, b" ", a);
+    put_operand(writer, b", ", b);
+    put_last_number(writer, b", ", n);
 }
 
 // TRAP.
-pub fn put_trap(output: &mut [u8], at: usize, trapvect8: u16) -> usize
-    requires { (trapvect8 < 256) × Room at (trap_line trapvect8) output.old }
-    ensures { Put at (trap_line trapvect8) output.old result output.new }
+#[inline(always)]
+pub fn put_trap(writer: &mut Writer, trapvect8: u16)
+    requires { (trapvect8 < 256) × Fits writer.old (trap_line trapvect8) }
+    ensures { Wrote writer.old (trap_line trapvect8) writer.new }
 {
-    let next = put_text(output, at, b"TRAP x");
-    let next = put_hex(output, next, trapvect8 as u8);
-    put(output, next, b'\n')
+    writer.put_text(b"TRAP x");
+    writer.put_hex(trapvect8 as u8);
+    writer.put(b'\n');
 }
 
 // A word as data.
-pub fn put_fill(output: &mut [u8], at: usize, word: u16) -> usize
-    requires { Room at (fill_line word) output.old }
-    ensures { Put at (fill_line word) output.old result output.new }
+#[inline(always)]
+pub fn put_fill(writer: &mut Writer, word: u16)
+    requires { Fits writer.old (fill_line word) }
+    ensures { Wrote writer.old (fill_line word) writer.new }
 {
-    let next = put_text(output, at, b".FILL x");
-    let next = put_hex(output, next, (word / 256) as u8);
-    let next = put_hex(output, next, (word % 256) as u8);
-    put(output, next, b'\n')
+    writer.put_text(b".FILL x");
+    writer.put_hex((word / 256) as u8);
+    writer.put_hex((word % 256) as u8);
+    writer.put(b'\n');
 }
 
 // The letter of a condition code that is tested.
-fn put_code(output: &mut [u8], at: usize, bit: u8, letter: u8) -> usize
-    requires { Room at (code bit letter) output.old }
-    ensures { Put at (code bit letter) output.old result output.new }
+#[inline(always)]
+fn put_code(writer: &mut Writer, bit: u8, letter: u8)
+    requires { Fits writer.old (code bit letter) }
+    ensures { Wrote writer.old (code bit letter) writer.new }
 {
     if bit == 1 {
-        put(output, at, letter)
-    } else {
-        at
+        writer.put(letter);
     }
 }
 
 // BR with those of n, z, p that it tests.
-pub fn put_branch(output: &mut [u8], at: usize, mask: u8, n: i16) -> usize
-    requires { Room at (branch_line mask n) output.old }
-    ensures { Put at (branch_line mask n) output.old result output.new }
+#[inline(always)]
+pub fn put_branch(writer: &mut Writer, mask: u8, n: i16)
+    requires { Fits writer.old (branch_line mask n) }
+    ensures { Wrote writer.old (branch_line mask n) writer.new }
 {
-    let next = put_text(output, at, b"BR");
-    let next = put_code(output, next, mask / 4 % 2, b'n');
-    let next = put_code(output, next, mask / 2 % 2, b'z');
-    let next = put_code(output, next, mask % 2, b'p');
-    put_last_number(output, next, b" ", n)
+    writer.put_text(b"BR");
+    put_code(writer, mask / 4 % 2, b'n');
+    put_code(writer, mask / 2 % 2, b'z');
+    put_code(writer, mask % 2, b'p');
+    put_last_number(writer, b" ", n);
 }

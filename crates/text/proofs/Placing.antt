@@ -6,7 +6,9 @@ use mathlib.Core.Path.{◌≡◌, refl, sym, ap, ◌∙◌}
 use mathlib.Core.List.{List, [], ◌∷◌, ◌++◌, append_assoc}
 use lib.ListN.{length, take, drop, set, length-append}
 use lib.Seq.{sets-eq, paste-zero, take_at, drop_at, drop-drop, length-take-le}
+use Rattle.text.specs.declared.characters.Writer.{Writer}
 use Rattle.text.specs.Placing.{Put}
+use Rattle.text.specs.Writing.{Wrote}
 
 pub put_one : (at a : ℕ) (out : List ℕ) → at + 1 ≤ length out → Put at (a ∷ []) out (at + 1) (set out at a)
 put_one at a out fits = record { place = refl; bytes = sets-eq (a ∷ []) out at fits }
@@ -41,3 +43,17 @@ then {at} {n} {m} {s} {t} {out} {mid} {end} p q inside =
         ∙ (ap (λ (h : List ℕ). h ++ t ++ drop (n + length t) mid) head
         ∙ (ap (λ (r : List ℕ). take at out ++ s ++ t ++ r) tail
         ∙ ap (λ (h : List ℕ). h ++ drop (at + length (s ++ t)) out) (append_assoc (take at out) s t)))
+
+-- the same by a writer
+pub wrote_nothing : (writer : Writer) → writer.at ≤ length writer.output.now → Wrote writer [] writer
+wrote_nothing writer inside =
+    record { put = put_nothing writer.at writer.output.now; same = refl; as_long = refl; inside = inside }
+
+pub wrote_then : {s t : List ℕ} {before between after : Writer} → Wrote before s between → Wrote between t after
+    → Wrote before (s ++ t) after
+wrote_then p q = record {
+  put = then p.put q.put (omega (arith, p.put.place, p.as_long, p.inside));
+  same = q.same ∙ p.same;
+  as_long = q.as_long ∙ p.as_long;
+  inside = q.inside;
+}

@@ -1,25 +1,33 @@
-// Text written straight to its place in the output: each function writes at `at` and answers the place after it.
+// A writer puts each character straight to its place in a lent output.
 ghost use Rattle.std.specs.Prelude.{[], ◌∷◌};
-ghost use Rattle.text.specs.Placing.{Room, Put};
+ghost use Rattle.text.specs.Writing.{Fits, Wrote};
 
-// One character.
-pub fn put(output: &mut [u8], at: usize, character: u8) -> usize
-    requires { Room at (character ∷ []) output.old }
-    ensures { Put at (character ∷ []) output.old result output.new }
-{
-    output[at] = character;
-    at + 1
+// A lent output, and the place in it where the next character goes.
+#[derive(Drop)]
+pub struct Writer<'a> {
+    pub output: &'a mut [u8],
+    pub at: usize,
 }
 
-// Each character of a text in turn.
-pub fn put_text(output: &mut [u8], at: usize, text: &[u8]) -> usize
-    requires { Room at text.now output.old }
-    ensures { Put at text.now output.old result output.new }
-{
-    let mut done = 0;
-    while done < text.len() {
-        output[at + done] = text[done];
-        done += 1;
+impl<'a> Writer<'a> {
+    // One character.
+    #[inline(always)]
+    pub fn put(&mut self, character: u8)
+        requires { Fits self.old (character ∷ []) }
+        ensures { Wrote self.old (character ∷ []) self.new }
+    {
+        self.output[self.at] = character;
+        self.at += 1;
     }
-    at + done
+
+    // Each character of a text in turn: by `copy_from_slice` a line took 12 instructions more, 122 for 110.
+    #[inline(always)]
+    pub fn put_text(&mut self, text: &[u8])
+        requires { Fits self.old text.now }
+        ensures { Wrote self.old text.now self.new }
+    {
+        for character in text {
+            self.put(*character);
+        }
+    }
 }

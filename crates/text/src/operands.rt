@@ -2,33 +2,75 @@
 ghost use Rattle.std.specs.Prelude.{◌≡◌, ◌≤◌, ◌<◌, length};
 ghost use Rattle.text.specs.Operands.{register, decimal, signed_number, hex_digit, hex_byte};
 ghost use Rattle.text.specs.Placing.{Room, Put};
+ghost use Rattle.text.specs.Writing.{Fits, Wrote};
 
-use super::characters::{put, put_text};
+use super::characters::Writer;
 use word::fields::size;
 
-// R0 to R7.
-pub fn put_register(output: &mut [u8], at: usize, r: u8) -> usize
-    requires { (r < 8) × Room at (register r) output.old }
-    ensures { Put at (register r) output.old result output.new }
-{
-    let next = put(output, at, b'R');
-    put(output, next, b'0' + r)
+impl<'a> Writer<'a> {
+    // R0 to R7.
+    #[inline(always)]
+    pub fn put_register(&mut self, r: u8)
+        requires { (r < 8) × Fits self.old (register r) }
+        ensures { Wrote self.old (register r) self.new }
+    {
+        self.put(b'R');
+        self.put(b'0' + r);
+    }
+
+    // Most significant digit first.
+    #[inline(always)]
+    pub fn put_decimal(&mut self, n: u16)
+        requires { Fits self.old (decimal n) }
+        ensures { Wrote self.old (decimal n) self.new }
+    {
+        self.at = put_digits(self.output, self.at, n);
+    }
+
+    // # and the number, with a minus sign below zero.
+    #[inline(always)]
+    pub fn put_number(&mut self, n: i16)
+        requires { Fits self.old (signed_number n) }
+        ensures { Wrote self.old (signed_number n) self.new }
+    {
+        let magnitude = size(n);
+        if n < 0 {
+            self.put_text(b"#-");
+            self.put_decimal(magnitude + 1);
+        } else {
+            self.put_text(b"#");
+            self.put_decimal(magnitude);
+        }
+    }
+
+    // Two hexadecimal digits.
+    #[inline(always)]
+    pub fn put_hex(&mut self, n: u8)
+        requires { Fits self.old (hex_byte n) }
+        ensures { Wrote self.old (hex_byte n) self.new }
+    {
+        self.put(hex_digit(n / 16));
+        self.put(hex_digit(n % 16));
+    }
 }
 
-// The digits of n / 10, then that of n % 10.
-pub fn put_decimal(output: &mut [u8], at: usize, n: u16) -> usize
+// The digits of n / 10, then that of n % 10; answers the place after them. It takes the place and no writer: what calls
+// itself is a call when it runs, and would keep the writer in memory.
+fn put_digits(output: &mut [u8], at: usize, n: u16) -> usize
     requires { Room at (decimal n) output.old }
     ensures { Put at (decimal n) output.old result output.new }
 {
     if n < 10 {
-        put(output, at, b'0' + n as u8)
+        output[at] = b'0' + n as u8;
+        at + 1
     } else {
-        let next = put_decimal(output, at, n / 10);
-        put(output, next, b'0' + (n % 10) as u8)
+        let last = put_digits(output, at, n / 10);
+        output[last] = b'0' + (n % 10) as u8;
+        last + 1
     }
 }
 
-// How many digits `put_decimal` writes.
+// How many digits `put_decimal` writes. By `checked_ilog10` a line of a page took 2 instructions more, 108 for 106.
 pub fn decimal_length(n: u16) -> usize
     ensures { result ≡ length (decimal n) }
 {
@@ -45,21 +87,6 @@ pub fn decimal_length(n: u16) -> usize
         return 4;
     }
     5
-}
-
-// # and the number, with a minus sign below zero.
-pub fn put_number(output: &mut [u8], at: usize, n: i16) -> usize
-    requires { Room at (signed_number n) output.old }
-    ensures { Put at (signed_number n) output.old result output.new }
-{
-    let magnitude = size(n);
-    if n < 0 {
-        let next = put_text(output, at, b"#-");
-        put_decimal(output, next, magnitude + 1)
-    } else {
-        let next = put_text(output, at, b"#");
-        put_decimal(output, next, magnitude)
-    }
 }
 
 // How many characters `put_number` writes; few enough for any sum of lengths.
@@ -80,13 +107,4 @@ fn hex_digit(d: u8) -> u8
     ensures { result ≡ hex_digit d }
 {
     if d < 10 { b'0' + d } else { b'A' + (d - 10) }
-}
-
-// Two hexadecimal digits.
-pub fn put_hex(output: &mut [u8], at: usize, n: u8) -> usize
-    requires { Room at (hex_byte n) output.old }
-    ensures { Put at (hex_byte n) output.old result output.new }
-{
-    let next = put(output, at, hex_digit(n / 16));
-    put(output, next, hex_digit(n % 16))
 }

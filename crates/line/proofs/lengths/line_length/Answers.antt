@@ -1,7 +1,6 @@
 -- `line::lengths::line_length` meets its contract: by the mask.
 use mathlib.Core.Path.{sym, ap, ◌∙◌}
 use lib.ListN.{length}
-use borrow.Author.Rules.{rules}
 use Rattle.line.proofs.ShapeLaws.{proper_shown, data_shown}
 use Rattle.line.proofs.lengths.line_length.Goals as goal
 

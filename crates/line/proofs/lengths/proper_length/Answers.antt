@@ -4,7 +4,6 @@ use native.Mathlib.Omega.{arith}
 use mathlib.Core.Path.{◌≡◌, refl, sym, ap, ◌∙◌}
 use mathlib.Core.List.{[], ◌∷◌}
 use lib.ListN.{length, get_or}
-use borrow.Author.Rules.{rules}
 use Rattle.word.specs.Reading.{opcode}
 use Rattle.word.proofs.Opcodes.{none_below}
 use Rattle.text.specs.Characters.{A, D, E, I, L, N, R, S, T}

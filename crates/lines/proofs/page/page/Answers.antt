@@ -1,28 +1,24 @@
--- `lines::page::page` meets its contract: each test is the definition's, in the same order.
-use Prim.Native.Nat.{◌+◌, ◌-◌, ◌≤◌}
-use native.Mathlib.Omega.{arith}
-use mathlib.Core.Path.{◌≡◌, sym, ◌∙◌}
-use borrow.Author.Rules.{rules}
-use borrow.Author.Tests.{eq-eqb, ne_eqb, lt-ltb}
-use Rattle.lent.specs.Lent.{wrong_size}
-use Rattle.lines.specs.Page.{page_of}
-use Rattle.lines.proofs.PageLaws.{in_memory}
+-- `lines::page::page` meets its contract: the range is refused, or its lines are too long, or they are put.
+use Rattle.std.proofs.Common.{sym, ◌∙◌, arith}
+use Rattle.std.proofs.lemmas.Result.{err_from_is_err_and}
+use Rattle.lines.specs.Page.{lines_of}
+use Rattle.lines.proofs.Answering.{too_long, written}
+use Rattle.lines.proofs.PageLaws.{refused, accepted}
 use Rattle.lines.proofs.page.page.Goals as goal
 
-pub returns-then-memory-ne65536 : goal.returns-then-memory-ne65536
-unfolding page_of wrong_size
-returns-then-memory-ne65536 c = rw (ne_eqb _ _ c.if-memory-ne65536.true)
+pub returns-in_err-words : goal.returns-in_err-words
+returns-in_err-words c =
+    let p = err_from_is_err_and c.from_residual.result c.from_residual.ensures.1 in
+    rw (p.1, p.2) (refused _ _ _ _ _ c.in_err-words.ensures)
 
-pub returns-then-start-count : goal.returns-then-start-count
-unfolding page_of wrong_size
-returns-then-start-count c =
-    let a = c.args in
-    rw (eq-eqb _ _ c.if-memory-ne65536.false, lt-ltb 65536 (a.first + a.count) (omega arith))
+pub returns-then-output-lines_length : goal.returns-then-output-lines_length
+returns-then-output-lines_length c =
+    let words = c.in_ok-words.words.now in
+    sym (accepted _ _ _ _ _ c.in_ok-words.ensures
+    ∙ too_long (lines_of words) c.args.output.now (omega (arith, c.lines_length.ensures)))
 
 pub returns : goal.returns
 returns c =
-    let a = c.args in
-    let inside : a.first + a.count ≤ 65536 = omega arith in
-    let same : a.first + a.count - a.first ≡ a.count = omega arith in
-    rw same at c.lines.ensures
-    ∙ sym (in_memory a.memory.now a.first a.count a.output.now c.if-memory-ne65536.false inside)
+    let words = c.in_ok-words.words.now in
+    written (lines_of words) c.args.output.now _ _ (omega (arith, c.lines_length.ensures)) c.put_lines.ensures
+    ∙ sym (accepted _ _ _ _ _ c.in_ok-words.ensures)

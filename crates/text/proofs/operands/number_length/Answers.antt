@@ -5,7 +5,6 @@ use mathlib.Core.Path.{◌≡◌, ap, ◌∙◌}
 use lib.ListN.{length}
 use lib.Signed.{mag}
 use mir.Facts.{to_z-of_z}
-use borrow.Author.Rules.{rules}
 use Rattle.text.specs.Operands.{decimal}
 use Rattle.text.proofs.Decimal.{few_digits}
 use Rattle.text.proofs.Signs.{below_zero, not_below_zero}
