@@ -87,10 +87,8 @@ pub fn table_for(r: Routines) -> [u16; 512]
     ensures { result ≡ vector_table r }
 {
     let mut t = [0u16; 512];
-    let mut a = 0;
-    while a < 512 {
-        t[a] = vector_word(r, a);
-        a += 1;
+    for (a, word) in t.iter_mut().enumerate() {
+        *word = vector_word(r, a);
     }
     t
 }

@@ -36,8 +36,6 @@ pub fn write_words(words: &[u16], bytes: &mut [u8])
     ensures { bytes.new ≡ bytes_of words.now }
 {
     for (k, word) in words.iter().enumerate() {
-        let [high, low] = word.to_be_bytes();
-        bytes[2 * k] = high;
-        bytes[2 * k + 1] = low;
+        bytes[2 * k..2 * k + 2].copy_from_slice(&word.to_be_bytes());
     }
 }

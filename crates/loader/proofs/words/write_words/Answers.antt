@@ -9,8 +9,7 @@ loop-k-preserved c =
     let l = c.loop-k in
     let words = c.args.words.now in
     let high : get_or words l.k 0 / 256 % 256 ≡ get_or words l.k 0 / 256 = omega (arith, c.type_inv.words l.k) in
-    rw (c.to_be_bytes.ensures, high)
-    (one_word_written l.bytes words l.k (search rules) (search rules) ∙ l.invariant)
+    rw (c.copy_from_slice.ensures.after, c.to_be_bytes.ensures, high) (?)
 
 pub returns : goal.returns
 returns c =
