@@ -2,8 +2,7 @@
 // from x0200 on. `vectors` makes such words for any routines.
 #![tactic(auto)]
 
-ghost use Rattle.std.specs.Prelude.{◌≡◌, ◌+◌, ◌≤◌, length};
-ghost use Rattle.std.proofs.Math.Seq.{paste};
+ghost use Rattle.std.specs.Prelude.{◌≡◌};
 ghost use Rattle.monitor.specs.Vectors.{ours};
 ghost use Rattle.monitor.specs.Install.{filling, vectors_of, install_of};
 
@@ -29,18 +28,6 @@ pub fn ours() -> Routines
     }
 }
 
-// Copies words to a lent buffer, from an index on.
-fn copy(from: &[u16], to: &mut [u16], at: usize)
-    requires { at + length from.now ≤ length to.old }
-    ensures { to.new ≡ paste to.old at from.now (length from.now) }
-{
-    let mut k = 0;
-    while k < from.len() {
-        to[at + k] = from[k];
-        k += 1;
-    }
-}
-
 // The generator: writes the words x0000 to x01FF for these routines to the start of a lent buffer. The answer is 16
 // where they do not fit, and else 0.
 pub fn vectors(r: Routines, lent: &mut [u16]) -> u8
@@ -49,8 +36,7 @@ pub fn vectors(r: Routines, lent: &mut [u16]) -> u8
     if lent.len() < 512 {
         return 16;
     }
-    let words = table::table_for(r);
-    copy(&words, lent, 0);
+    lent[..512].copy_from_slice(&table::table_for(r));
     0
 }
 
@@ -61,9 +47,7 @@ pub fn install(memory: &mut [u16]) -> u8
     if memory.len() != 65536 {
         return 11;
     }
-    let words = table::our_table();
-    let routines = listing::our_routines();
-    copy(&words, memory, 0);
-    copy(&routines, memory, 512);
+    memory[..512].copy_from_slice(&table::our_table());
+    memory[512..677].copy_from_slice(&listing::our_routines());
     0
 }

@@ -9,7 +9,8 @@ loop-k-preserved c =
     let l = c.loop-k in
     let words = c.args.words.now in
     let high : get_or words l.k 0 / 256 % 256 ≡ get_or words l.k 0 / 256 = omega (arith, c.type_inv.words l.k) in
-    rw (c.copy_from_slice.ensures.after, c.to_be_bytes.ensures, high) (?)
+    rw (c.copy_from_slice.ensures.after, c.to_be_bytes.ensures, high)
+    (one_word_written l.bytes words l.k (search rules) _ (search rules) ∙ l.invariant)
 
 pub returns : goal.returns
 returns c =
