@@ -15,5 +15,12 @@ lent_holds = record {
   rest_as_lent = refl;
   refused_before_lem = refl;
   answered = refl;
+  refused = refl;
   host_answered = refl;
+  memory_size = refl;
+  no_room = refl;
+  broken_file = refl;
+  past_memory = refl;
+  range_past_memory = refl;
+  outside_user_words = refl;
 }

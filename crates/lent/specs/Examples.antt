@@ -1,6 +1,8 @@
 -- The rules of lent buffers, by examples that would be false without them.
-use Rattle.std.specs.Prelude.{ℕ, ◌≡◌, true, false, List, [], ◌∷◌, length}
-use Rattle.lent.specs.Lent.{Written, wrong_size, written_by, written_whole, counted, host_counted}
+use Rattle.std.specs.Prelude.{ℕ, ◌≡◌, Ok, Err, true, false, List, [], ◌∷◌, length}
+use Rattle.lent.specs.declared.Refusal.TheVariants.{MemorySize, NoRoom, BrokenFile, PastMemory}
+use Rattle.lent.specs.declared.Refusal.TheVariants.{RangePastMemory, OutsideUserWords}
+use Rattle.lent.specs.Lent.{Written, wrong_size, written_by, written_whole, refusal_number, counted, host_counted}
 
 abbrev answer : ℕ → ℕ → List ℕ → Written
 answer count refusal output = record { count = count; refusal = refusal; output = output }
@@ -19,5 +21,13 @@ pub record LentHolds : Type 0 where
   -- a refusal before 16
   pub refused_before_lem : written_by 11 (1 ∷ 2 ∷ []) (7 ∷ []) ≡ answer 0 11 (7 ∷ [])
   -- what a function answers, beside the output that it leaves
-  pub answered : counted (record { count = 2; refusal = 16 }) (7 ∷ []) ≡ answer 2 16 (7 ∷ [])
+  pub answered : counted (Ok 2) (7 ∷ []) ≡ answer 2 0 (7 ∷ [])
+  pub refused : counted (Err NoRoom) (7 ∷ []) ≡ answer 0 16 (7 ∷ [])
   pub host_answered : host_counted (record { count = 2; refusal = 16 }) (7 ∷ []) ≡ answer 2 16 (7 ∷ [])
+  -- the numbers of the refusals
+  pub memory_size : refusal_number MemorySize ≡ 11
+  pub no_room : refusal_number NoRoom ≡ 16
+  pub broken_file : refusal_number BrokenFile ≡ 17
+  pub past_memory : refusal_number PastMemory ≡ 18
+  pub range_past_memory : refusal_number RangePastMemory ≡ 20
+  pub outside_user_words : refusal_number OutsideUserWords ≡ 21

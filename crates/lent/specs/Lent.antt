@@ -1,6 +1,8 @@
 -- Buffers that a caller lends: how one is written, and the two refusals that are about their sizes alone.
-use Rattle.std.specs.Prelude.{ℕ, zero, suc, Bool, cond, not, List, ◌++◌, ltb, eqb, length, drop}
-use Rattle.lent.specs.declared.Counted.{Counted}
+use Rattle.std.specs.Prelude.{ℕ, zero, suc, Bool, Result, Ok, Err, cond, not, List, ◌++◌, ltb, eqb, length, drop}
+use Rattle.lent.specs.declared.Refusal.{Refusal}
+use Rattle.lent.specs.declared.Refusal.TheVariants.{MemorySize, NoRoom, BrokenFile, PastMemory}
+use Rattle.lent.specs.declared.Refusal.TheVariants.{RangePastMemory, OutsideUserWords}
 use Rattle.lent.specs.declared.Lc3Counted.{Lc3Counted}
 
 -- 11: "memory is not 65,536 words".
@@ -33,9 +35,19 @@ written_by (suc n) words output = record { count = 0; refusal = suc n; output = 
 abbrev pub written_whole : List ℕ → List ℕ → Written
 written_whole words output = written_by (cond (too_short output words) 16 0) words output
 
+-- The number that a host knows a refusal by.
+abbrev pub refusal_number : Refusal → ℕ
+refusal_number MemorySize = 11
+refusal_number NoRoom = 16
+refusal_number BrokenFile = 17
+refusal_number PastMemory = 18
+refusal_number RangePastMemory = 20
+refusal_number OutsideUserWords = 21
+
 -- What the functions answer and leave, as one value.
-abbrev pub counted : Counted → List ℕ → Written
-counted r output = record { count = r.count; refusal = r.refusal; output = output }
+abbrev pub counted : Result ℕ Refusal → List ℕ → Written
+counted (Ok n) output = record { count = n; refusal = 0; output = output }
+counted (Err r) output = record { count = 0; refusal = refusal_number r; output = output }
 
 abbrev pub host_counted : Lc3Counted → List ℕ → Written
 host_counted r output = record { count = r.count; refusal = r.refusal; output = output }
