@@ -1,24 +1,6 @@
 // Words and their bytes, high byte first.
-ghost use Rattle.std.specs.Prelude.{◌≡◌, ◌+◌, ◌*◌, ◌/◌, ◌%◌, ◌<◌, length, get_or, set};
-ghost use Rattle.object.specs.File.{word, words_of, bytes_of};
-
-pub fn word(high: u8, low: u8) -> u16
-    ensures { result ≡ word high low }
-{
-    high as u16 * 256 + low as u16
-}
-
-pub fn high(word: u16) -> u8
-    ensures { result ≡ word / 256 }
-{
-    (word / 256) as u8
-}
-
-pub fn low(word: u16) -> u8
-    ensures { result ≡ word % 256 }
-{
-    (word % 256) as u8
-}
+ghost use Rattle.std.specs.Prelude.{◌≡◌, ◌*◌, length};
+ghost use Rattle.object.specs.File.{words_of, bytes_of};
 
 // Reads a word from each two bytes.
 pub fn read_words(bytes: &[u8], words: &mut [u16])
