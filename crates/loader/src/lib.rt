@@ -34,12 +34,7 @@ fn load_accepted(file: &[u8], memory: &mut [u16]) -> Loaded
 }
 
 // The origin is one word of the file, so that a range, an empty one too, begins at xFFFF at most.
-pub fn save(
-    memory: &[u16],
-    origin: u16,
-    words: usize,
-    output: &mut [u8],
-) -> Result<usize, Refusal>
+pub fn save(memory: &[u16], origin: u16, words: usize, output: &mut [u8]) -> Result<usize, Refusal>
     ensures { counted result output.new
         ≡ save_of memory.now origin words output.old }
 {

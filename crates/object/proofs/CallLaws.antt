@@ -1,17 +1,17 @@
 -- The calls over plain lists. Accepted: the part of memory or output that is lent to a loop comes back in its place.
 -- Turned away: all stays as it is.
-use Prim.Native.Nat.{ℕ, zero, suc, ◌+◌, ◌-◌, ◌*◌, ◌/◌, ◌%◌, ◌≤◌}
+use Prim.Native.Nat.{ℕ, zero, suc, ◌+◌, ◌-◌, ◌*◌, ◌/◌, ◌%◌}
 use native.Mathlib.Omega.{arith}
 use mathlib.Core.Path.{◌≡◌, refl, ap, ◌∙◌}
-use mathlib.Core.List.{List, [], ◌∷◌, ◌++◌}
-use lib.ListN.{length, take, drop, set, length-append, length-drop}
+use mathlib.Core.List.{List, ◌∷◌, ◌++◌}
+use lib.ListN.{length, take, drop, length-drop}
 use lib.Seq.{take_all, drop-drop}
 use Rattle.std.specs.Prelude.{Err}
 use Rattle.lent.specs.declared.Refusal.{Refusal}
 use Rattle.lent.specs.declared.Refusal.TheVariants.{MemorySize, NoRoom, BrokenFile, PastMemory}
 use Rattle.lent.specs.declared.Refusal.TheVariants.{RangePastMemory, OutsideUserWords}
 use Rattle.lent.specs.Lent.{Written, written_by, refusal_number, counted}
-use Rattle.object.specs.File.{bytes_of, words_of, file_of, origin_in, words_in, range}
+use Rattle.object.specs.File.{bytes_of, words_of, origin_in, words_in, range}
 use Rattle.object.specs.Calls.{Loading, load_refusal, load_accepted, load_by, load_of, loading}
 use Rattle.object.specs.Calls.{save_refusal, save_accepted, save_of}
 use Rattle.object.specs.Accepted.{Writable}

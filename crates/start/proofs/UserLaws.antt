@@ -1,9 +1,9 @@
 -- How a start in User mode is turned away, by the number: that of loading comes first, and every number leaves zeros.
 use Prim.Native.Nat.{ℕ, zero, suc, ◌≤◌}
-use mathlib.Core.Path.{◌≡◌, refl, sym, ◌∙◌}
+use mathlib.Core.Path.{◌≡◌, refl, sym}
 use mathlib.Core.List.{List}
 use lib.ListN.{length}
-use mathlib.Core.Bool.{Bool, true}
+use mathlib.Core.Bool.{Bool}
 use Rattle.std.specs.Prelude.{Err}
 use Rattle.lent.specs.declared.Refusal.{Refusal}
 use Rattle.lent.specs.Lent.{refusal_number}

@@ -11,12 +11,7 @@ use start::Started;
 mod records;
 mod refusals;
 
-pub fn start(
-    file: &[u8],
-    memory: &mut [u16],
-    user: bool,
-    stack: u16,
-) -> Result<Started, Refusal>
+pub fn start(file: &[u8], memory: &mut [u16], user: bool, stack: u16) -> Result<Started, Refusal>
     ensures { starting result memory.new
         ≡ started_of file.now memory.old user stack }
 {

@@ -1,6 +1,5 @@
 -- `installer::install` meets its contract: table and routines are copied one after the other, or it refuses.
-use Rattle.std.proofs.Common.{rules, arith, length-take}
-use Rattle.monitor.specs.Vectors.{ours}
+use Rattle.std.proofs.Common.{arith, length-take}
 use Rattle.monitor.proofs.InstallLaws.{installed, install_refused}
 use Rattle.monitor.proofs.VectorLaws.{table_length}
 use Rattle.installer.proofs.install.Goals as goal

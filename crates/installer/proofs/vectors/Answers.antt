@@ -1,5 +1,5 @@
 -- `installer::vectors` meets its contract: the words of `table_for` are copied to the start, or it refuses.
-use Rattle.std.proofs.Common.{rules, arith, length-take}
+use Rattle.std.proofs.Common.{arith, length-take}
 use Rattle.monitor.proofs.InstallLaws.{vectors_written, vectors_refused}
 use Rattle.monitor.proofs.VectorLaws.{table_length}
 use Rattle.installer.proofs.vectors.Goals as goal

@@ -1,5 +1,5 @@
 -- `loader::load` meets its contract: the tests answer as the definition does, and an accepted file is a callee's.
-use Rattle.std.proofs.Common.{◌≡◌, sym, ◌∙◌, arith}
+use Rattle.std.proofs.Common.{sym, ◌∙◌, arith}
 use Rattle.object.proofs.Acceptance.{accepted_is_readable, readable_is_loaded}
 use Rattle.object.proofs.CallLaws.{loading_refused}
 use Rattle.loader.proofs.load.Goals as goal

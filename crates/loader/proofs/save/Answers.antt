@@ -1,5 +1,5 @@
 -- `loader::save` meets its contract: the tests answer as the definition does, and an accepted range is a callee's.
-use Rattle.std.proofs.Common.{◌≡◌, sym, ◌∙◌, arith}
+use Rattle.std.proofs.Common.{sym, ◌∙◌, arith}
 use Rattle.object.proofs.Acceptance.{accepted_is_writable, writable_is_saved}
 use Rattle.object.proofs.CallLaws.{writing_refused}
 use Rattle.loader.proofs.save.Goals as goal

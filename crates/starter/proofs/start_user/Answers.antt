@@ -1,5 +1,5 @@
 -- `starter::start_user` meets its contract: by the refusal, which is a callee's.
-use Rattle.std.proofs.Common.{◌≡◌, sym, ◌∙◌, arith}
+use Rattle.std.proofs.Common.{sym, ◌∙◌, arith}
 use Rattle.start.proofs.UserLaws.{user_starting_refused}
 use Rattle.start.proofs.UserStart.{user_start_is_start}
 use Rattle.starter.proofs.start_user.Goals as goal

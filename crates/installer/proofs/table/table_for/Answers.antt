@@ -1,5 +1,5 @@
 -- `installer::table::table_for` meets its contract: between two turns of the loop the first words are the table's.
-use Rattle.std.proofs.Common.{◌≡◌, rules}
+use Rattle.std.proofs.Common.{rules}
 use Rattle.monitor.proofs.VectorLaws.{one_more_vector, all_vectors}
 use Rattle.installer.proofs.table.table_for.Goals as goal
 

@@ -1,6 +1,6 @@
 -- `loader::words::read_words` meets its contract: between two turns of the loop, the words read and the bytes still to
 -- come make the whole.
-use Rattle.std.proofs.Common.{◌≡◌, ◌*◌, ◌++◌, length, take, drop}
+use Rattle.std.proofs.Common.{◌≡◌, ◌*◌, ◌++◌, take, drop}
 use Rattle.object.specs.File.{words_of}
 use Rattle.loader.proofs.words.read_words.Given as goal
 

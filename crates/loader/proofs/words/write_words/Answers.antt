@@ -1,6 +1,6 @@
 -- `loader::words::write_words` meets its contract: between two turns of the loop, the bytes written and the words still
 -- to come make the whole.
-use Rattle.std.proofs.Common.{◌≡◌, ◌<◌, ◌/◌, ◌%◌, ◌∙◌, rules, arith, get_or}
+use Rattle.std.proofs.Common.{◌≡◌, ◌/◌, ◌%◌, ◌∙◌, rules, arith, get_or}
 use Rattle.object.proofs.WordLaws.{one_word_written, all_words_written}
 use Rattle.loader.proofs.words.write_words.Goals as goal
 

@@ -1,6 +1,6 @@
 -- `loader::words::write_words` meets its contract: between two turns of the loop, the bytes written and the words still
 -- to come make the whole.
-use Rattle.std.proofs.Common.{◌≡◌, ◌*◌, ◌++◌, length, take, drop}
+use Rattle.std.proofs.Common.{◌≡◌, ◌*◌, ◌++◌, take, drop}
 use Rattle.object.specs.File.{bytes_of}
 use Rattle.loader.proofs.words.write_words.Given as goal
 
