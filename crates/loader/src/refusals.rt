@@ -5,7 +5,7 @@ ghost use Rattle.object.specs.Calls.{load_refusal, save_refusal};
 
 use lent::Refusal;
 
-#[tactic(auto, using(std::proofs::lemmas::Bool::Decides::nat_tests, object::proofs::Acceptance::words_in_lem,), unfolding(object::specs::Calls::load_refusal, object::specs::Calls::wrong_size, object::specs::Calls::wrong_length, object::specs::Calls::beyond_memory,))]
+#[tactic(auto, using(crate::proofs::Tests::tests), unfolding(crate::proofs::Tests::opened))]
 pub fn load_refusal(file: &[u8], memory: &[u16]) -> Result<(), Refusal>
     ensures { refusal_of result ≡ load_refusal file.now memory.now }
 {
@@ -22,7 +22,7 @@ pub fn load_refusal(file: &[u8], memory: &[u16]) -> Result<(), Refusal>
     Ok(())
 }
 
-#[tactic(auto, using(std::proofs::lemmas::Bool::Decides::nat_tests, object::proofs::Acceptance::file_length,), unfolding(object::specs::Calls::save_refusal, object::specs::Calls::wrong_size, object::specs::Calls::beyond_memory, object::specs::Calls::too_short,))]
+#[tactic(auto, using(crate::proofs::Tests::tests), unfolding(crate::proofs::Tests::opened))]
 pub fn save_refusal(memory: &[u16], origin: u16, words: usize, output: &[u8]) -> Result<(), Refusal>
     ensures { refusal_of result ≡ save_refusal memory.now origin words output.now }
 {

@@ -6,7 +6,7 @@ ghost use Rattle.start.specs.Start.{outside_user_words, user_refusal};
 use lent::Refusal;
 
 // The origin or a word from there on lies outside x3000 to xFDFF.
-#[tactic(auto, using(std::proofs::lemmas::Bool::Decides::nat_tests), unfolding(start::specs::Start::outside_user_words, machine::specs::Protection::privileged,))]
+#[tactic(auto, unfolding(start::proofs::Opened::opened))]
 fn is_outside(origin: u16, words: usize) -> bool
     ensures { result ≡ outside_user_words origin words }
 {
