@@ -6,7 +6,7 @@ use borrow.Author.Tests.{eq-eqb, ne_eqb, lt-ltb, le-ltb}
 use borrow.Rule.Slice.PartMut.{put_mid}
 use lib.ListN.{length, drop, length-append}
 use lib.Seq.{take_at, drop_at, take-append_seam, drop-drop}
-use Rattle.lent.specs.Lent.{wrong_size, too_short, written_over}
+use Rattle.lent.specs.Lent.{wrong_size, too_short}
 use Rattle.monitor.specs.declared.Routines.{Routines}
 use Rattle.monitor.specs.Vectors.{vector_table, ours}
 use Rattle.monitor.specs.Routines.{routine_words, monitor_words}
