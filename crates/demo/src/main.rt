@@ -3,6 +3,7 @@
 #![tactic(auto)]
 
 use beside::{count_different, same_record, sit_beside};
+use lent::Refusal;
 use machine::Machine;
 use printing::{print, print_number, print_shown};
 use sitting::sit;
@@ -56,21 +57,24 @@ fn introduce(rt: &impl Print) {
 }
 
 // Starts the answers and then the candidate's program, whose record is the one to run.
-fn start_all(rt: &(impl Files + Print), memory: &mut [u16]) -> Machine {
-    installer::install(memory);
+fn start_all(rt: &(impl Files + Print), memory: &mut [u16]) -> Result<Machine, Refusal> {
+    installer::install(memory)?;
     print(rt, b"Object files, of which the last is run:\n");
     tell(rt, &ANSWERS, start_file(rt, &ANSWERS, memory, false));
     let started = start_file(rt, &CANDIDATE, memory, true);
     tell(rt, &CANDIDATE, started);
-    started.machine
+    Ok(started?.machine)
 }
 
 // The same with these answers, and nothing said.
-fn start_sitting(rt: &impl Files, memory: &mut [u16], answers: &[u8]) -> Machine {
-    installer::install(memory);
-    start_file(rt, answers, memory, false);
-    let started = start_file(rt, &CANDIDATE, memory, true);
-    started.machine
+fn start_sitting(
+    rt: &impl Files,
+    memory: &mut [u16],
+    answers: &[u8],
+) -> Result<Machine, Refusal> {
+    installer::install(memory)?;
+    start_file(rt, answers, memory, false)?;
+    Ok(start_file(rt, &CANDIDATE, memory, true)?.machine)
 }
 
 fn print_heading(rt: &impl Print) {
@@ -85,24 +89,24 @@ fn print_heading(rt: &impl Print) {
 }
 
 // The sitting in calls, and its display. Answers the last record.
-fn in_calls(rt: &(impl Files + Print)) -> Machine {
+fn in_calls(rt: &(impl Files + Print)) -> Result<Machine, Refusal> {
     let mut memory = [0u16; 65536];
-    let m = start_all(rt, &mut memory);
+    let m = start_all(rt, &mut memory)?;
     print_heading(rt);
     let mut display = [0u8; 64];
     let sat = sit(rt, m, &mut memory, &TIMES, &KEYS, &mut display);
     let n = sat.shown;
     print(rt, b"\nThe display:\n\n");
     print(rt, &display[0..n]);
-    sat.machine
+    Ok(sat.machine)
 }
 
 // The sitting one step a call, beside one with other answers. Answers the last record of the first.
-fn in_steps(rt: &(impl Files + Print)) -> Machine {
+fn in_steps(rt: &(impl Files + Print)) -> Result<Machine, Refusal> {
     let mut memory = [0u16; 65536];
-    let m = start_sitting(rt, &mut memory, &ANSWERS);
+    let m = start_sitting(rt, &mut memory, &ANSWERS)?;
     let mut other = [0u16; 65536];
-    let o = start_sitting(rt, &mut other, &OTHER_ANSWERS);
+    let o = start_sitting(rt, &mut other, &OTHER_ANSWERS)?;
     print(
         rt,
         b"\nThe same in single steps, beside a sitting whose answers are other words.\n",
@@ -116,15 +120,15 @@ fn in_steps(rt: &(impl Files + Print)) -> Machine {
     print(rt, b"Words of memory that differ at the end: ");
     print_number(rt, count_different(&memory, &other), 1);
     print(rt, b"\n");
-    last
+    Ok(last)
 }
 
 // What the attack shows where it is loaded all the same, beside these answers.
-fn stolen(rt: &impl Files, answers: &[u8]) -> u8 {
+fn stolen(rt: &impl Files, answers: &[u8]) -> Result<u8, Refusal> {
     let mut memory = [0u16; 65536];
-    installer::install(&mut memory);
-    start_file(rt, answers, &mut memory, false);
-    let started = start_file(rt, &ATTACK, &mut memory, false);
+    installer::install(&mut memory)?;
+    start_file(rt, answers, &mut memory, false)?;
+    let started = start_file(rt, &ATTACK, &mut memory, false)?;
     let mut shown = [0u8; 1];
     run_call::run(
         started.machine,
@@ -134,34 +138,35 @@ fn stolen(rt: &impl Files, answers: &[u8]) -> u8 {
         &mut shown,
         100,
     );
-    shown[0]
+    Ok(shown[0])
 }
 
 // A file that would replace the vector of the access exception, and what comes of it.
-fn attack(rt: &(impl Files + Print)) {
+fn attack(rt: &(impl Files + Print)) -> Result<(), Refusal> {
     print(
         rt,
         b"\nAnother candidate hands in a file for x0102, the vector of the access exception:\n",
     );
     let mut memory = [0u16; 65536];
-    start_sitting(rt, &mut memory, &ANSWERS);
+    start_sitting(rt, &mut memory, &ANSWERS)?;
     let before = memory;
     tell(rt, &ATTACK, start_file(rt, &ATTACK, &mut memory, true));
     print(rt, b"Words of memory that it has changed: ");
     print_number(rt, count_different(&memory, &before), 1);
     print(rt, b"\n");
     print(rt, b"Loaded all the same it would show the first answer: ");
-    print_shown(rt, &[stolen(rt, &ANSWERS)]);
+    print_shown(rt, &[stolen(rt, &ANSWERS)?]);
     print(rt, b" in the one sitting, ");
-    print_shown(rt, &[stolen(rt, &OTHER_ANSWERS)]);
+    print_shown(rt, &[stolen(rt, &OTHER_ANSWERS)?]);
     print(rt, b" in the other.\n");
+    Ok(())
 }
 
-fn main(rt: HostRuntime) {
+fn main(rt: HostRuntime) -> Result<(), Refusal> {
     let rt = &rt;
     introduce(rt);
-    let a = in_calls(rt);
-    let b = in_steps(rt);
+    let a = in_calls(rt)?;
+    let b = in_steps(rt)?;
     if same_record(a, b) {
         print(
             rt,
@@ -173,5 +178,5 @@ fn main(rt: HostRuntime) {
             b"In calls and in single steps the sitting ends with DIFFERENT records.\n",
         );
     }
-    attack(rt);
+    attack(rt)
 }

@@ -2,6 +2,7 @@
 ghost use Rattle.std.specs.Prelude.{◌≤◌, length};
 
 use crate::printing::{print, print_number, print_word};
+use lent::Refusal;
 use start::Started;
 use std::io::Read;
 use std::rt::Files;
@@ -30,7 +31,7 @@ pub(crate) fn start_file(
     path: &[u8],
     memory: &mut [u16],
     candidate: bool,
-) -> Started {
+) -> Result<Started, Refusal> {
     let mut bytes = [0u8; 2048];
     let n = read_once(rt, path, &mut bytes);
     if candidate {
@@ -41,19 +42,20 @@ pub(crate) fn start_file(
 }
 
 // Says what came of a start.
-pub(crate) fn tell(rt: &impl Print, path: &[u8], started: Started) {
-    let machine = started.machine;
+pub(crate) fn tell(rt: &impl Print, path: &[u8], started: Result<Started, Refusal>) {
     print(rt, b"  ");
     print(rt, path);
-    if started.refusal != 0 {
-        print(rt, b": refused with ");
-        print_number(rt, started.refusal as u64, 1);
-        print(rt, b"\n");
-        return;
+    match started {
+        Ok(started) => {
+            print(rt, b": ");
+            print_number(rt, u64::from(started.words), 1);
+            print(rt, b" words from ");
+            print_word(rt, started.machine.pc);
+        }
+        Err(refusal) => {
+            print(rt, b": refused with ");
+            print_number(rt, u64::from(u32::from(refusal)), 1);
+        }
     }
-    print(rt, b": ");
-    print_number(rt, started.words as u64, 1);
-    print(rt, b" words from ");
-    print_word(rt, machine.pc);
     print(rt, b"\n");
 }

@@ -2,11 +2,12 @@
 // from x0200 on. `vectors` makes such words for any routines.
 #![tactic(auto)]
 
-ghost use Rattle.std.specs.Prelude.{◌≡◌, ◌+◌, ◌≤◌, length};
-ghost use Rattle.std.proofs.Math.Seq.{paste};
+ghost use Rattle.std.specs.Prelude.{◌≡◌};
+ghost use Rattle.lent.specs.Lent.{refusal_of};
 ghost use Rattle.monitor.specs.Vectors.{ours};
 ghost use Rattle.monitor.specs.Install.{filling, vectors_of, install_of};
 
+use lent::Refusal;
 use monitor::Routines;
 
 pub mod listing;
@@ -29,41 +30,25 @@ pub fn ours() -> Routines
     }
 }
 
-// Copies words to a lent buffer, from an index on.
-fn copy(from: &[u16], to: &mut [u16], at: usize)
-    requires { at + length from.now ≤ length to.old }
-    ensures { to.new ≡ paste to.old at from.now (length from.now) }
-{
-    let mut k = 0;
-    while k < from.len() {
-        to[at + k] = from[k];
-        k += 1;
-    }
-}
-
-// The generator: writes the words x0000 to x01FF for these routines to the start of a lent buffer. The answer is 16
-// where they do not fit, and else 0.
-pub fn vectors(r: Routines, lent: &mut [u16]) -> u8
-    ensures { filling result lent.new ≡ vectors_of r lent.old }
+// The generator: writes the words x0000 to x01FF for these routines to the start of a lent buffer, where they fit.
+pub fn vectors(r: Routines, lent: &mut [u16]) -> Result<(), Refusal>
+    ensures { filling (refusal_of result) lent.new ≡ vectors_of r lent.old }
 {
     if lent.len() < 512 {
-        return 16;
+        return Err(Refusal::NoRoom);
     }
-    let words = table::table_for(r);
-    copy(&words, lent, 0);
-    0
+    lent[..512].copy_from_slice(&table::table_for(r));
+    Ok(())
 }
 
-// Puts the monitor into lent memory. The answer is 11 where memory is not 65,536 words, and else 0.
-pub fn install(memory: &mut [u16]) -> u8
-    ensures { filling result memory.new ≡ install_of memory.old }
+// Puts the monitor into lent memory of 65,536 words.
+pub fn install(memory: &mut [u16]) -> Result<(), Refusal>
+    ensures { filling (refusal_of result) memory.new ≡ install_of memory.old }
 {
     if memory.len() != 65536 {
-        return 11;
+        return Err(Refusal::MemorySize);
     }
-    let words = table::our_table();
-    let routines = listing::our_routines();
-    copy(&words, memory, 0);
-    copy(&routines, memory, 512);
-    0
+    memory[..512].copy_from_slice(&table::our_table());
+    memory[512..677].copy_from_slice(&listing::our_routines());
+    Ok(())
 }

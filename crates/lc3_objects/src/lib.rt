@@ -2,14 +2,15 @@
 // written from a range of memory. The calls accept every argument; the refusals are those of include/fanthrig/lc3.h.
 #![tactic(auto)]
 
-ghost use Rattle.std.specs.Prelude.{◌≡◌};
+ghost use Rattle.std.specs.Prelude.{◌≡◌, ℕ, List};
 ghost use Rattle.lent.specs.Lent.{host_counted};
 ghost use Rattle.object.specs.Calls.{save_of};
-ghost use Rattle.start.specs.Start.{started_of, user_started_of};
+ghost use Rattle.start.specs.Start.{zero_machine, starting, started_of, user_started_of};
 ghost use Rattle.lc3_objects.specs.Answers.{host_starting};
 
-use lent::Lc3Counted;
+use lent::{Lc3Counted, Refusal};
 use machine::Machine;
+use start::Started;
 
 // A fresh record at the file's origin and the number of words loaded, with 0; or both all zero, with the number of the
 // refusal. 56 bytes.
@@ -21,39 +22,57 @@ pub struct Lc3Started {
     pub refusal: u32,
 }
 
+// The record of a refusal (M25.2).
+fn zero() -> Machine
+    ensures { result ≡ zero_machine }
+{
+    Machine {
+        regs: [0; 8],
+        pc: 0,
+        psr: 0,
+        saved_ssp: 0,
+        saved_usp: 0,
+        devices: machine::zero_devices(),
+        clock: 0,
+    }
+}
+
+impl From<Result<Started, Refusal>> for Lc3Started {
+    ghost from_gives = { λ answer r. (memory : List ℕ) → host_starting r memory ≡ starting answer memory };
+
+    fn from(answer: Result<Started, Refusal>) -> Lc3Started {
+        match answer {
+            Ok(started) => Lc3Started {
+                machine: started.machine,
+                words: started.words,
+                refusal: 0,
+            },
+            Err(refusal) => Lc3Started {
+                machine: zero(),
+                words: 0,
+                refusal: u32::from(refusal),
+            },
+        }
+    }
+}
+
 pub fn lc3_start(file: &[u8], memory: &mut [u16], user: bool, stack: u16) -> Lc3Started
     ensures { host_starting result memory.new
         ≡ started_of file.now memory.old user stack }
 {
-    let started = starter::start(file, memory, user, stack);
-    let machine = started.machine;
-    Lc3Started {
-        machine,
-        words: started.words,
-        refusal: started.refusal as u32,
-    }
+    Lc3Started::from(starter::start(file, memory, user, stack))
 }
 
 pub fn lc3_start_user(file: &[u8], memory: &mut [u16], stack: u16) -> Lc3Started
     ensures { host_starting result memory.new
         ≡ user_started_of file.now memory.old stack }
 {
-    let started = starter::start_user(file, memory, stack);
-    let machine = started.machine;
-    Lc3Started {
-        machine,
-        words: started.words,
-        refusal: started.refusal as u32,
-    }
+    Lc3Started::from(starter::start_user(file, memory, stack))
 }
 
 pub fn lc3_save(memory: &[u16], origin: u16, words: usize, output: &mut [u8]) -> Lc3Counted
     ensures { host_counted result output.new
         ≡ save_of memory.now origin words output.old }
 {
-    let saved = loader::save(memory, origin, words, output);
-    Lc3Counted {
-        count: saved.count as u64,
-        refusal: saved.refusal as u32,
-    }
+    Lc3Counted::from(loader::save(memory, origin, words, output))
 }

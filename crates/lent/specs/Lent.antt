@@ -44,6 +44,11 @@ refusal_number PastMemory = 18
 refusal_number RangePastMemory = 20
 refusal_number OutsideUserWords = 21
 
+-- The number in an answer: 0, or that of the refusal.
+abbrev pub refusal_of : {A : Type 0} → Result A Refusal → ℕ
+refusal_of (Ok a) = 0
+refusal_of (Err r) = refusal_number r
+
 -- What the functions answer and leave, as one value.
 abbrev pub counted : Result ℕ Refusal → List ℕ → Written
 counted (Ok n) output = record { count = n; refusal = 0; output = output }

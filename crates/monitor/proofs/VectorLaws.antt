@@ -1,15 +1,12 @@
 -- Laws of the vector words: those that lead to none of the six services, and the table as its words.
 use Prim.Native.Nat.{ℕ, zero, suc, ◌+◌, ◌≤◌, ◌<◌}
 use native.Mathlib.Nat.{add-zero, add-suc, suc-add, zero-add}
-use native.Mathlib.Numerals.{add-one}
 use native.Mathlib.Omega.{arith}
 use mathlib.Core.Path.{◌≡◌, refl, sym, ap, ◌∙◌}
 use mathlib.Core.Bool.{false, cond}
-use mathlib.Core.List.{List}
 use borrow.Author.Tests.{ne_eqb, lt-ltb, le-ltb}
 use lib.Dec.{ltb, eqb}
-use lib.ListN.{length, get_or, set, take}
-use lib.Seq.{take-suc-set, take-suc, take_all}
+use lib.ListN.{length, get_or}
 use Rattle.monitor.specs.declared.Routines.{Routines}
 use Rattle.monitor.specs.Vectors.{vector_word, vectors_from, vector_table, TableHolds}
 
@@ -53,21 +50,6 @@ table_length r = length_vectors r 0 512
 pub table_at : (r : Routines) (a : ℕ) → a < 512 → get_or (vector_table r) a 0 ≡ vector_word r a
 unfolding vector_table
 table_at r a h = vectors_at r 0 512 a h ∙ ap (vector_word r) (zero-add a)
-
--- One more word of the table; and all of them.
-pub one_more_vector : (r : Routines) (t : List ℕ) (a : ℕ) → a < 512 → length t ≡ 512 → take a t
-    ≡ take a (vector_table r)
-    → take (a + 1) (set t a (vector_word r a)) ≡ take (a + 1) (vector_table r)
-one_more_vector r t a h l e =
-    rw add-one
-    (take-suc-set t a (vector_word r a) (omega arith)
-    ∙ rw (e, ← (table_at r a h))
-    (sym (take-suc (vector_table r) a 0 (omega (arith, table_length r)))))
-
-pub all_vectors : (r : Routines) (t : List ℕ) (a : ℕ) → 512 ≤ a → length t ≡ 512 → take a t ≡ take a (vector_table r)
-    → t ≡ vector_table r
-all_vectors r t a h l e =
-    sym (take_all a t (omega arith)) ∙ e ∙ take_all a (vector_table r) (omega (arith, table_length r))
 
 pub table_holds : TableHolds
 table_holds = record { size = table_length; words = table_at }

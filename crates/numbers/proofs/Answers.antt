@@ -29,9 +29,11 @@ unfolding flat_of
 others_in_place m = record {
   told_to_c = refl;
   load = refl;
+  load_refused = refl;
   bytes = refl;
   bytes_to_c = refl;
   start = refl;
+  start_refused = refl;
   start_to_c = refl;
   reading_to_c = refl;
   writing_to_c = refl;

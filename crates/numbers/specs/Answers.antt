@@ -1,7 +1,8 @@
 -- What a function answers and what it leaves, packed as one value: each number in its place, for any record. No two
 -- numbers are the same, and the counts of runs have bits beyond the fifteenth.
-use Rattle.std.specs.Prelude.{ℕ, ◌≡◌, List, [], ◌∷◌, pos}
+use Rattle.std.specs.Prelude.{ℕ, ◌≡◌, Ok, Err, List, [], ◌∷◌, pos}
 use Rattle.word.specs.declared.Instruction.TheVariants.{Rti}
+use Rattle.lent.specs.declared.Refusal.TheVariants.{BrokenFile, OutsideUserWords}
 use Rattle.lent.specs.Lent.{counted, host_counted}
 use Rattle.machine.specs.declared.Machine.{Machine}
 use Rattle.machine.specs.declared.Rule.TheVariants.{Access}
@@ -16,7 +17,7 @@ use Rattle.logging.specs.declared.LoggedEnding.TheVariants.{Run, LogFull}
 use Rattle.logging.specs.LoggedRun.{Logged, with_log}
 use Rattle.logging.specs.LoggedCall.{logged_end_of}
 use Rattle.object.specs.Calls.{loading}
-use Rattle.start.specs.Start.{starting}
+use Rattle.start.specs.Start.{zero_machine, starting}
 use Rattle.answers.specs.Answer.{Answered, answer_of, report_of, reported, answered}
 use Rattle.lc3_logging.specs.LoggedAnswer.{LoggedAnswered, logged_answer_of, logged_answered}
 use Rattle.telling.specs.declared.Addresses.{Addresses}
@@ -142,13 +143,17 @@ pub record OthersInPlace (m : Machine) : Type 0 where
         reads = addresses 5 6 7 8;
         writes = addresses 9 10 11 12;
       }
-  pub load : loading (record { origin = 1; words = 2; refusal = 3 }) (4 ∷ [])
-      ≡ record { origin = 1; words = 2; refusal = 3; memory = 4 ∷ [] }
-  pub bytes : counted (record { count = 1; refusal = 2 }) (3 ∷ []) ≡ record { count = 1; refusal = 2; output = 3 ∷ [] }
+  pub load : loading (Ok (record { origin = 1; words = 2 })) (4 ∷ [])
+      ≡ record { origin = 1; words = 2; refusal = 0; memory = 4 ∷ [] }
+  pub load_refused : loading (Err BrokenFile) (4 ∷ [])
+      ≡ record { origin = 0; words = 0; refusal = 17; memory = 4 ∷ [] }
+  pub bytes : counted (Ok 1) (3 ∷ []) ≡ record { count = 1; refusal = 0; output = 3 ∷ [] }
   pub bytes_to_c : host_counted (record { count = 1; refusal = 2 }) (3 ∷ [])
       ≡ record { count = 1; refusal = 2; output = 3 ∷ [] }
-  pub start : starting (record { machine = m; words = 1; refusal = 2 }) (3 ∷ [])
-      ≡ record { machine = m; words = 1; refusal = 2; memory = 3 ∷ [] }
+  pub start : starting (Ok (record { machine = m; words = 1 })) (3 ∷ [])
+      ≡ record { machine = m; words = 1; refusal = 0; memory = 3 ∷ [] }
+  pub start_refused : starting (Err OutsideUserWords) (3 ∷ [])
+      ≡ record { machine = zero_machine; words = 0; refusal = 21; memory = 3 ∷ [] }
   pub start_to_c : host_starting (record { machine = m; words = 1; refusal = 2 }) (3 ∷ [])
       ≡ record { machine = m; words = 1; refusal = 2; memory = 3 ∷ [] }
   pub reading_to_c : flat_read_of (record { instruction = Rti; mask = 5 })

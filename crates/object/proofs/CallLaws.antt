@@ -1,14 +1,19 @@
 -- The calls over plain lists. Accepted: the part of memory or output that is lent to a loop comes back in its place.
 -- Turned away: all stays as it is.
-use Prim.Native.Nat.{ℕ, zero, suc, ◌+◌, ◌-◌, ◌*◌, ◌/◌, ◌%◌, ◌≤◌}
+use Prim.Native.Nat.{ℕ, zero, suc, ◌+◌, ◌-◌, ◌*◌, ◌/◌, ◌%◌}
 use native.Mathlib.Omega.{arith}
 use mathlib.Core.Path.{◌≡◌, refl, ap, ◌∙◌}
-use mathlib.Core.List.{List, [], ◌∷◌, ◌++◌}
-use lib.ListN.{length, take, drop, set, length-append, length-drop}
+use mathlib.Core.List.{List, ◌∷◌, ◌++◌}
+use lib.ListN.{length, take, drop, length-drop}
 use lib.Seq.{take_all, drop-drop}
-use Rattle.lent.specs.Lent.{Written, written_by}
-use Rattle.object.specs.File.{bytes_of, words_of, file_of, origin_in, words_in, range}
-use Rattle.object.specs.Calls.{Loading, load_accepted, load_by, save_accepted}
+use Rattle.std.specs.Prelude.{Err}
+use Rattle.lent.specs.declared.Refusal.{Refusal}
+use Rattle.lent.specs.declared.Refusal.TheVariants.{MemorySize, NoRoom, BrokenFile, PastMemory}
+use Rattle.lent.specs.declared.Refusal.TheVariants.{RangePastMemory, OutsideUserWords}
+use Rattle.lent.specs.Lent.{Written, written_by, refusal_number, counted}
+use Rattle.object.specs.File.{bytes_of, words_of, origin_in, words_in, range}
+use Rattle.object.specs.Calls.{Loading, load_refusal, load_accepted, load_by, load_of, loading}
+use Rattle.object.specs.Calls.{save_refusal, save_accepted, save_of}
 use Rattle.object.specs.Accepted.{Writable}
 use Rattle.object.proofs.Acceptance.{words_in_lem, file_length}
 
@@ -35,48 +40,27 @@ module _ (file memory part : List ℕ) (origin : ℕ) (o : origin ≡ origin_in 
 module _ (memory output part : List ℕ) (origin count : ℕ) (a : Writable memory origin count output)
     (p : part ≡ bytes_of (take (origin + count - origin) (drop origin memory)))
   where
-    file_after_origin : (output : List ℕ) → 2 ≤ length output →
-        take 2 (set (set output 0 (origin / 256)) 1 (origin % 256))
-        ++ (part ++ drop (2 + 2 * count - 2) (drop 2 (set (set output 0 (origin / 256)) 1 (origin % 256))))
-        ≡ (origin / 256 ∷ origin % 256 ∷ []) ++ (part ++ drop (2 + 2 * count) output)
-    file_after_origin [] h = absurd (omega arith)
-    file_after_origin (x ∷ []) h = absurd (omega arith)
-    file_after_origin (x ∷ y ∷ rest) h =
-        let n : 2 + 2 * count - 2 ≡ 2 * count = omega arith in
-        let m : 2 + 2 * count ≡ suc (suc (2 * count)) = omega arith in
-        rw (n, m)
-
     pub file_in_place :
         ◌≡◌ {A = Written}
         (record {
           count = 2 + 2 * count;
           refusal = 0;
-          output = take 2 (set (set output 0 (origin / 256)) 1 (origin % 256))
-              ++ (part ++ drop (2 + 2 * count - 2) (drop 2 (set (set output 0 (origin / 256)) 1 (origin % 256))));
+          output = take 2 (origin / 256 ∷ origin % 256 ∷ drop 2 output)
+              ++ (part ++ drop (2 + 2 * count - 2) (drop 2 (origin / 256 ∷ origin % 256 ∷ drop 2 output)));
         })
         (save_accepted memory origin count output)
     unfolding save_accepted bytes_of
     file_in_place =
         let n : origin + count - origin ≡ count = omega arith in
+        let m : 2 + 2 * count - 2 ≡ 2 * count = omega arith in
         let w : part ≡ bytes_of (range origin count memory) = (rw n at p) in
         rw (
-          file_after_origin output (omega (arith, a.room)),
+          m,
+          drop-drop (2 * count) 2 output,
           w,
           ← file_length origin count memory
               (omega (arith, a.size, a.fits)),
         )
-
-    pub same_length_out :
-        length
-        (take 2 (set (set output 0 (origin / 256)) 1 (origin % 256))
-        ++ (part ++ drop (2 + 2 * count - 2) (drop 2 (set (set output 0 (origin / 256)) 1 (origin % 256)))))
-        ≡ length output
-    unfolding save_accepted
-    same_length_out =
-        let l : length (file_of origin (range origin count memory))
-        ≡ 2 + 2 * count = file_length origin count memory (omega (arith, a.size, a.fits)) in
-        ap (λ (s : Written). length s.output) file_in_place
-        ∙ simp (length-append, length-drop) (omega (arith, a.room))
 
 pub loading_turned_away : (n : ℕ) (file memory : List ℕ) → (n ≡ 0 → ⊥) →
     ◌≡◌ {A = Loading} (record { origin = 0; words = 0; refusal = n; memory = memory }) (load_by n file memory)
@@ -88,3 +72,24 @@ pub writing_turned_away : (n : ℕ) (words output : List ℕ) → (n ≡ 0 → �
     ◌≡◌ {A = Written} (record { count = 0; refusal = n; output = output }) (written_by n words output)
 writing_turned_away zero words output h = absurd (h refl)
 writing_turned_away (suc n) words output h = refl
+
+-- The number of a refusal is never 0, by which a call is accepted.
+pub not_zero : (r : Refusal) → refusal_number r ≡ 0 → ⊥
+not_zero MemorySize h = omega arith
+not_zero NoRoom h = omega arith
+not_zero BrokenFile h = omega arith
+not_zero PastMemory h = omega arith
+not_zero RangePastMemory h = omega arith
+not_zero OutsideUserWords h = omega arith
+
+pub loading_refused : (r : Refusal) (file memory : List ℕ) → refusal_number r ≡ load_refusal file memory
+    → loading (Err r) memory ≡ load_of file memory
+unfolding load_of
+loading_refused r file memory e = rw (← e) (loading_turned_away (refusal_number r) file memory (not_zero r))
+
+pub writing_refused : (r : Refusal) (memory : List ℕ) (origin count : ℕ) (output : List ℕ)
+    → refusal_number r ≡ save_refusal memory origin count output
+    → counted (Err r) output ≡ save_of memory origin count output
+unfolding save_of
+writing_refused r memory origin count output e =
+    rw (← e) (writing_turned_away (refusal_number r) _ output (not_zero r))

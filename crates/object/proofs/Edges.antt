@@ -8,7 +8,7 @@ use lib.ListN.{length, take-append-drop}
 use borrow.Author.Tests.{eq-eqb, ne_eqb, lt-ltb, le-ltb}
 use Rattle.lent.specs.Lent.{Written}
 use Rattle.object.specs.File.{word, words_of, bytes_of, origin_in, words_in}
-use Rattle.object.specs.Calls.{wrong_size, wrong_length, beyond_memory, too_short, load_refusal, save_refusal, Loading}
+use Rattle.object.specs.Calls.{wrong_size, wrong_length, beyond_memory, load_refusal, save_refusal, Loading}
 use Rattle.object.specs.Calls.{load_accepted, load_by, load_of, save_accepted, save_of}
 use Rattle.object.specs.Edges.{FileWithoutWords, RangeWithoutWords, RangeToTheEnd, FileToTheEnd}
 use Rattle.object.specs.Edges.{WrongSizeFirst}

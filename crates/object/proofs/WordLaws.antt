@@ -4,8 +4,8 @@ use native.Mathlib.Numerals.{add-one}
 use native.Mathlib.Omega.{arith}
 use mathlib.Core.Path.{◌≡◌, refl}
 use mathlib.Core.List.{List, [], ◌∷◌, ◌++◌, append-nil, append_assoc}
-use lib.ListN.{length, get_or, take, drop, set, length-set, drop_of_length-le}
-use lib.Seq.{drop-cons, take_all, take-suc-set}
+use lib.ListN.{length, get_or, take, drop, set, length-append, drop_of_length-le}
+use lib.Seq.{drop-cons, take_all, take_at, take-suc-set, length-take-le}
 use Rattle.object.specs.File.{word, words_of, bytes_of}
 
 pub length_of_words : (bytes : List ℕ) → length (words_of bytes) ≡ length bytes / 2
@@ -38,24 +38,16 @@ module _ (bytes words : List ℕ) (k : ℕ) (l : length bytes ≡ 2 * length wor
   unfolding words_of
   all_words_read h = rw (drop_of_length-le bytes {i = 2 * k} (omega arith), take_all k words h, append-nil)
 
-  pub one_word_written : k < length words →
-      take (2 * (k + 1)) (set (set bytes (2 * k) (get_or words k 0 / 256)) (2 * k + 1) (get_or words k 0 % 256))
+  -- The word's two bytes stand between the bytes before it and any others.
+  pub one_word_written : (rest : List ℕ) → k < length words →
+      take (2 * (k + 1)) (take (2 * k) bytes ++ ((get_or words k 0 / 256 ∷ get_or words k 0 % 256 ∷ []) ++ rest))
       ++ bytes_of (drop (k + 1) words)
       ≡ take (2 * k) bytes ++ bytes_of (drop k words)
   unfolding bytes_of
-  one_word_written h =
-      let e : 2 * (k + 1) ≡ suc (suc (2 * k)) = omega arith in
-      let s : suc (2 * k) < length (set bytes (2 * k) (get_or words k 0 / 256)) = simp length-set (omega arith) in
-      rw (
-        e,
-        add-one (2 * k),
-        add-one k,
-        drop-cons words k 0 h,
-        take-suc-set (set bytes (2 * k) (get_or words k 0 / 256))
-            (suc (2 * k)) _ s,
-        take-suc-set bytes (2 * k) _ (omega arith),
-      )
-      (simp append_assoc)
+  one_word_written rest h =
+      let front = take (2 * k) bytes ++ (get_or words k 0 / 256 ∷ get_or words k 0 % 256 ∷ []) in
+      let n : length front ≡ 2 * (k + 1) = simp length-append (omega (arith, length-take-le (2 * k) bytes (omega arith))) in
+      rw (← append_assoc, take_at front rest (2 * (k + 1)) n, add-one k, drop-cons words k 0 h) (simp append_assoc)
 
   pub all_words_written : length words ≤ k → bytes ≡ take (2 * k) bytes ++ bytes_of (drop k words)
   unfolding bytes_of

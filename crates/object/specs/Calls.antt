@@ -1,8 +1,9 @@
 -- Reading a file into memory and writing one from a range of memory, and how each is turned away: with zeros, and
 -- memory and output as lent.
-use Rattle.std.specs.Prelude.{ℕ, zero, suc, ◌+◌, ◌%◌, Bool, cond, ◌||◌, not, List, ltb, eqb, length}
+use Rattle.std.specs.Prelude.{ℕ, zero, suc, ◌+◌, ◌%◌, Bool, Result, Ok, Err, cond, ◌||◌, not, List, ltb, eqb, length}
+use Rattle.lent.specs.declared.Refusal.{Refusal}
 unfoldable pub use Rattle.lent.specs.Lent.{wrong_size, too_short}
-use Rattle.lent.specs.Lent.{Written, written, written_by}
+use Rattle.lent.specs.Lent.{Written, written, written_by, refusal_number}
 use Rattle.object.specs.declared.Loaded.{Loaded}
 use Rattle.object.specs.File.{file_of, origin_in, words_in, range, placed}
 
@@ -59,5 +60,6 @@ save_of memory origin count output =
     written_by (save_refusal memory origin count output) (file_of origin (range origin count memory)) output
 
 -- What `load` answers and leaves, as one value.
-abbrev pub loading : Loaded → List ℕ → Loading
-loading r memory = record { origin = r.origin; words = r.words; refusal = r.refusal; memory = memory }
+abbrev pub loading : Result Loaded Refusal → List ℕ → Loading
+loading (Ok l) memory = record { origin = l.origin; words = l.words; refusal = 0; memory = memory }
+loading (Err r) memory = record { origin = 0; words = 0; refusal = refusal_number r; memory = memory }

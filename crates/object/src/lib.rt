@@ -2,10 +2,9 @@
 // one answer; what they are is in specs/, and crates/loader has the code.
 #![tactic(auto)]
 
-// The origin and the number of words read, with 0; or zeros, with the number of the refusal.
+// The origin, and the number of words read.
 #[derive(Clone, Copy)]
 pub struct Loaded {
     pub origin: u16,
     pub words: u32,
-    pub refusal: u8,
 }

@@ -1,6 +1,8 @@
 -- "One call loads the file and answers the word count and a fresh record whose PC is its origin." It is made of what
 -- loading a file leaves (`load_of` in crates/object) and what a fresh record is (`fresh_of` in crates/run).
-use Rattle.std.specs.Prelude.{ℕ, zero, suc, ◌+◌, Bool, true, cond, ◌||◌, List, [], ◌∷◌, ltb, length}
+use Rattle.std.specs.Prelude.{ℕ, zero, suc, ◌+◌, Bool, true, Result, Ok, Err, cond, ◌||◌, List, [], ◌∷◌, ltb, length}
+use Rattle.lent.specs.declared.Refusal.{Refusal}
+use Rattle.lent.specs.Lent.{refusal_number}
 use Rattle.machine.specs.declared.Machine.{Machine}
 use Rattle.machine.specs.Protection.{privileged}
 use Rattle.machine.specs.Record.{zero_devices}
@@ -70,5 +72,6 @@ unfoldable pub user_started_of : List ℕ → List ℕ → ℕ → Starting
 user_started_of file memory userStack = user_started_by (user_refusal file memory) file memory userStack
 
 -- What either function answers and leaves, as one value.
-abbrev pub starting : Started → List ℕ → Starting
-starting r memory = record { machine = r.machine; words = r.words; refusal = r.refusal; memory = memory }
+abbrev pub starting : Result Started Refusal → List ℕ → Starting
+starting (Ok s) memory = record { machine = s.machine; words = s.words; refusal = 0; memory = memory }
+starting (Err r) memory = record { machine = zero_machine; words = 0; refusal = refusal_number r; memory = memory }

@@ -3,10 +3,9 @@
 
 use machine::Machine;
 
-// The record and the number of words loaded, with 0; or both all zero, with the number of the refusal.
+// The record, and the number of words loaded.
 #[derive(Clone, Copy)]
 pub struct Started {
     pub machine: Machine,
     pub words: u32,
-    pub refusal: u8,
 }

@@ -1,33 +1,25 @@
-// How starting a file in User mode is turned away: the number, or 0.
+// How starting a file in User mode is turned away.
 ghost use Rattle.std.specs.Prelude.{◌≡◌};
+ghost use Rattle.lent.specs.Lent.{refusal_of};
 ghost use Rattle.start.specs.Start.{outside_user_words, user_refusal};
 
+use lent::Refusal;
+
 // The origin or a word from there on lies outside x3000 to xFDFF.
+#[tactic(auto, unfolding(start::proofs::Opened::opened))]
 fn is_outside(origin: u16, words: usize) -> bool
     ensures { result ≡ outside_user_words origin words }
 {
-    if origin < 0x3000 {
-        return true;
-    }
-    if 0xFE00 <= origin {
-        return true;
-    }
-    if 0xFE00 - (origin as usize) < words {
-        return true;
-    }
-    false
+    origin < 0x3000 || 0xFE00 <= origin || 0xFE00 - (origin as usize) < words
 }
 
-pub fn user_refusal(file: &[u8], memory: &[u16]) -> u8
-    ensures { result ≡ user_refusal file.now memory.now }
+pub fn user_refusal(file: &[u8], memory: &[u16]) -> Result<(), Refusal>
+    ensures { refusal_of result ≡ user_refusal file.now memory.now }
 {
-    let refusal = loader::refusals::load_refusal(file, memory);
-    if refusal != 0 {
-        return refusal;
-    }
-    let origin = loader::words::word(file[0], file[1]);
+    loader::refusals::load_refusal(file, memory)?;
+    let origin = u16::from_be_bytes([file[0], file[1]]);
     if is_outside(origin, file.len() / 2 - 1) {
-        return 21;
+        return Err(Refusal::OutsideUserWords);
     }
-    0
+    Ok(())
 }

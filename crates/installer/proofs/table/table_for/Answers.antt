@@ -1,21 +1,14 @@
--- `installer::table::table_for` meets its contract: between two turns of the loop the first words are the table's.
-use Prim.Native.Nat.{◌-◌}
-use mathlib.Core.Path.{◌≡◌, refl, ◌∙◌}
-use lib.ListN.{length, take, length-set}
-use borrow.Author.Rules.{rules}
-use Rattle.monitor.specs.Vectors.{vector_table}
-use Rattle.monitor.proofs.VectorLaws.{one_more_vector, all_vectors}
+-- `installer::table::table_for` meets its contract: the vector rule is computed at each of the 512 words.
+use Rattle.std.proofs.Common.{refl}
+use Rattle.monitor.specs.Vectors.{vector_word, vectors_from, vector_table}
 use Rattle.installer.proofs.table.table_for.Goals as goal
 
-pub loop-a-preserved : goal.loop-a-preserved
-loop-a-preserved c =
-    let r = c.args.r in
-    let l = c.loop-a in (
-      rw c.vector_word.ensures (one_more_vector r l.t l.a (search rules) l.invariant.1 l.invariant.0),
-      length-set l.t l.a _ ∙ l.invariant.1,
-    )
-
 pub returns : goal.returns
+unfolding vector_table vectors_from vector_word
 returns c =
-    let l = c.loop-a in
-    all_vectors c.args.r l.t l.a (search rules) l.invariant.1 l.invariant.0
+    rw (
+      c.fill-2.ensures.after (λ y e. e),
+      c.fill.ensures.after (λ y e. e),
+      c.copy_from_slice.ensures.after,
+    )
+    refl

@@ -1,0 +1,2 @@
+-- What decides the tests of a call.
+pub mod Tests
