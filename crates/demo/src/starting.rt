@@ -1,59 +1,71 @@
 // Object files, read from the working folder, and started in memory.
-ghost use Rattle.std.specs.Prelude.{◌≤◌, length};
-
-use crate::printing::{print, print_number, print_word};
+use crate::printing::Word;
 use start::Started;
-use std::io::Read;
+use std::error::Error;
 use std::rt::Files;
-use std::{fs, str};
+use std::{fmt, fs, io};
 
 // Where the candidate's stack begins.
 const USER_STACK: u16 = 0xFDFF;
 
-// Reads the start of a file, and answers how many bytes: none of a file that cannot be read.
-fn read_once(rt: &impl Files, path: &[u8], bytes: &mut [u8]) -> usize
-    ensures { result ≤ length bytes.new }
-{
-    let Ok(path) = str::from_utf8(path) else {
-        return 0;
-    };
-    let Ok(mut file) = fs::open(rt, path) else {
-        return 0;
-    };
-    file.read(bytes).unwrap_or(0)
+// Whose a file is: a candidate's may lie in x3000 to xFDFF alone, an examiner's is loaded wherever it lies.
+#[derive(Clone, Copy)]
+pub(crate) enum Source {
+    Candidate,
+    Examiner,
 }
 
-// A small file, by one read, started in User mode: a candidate's, which may lie in x3000 to xFDFF alone, or an
-// examiner's, loaded wherever it lies. A file that cannot be read is an empty one, which is refused.
-pub(crate) fn start_file(
-    rt: &impl Files,
-    path: &[u8],
-    memory: &mut [u16],
-    candidate: bool,
-) -> Started {
-    let mut bytes = [0u8; 2048];
-    let n = read_once(rt, path, &mut bytes);
-    if candidate {
-        starter::start_user(&bytes[..n], memory, USER_STACK)
-    } else {
-        starter::start(&bytes[..n], memory, true, USER_STACK)
+#[derive(Drop)]
+pub(crate) struct ObjectFile {
+    name: &'static str,
+    bytes: Vec<u8>,
+}
+
+// A file that was started.
+#[derive(Clone, Copy)]
+pub(crate) struct Loaded {
+    name: &'static str,
+    pub started: Started,
+}
+
+// A file that was refused, with the number of the refusal.
+#[derive(Clone, Copy, Debug)]
+pub(crate) struct Refused {
+    name: &'static str,
+    number: u8,
+}
+
+impl ObjectFile {
+    pub fn read(rt: &(impl AllocGlobal + Files), name: &'static str) -> io::Result<ObjectFile> {
+        let bytes = fs::read(rt, name)?;
+        Ok(ObjectFile { name, bytes })
+    }
+
+    // Loads the file into memory, and starts it in User mode.
+    pub fn start(&self, source: Source, memory: &mut [u16]) -> Result<Loaded, Refused> {
+        let name = self.name;
+        let started = match source {
+            Source::Candidate => starter::start_user(&self.bytes, memory, USER_STACK),
+            Source::Examiner => starter::start(&self.bytes, memory, true, USER_STACK),
+        };
+        match started.refusal {
+            0 => Ok(Loaded { name, started }),
+            number => Err(Refused { name, number }),
+        }
     }
 }
 
-// Says what came of a start.
-pub(crate) fn tell(rt: &impl Print, path: &[u8], started: Started) {
-    let machine = started.machine;
-    print(rt, b"  ");
-    print(rt, path);
-    if started.refusal != 0 {
-        print(rt, b": refused with ");
-        print_number(rt, started.refusal as u64, 1);
-        print(rt, b"\n");
-        return;
+impl fmt::Display for Loaded {
+    fn fmt<W: fmt::Write>(&self, f: &mut fmt::Formatter<W>) -> fmt::Result {
+        let Started { machine, words, .. } = self.started;
+        write!(f, "{}: {words} words from {}", self.name, Word(machine.pc))
     }
-    print(rt, b": ");
-    print_number(rt, started.words as u64, 1);
-    print(rt, b" words from ");
-    print_word(rt, machine.pc);
-    print(rt, b"\n");
 }
+
+impl fmt::Display for Refused {
+    fn fmt<W: fmt::Write>(&self, f: &mut fmt::Formatter<W>) -> fmt::Result {
+        write!(f, "{}: refused with {}", self.name, self.number)
+    }
+}
+
+impl Error for Refused {}
