@@ -53,14 +53,12 @@ pub(crate) fn sit(rt: &(impl AllocGlobal + Print), sitting: &mut Sitting) -> io:
         let answer = sitting.call(STEPS, &mut output);
         let Report { shown, ending, .. } = answer.report;
         let shown = output.get(..shown).unwrap_or(&output);
-        println!(rt;
-            "{}",
-            Row {
-                call,
-                answer,
-                shown
-            }
-        )?;
+        let row = Row {
+            call,
+            answer,
+            shown,
+        };
+        println!(rt; "{row}")?;
         display.extend_from_slice(shown)?;
         if is_over(ending) {
             break;

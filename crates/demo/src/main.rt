@@ -39,7 +39,7 @@ struct Exam {
 }
 
 impl Exam {
-    fn read(rt: &(impl AllocGlobal + Files)) -> io::Result<Exam> {
+    fn read(rt: &(impl AllocGlobal + Files)) -> anyhow::Result<Exam> {
         Ok(Exam {
             candidate: ObjectFile::read(rt, "candidate.obj")?,
             answers: ObjectFile::read(rt, "answers.obj")?,

@@ -1,9 +1,10 @@
 // Object files, read from the working folder, and started in memory.
 use crate::printing::Word;
+use anyhow::Context;
 use start::Started;
 use std::error::Error;
 use std::rt::Files;
-use std::{fmt, fs, io};
+use std::{fmt, fs};
 
 // Where the candidate's stack begins.
 const USER_STACK: u16 = 0xFDFF;
@@ -36,8 +37,8 @@ pub(crate) struct Refused {
 }
 
 impl ObjectFile {
-    pub fn read(rt: &(impl AllocGlobal + Files), name: &'static str) -> io::Result<ObjectFile> {
-        let bytes = fs::read(rt, name)?;
+    pub fn read(rt: &(impl AllocGlobal + Files), name: &'static str) -> anyhow::Result<ObjectFile> {
+        let bytes = fs::read(rt, name).context(name)?;
         Ok(ObjectFile { name, bytes })
     }
 
