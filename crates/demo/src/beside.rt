@@ -115,8 +115,8 @@ pub(crate) fn sit_beside(
     for steps in 0..STEPS {
         let before = first.machine;
         let word = first.next_word();
-        let a = first.call(1, &mut [0; 1]);
-        let b = second.call(1, &mut [0; 1]);
+        let a = first.step();
+        let b = second.step();
         let step = Step {
             before,
             after: a.machine,

@@ -1,4 +1,4 @@
-// What the lines are made of.
+// How a word and bytes of the display are printed.
 use std::fmt;
 
 // A word as the book writes it: x and four hexadecimal digits.
@@ -11,7 +11,7 @@ impl fmt::Display for Word {
     }
 }
 
-// Bytes of the display between quotation marks, the end of a line made visible.
+// Bytes of the display between quotation marks, each that would not print made visible: a line ends in \n.
 #[derive(Clone, Copy)]
 pub(crate) struct Shown<'a>(pub &'a [u8]);
 

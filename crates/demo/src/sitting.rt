@@ -64,6 +64,11 @@ impl Sitting {
         answer
     }
 
+    // A call of one step. What it shows is not kept.
+    pub fn step(&mut self) -> Answer {
+        self.call(1, &mut [0; 1])
+    }
+
     // The word at the PC.
     pub fn next_word(&self) -> u16 {
         let pc = usize::from(self.machine.pc);
