@@ -2,13 +2,12 @@
 // each call. The gate compares what is printed with the file stdout.
 #![tactic(auto)]
 
-ghost use Rattle.std.specs.Prelude.{◌≤◌, length};
-
-use lines::{attempt, heading, record, title};
+use call::Call;
 use machine::Machine;
+use std::io;
 
-mod comparing;
-mod lines;
+mod call;
+mod outcome;
 
 // 2^48, the highest clock.
 const LAST: u64 = 0x1_0000_0000_0000;
@@ -16,240 +15,165 @@ const LAST: u64 = 0x1_0000_0000_0000;
 // The most steps of one call.
 const MOST: u64 = 1048576;
 
-// The words of memory.
-const SIZE: usize = 65536;
-
-// A call with no keys.
-fn keyless(rt: &impl Print, text: &[u8], m: Machine, n: u64) {
-    attempt(rt, text, m, SIZE, &[], &[], n);
+// The record of every case but for what the case sets: each field is defined, and most differ.
+fn record() -> Machine {
+    Machine {
+        regs: [1, 2, 3, 4, 5, 6, 0x2F00, 8],
+        pc: 0x3000,
+        psr: 0x0302,
+        saved_ssp: 0x3000,
+        saved_usp: 0xFDFF,
+        devices: machine::set_keyboard(machine::fresh_devices(), 0, 0x0055),
+        clock: 1000,
+    }
 }
 
-// A call of one step with so many words of memory.
-fn sized(rt: &impl Print, text: &[u8], size: usize)
-    requires { size ≤ 65537 }
-{
-    attempt(rt, text, record(), size, &[], &[], 1);
+fn title(rt: &impl Print) -> io::Result<()> {
+    println!(rt; "The boundaries of a run")?;
+    println!(rt; "=======================\n")?;
+    println!(rt; "Each line is one call: what was handed in, and the answer. 'All as handed in'")?;
+    println!(rt; "compares the whole record, every word of memory and every byte of the output")?;
+    println!(rt; "with what they were before the call.")
 }
 
-fn memory_sizes(rt: &impl Print) {
-    heading(rt, b"11: memory is not 65,536 words");
-    sized(rt, b"memory of 65,535 words", 65535);
-    sized(rt, b"memory of 65,536 words", 65536);
-    sized(rt, b"memory of 65,537 words", 65537);
+fn memory_sizes(rt: &(impl AllocGlobal + Print)) -> io::Result<()> {
+    println!(rt; "\n11: memory is not 65,536 words")?;
+    let call = Call::keyless(record(), 1);
+    call.with(|c| c.size = 65535)
+        .print(rt, "memory of 65,535 words")?;
+    call.with(|c| c.size = 65536)
+        .print(rt, "memory of 65,536 words")?;
+    call.with(|c| c.size = 65537)
+        .print(rt, "memory of 65,537 words")
 }
 
-// A call of no step with these in PSR, KBSR, KBDR and MCR.
-fn bits(rt: &impl Print, text: &[u8], psr: u16, kbsr: u16, kbdr: u16, mcr: u16) {
+fn undefined_bits(rt: &(impl AllocGlobal + Print)) -> io::Result<()> {
+    println!(rt; "\n12: an undefined bit, a count out of its bounds, or a clock above 2^48")?;
     let mut m = record();
-    m.psr = psr;
-    m.devices.kbsr = kbsr;
-    m.devices.kbdr = kbdr;
-    m.devices.mcr = mcr;
-    keyless(rt, text, m, 0);
+    m.psr = 0x8707;
+    m.devices.kbsr = 0xC000;
+    m.devices.kbdr = 0x00FF;
+    m.devices.mcr = 0x8000;
+    let call = Call::keyless(m, 0);
+    call.print(rt, "PSR x8707, KBSR xC000, KBDR x00FF, MCR x8000")?;
+    call.with(|c| c.machine.psr = 0x870F)
+        .print(rt, "PSR x870F")?;
+    call.with(|c| c.machine.devices.kbsr = 0xE000)
+        .print(rt, "KBSR xE000")?;
+    call.with(|c| c.machine.devices.kbdr = 0x01FF)
+        .print(rt, "KBDR x01FF")?;
+    call.with(|c| c.machine.devices.mcr = 0x8001)
+        .print(rt, "MCR x8001")
 }
 
-fn undefined_bits(rt: &impl Print) {
-    heading(
-        rt,
-        b"12: an undefined bit, a count out of its bounds, or a clock above 2^48",
-    );
-    bits(
-        rt,
-        b"PSR x8707, KBSR xC000, KBDR x00FF, MCR x8000",
-        0x8707,
-        0xC000,
-        0x00FF,
-        0x8000,
-    );
-    bits(rt, b"PSR x870F", 0x870F, 0xC000, 0x00FF, 0x8000);
-    bits(rt, b"KBSR xE000", 0x8707, 0xE000, 0x00FF, 0x8000);
-    bits(rt, b"KBDR x01FF", 0x8707, 0xC000, 0x01FF, 0x8000);
-    bits(rt, b"MCR x8001", 0x8707, 0xC000, 0x00FF, 0x8001);
-}
-
-// A call of no step with the display busy for so many steps.
-fn busy(rt: &impl Print, text: &[u8], count: u16) {
+fn undefined_counts(rt: &(impl AllocGlobal + Print)) -> io::Result<()> {
     let mut m = record();
-    m.devices.busy = count;
-    keyless(rt, text, m, 0);
-}
-
-// A call of no step with the timer so.
-fn timer(rt: &impl Print, text: &[u8], status: u16, interval: u16, count: u16) {
-    let mut m = record();
-    m.devices.timer_status = status;
-    m.devices.timer_interval = interval;
-    m.devices.timer_count = count;
-    keyless(rt, text, m, 0);
-}
-
-fn counts(rt: &impl Print) {
-    busy(rt, b"busy 8", 8);
-    busy(rt, b"busy 9", 9);
-    timer(rt, b"timer status xC000, interval 7, count 7", 0xC000, 7, 7);
-    timer(rt, b"timer status xE000", 0xE000, 7, 7);
-    timer(rt, b"timer interval 7, count 8", 0xC000, 7, 8);
-    timer(rt, b"timer interval 7, count 0", 0xC000, 7, 0);
+    m.devices.timer_status = 0xC000;
+    m.devices.timer_interval = 7;
+    m.devices.timer_count = 7;
+    let busy = Call::keyless(record(), 0);
+    busy.with(|c| c.machine.devices.busy = 8)
+        .print(rt, "busy 8")?;
+    busy.with(|c| c.machine.devices.busy = 9)
+        .print(rt, "busy 9")?;
+    let timer = Call::keyless(m, 0);
+    timer.print(rt, "timer status xC000, interval 7, count 7")?;
+    timer
+        .with(|c| c.machine.devices.timer_status = 0xE000)
+        .print(rt, "timer status xE000")?;
+    timer
+        .with(|c| c.machine.devices.timer_count = 8)
+        .print(rt, "timer interval 7, count 8")?;
+    timer
+        .with(|c| c.machine.devices.timer_count = 0)
+        .print(rt, "timer interval 7, count 0")
 }
 
 // A call of so many steps at this clock.
-fn at_clock(rt: &impl Print, text: &[u8], clock: u64, n: u64) {
-    let mut m = record();
-    m.clock = clock;
-    keyless(rt, text, m, n);
+fn at_clock(clock: u64, steps: u64) -> Call<'static> {
+    Call::keyless(record(), steps).with(|c| c.machine.clock = clock)
 }
 
 // The same at clock 0, halted.
-fn halted(rt: &impl Print, text: &[u8], n: u64) {
-    let mut m = record();
-    m.clock = 0;
-    m.devices.mcr = 0;
-    keyless(rt, text, m, n);
+fn halted(steps: u64) -> Call<'static> {
+    at_clock(0, steps).with(|c| c.machine.devices.mcr = 0)
 }
 
-fn clocks(rt: &impl Print) {
-    at_clock(rt, b"clock 2^48, n 0", LAST, 0);
-    at_clock(rt, b"clock 2^48 + 1, n 0", LAST + 1, 0);
+fn clocks(rt: &(impl AllocGlobal + Print)) -> io::Result<()> {
+    at_clock(LAST, 0).print(rt, "clock 2^48, n 0")?;
+    at_clock(LAST + 1, 0).print(rt, "clock 2^48 + 1, n 0")
 }
 
-fn step_counts(rt: &impl Print) {
-    heading(rt, b"13: n above 1,048,576 or clock plus n above 2^48");
-    at_clock(rt, b"clock 0, n 1,048,576", 0, MOST);
-    at_clock(rt, b"clock 0, n 1,048,577", 0, MOST + 1);
-    halted(rt, b"clock 0, n 1,048,576, halted", MOST);
-    halted(rt, b"clock 0, n 1,048,577, halted", MOST + 1);
-}
-
-fn step_counts_late(rt: &impl Print) {
+fn step_counts(rt: &(impl AllocGlobal + Print)) -> io::Result<()> {
+    println!(rt; "\n13: n above 1,048,576 or clock plus n above 2^48")?;
+    at_clock(0, MOST).print(rt, "clock 0, n 1,048,576")?;
+    at_clock(0, MOST + 1).print(rt, "clock 0, n 1,048,577")?;
+    halted(MOST).print(rt, "clock 0, n 1,048,576, halted")?;
+    halted(MOST + 1).print(rt, "clock 0, n 1,048,577, halted")?;
     let first = LAST - MOST;
-    at_clock(rt, b"clock 2^48 - 1,048,576, n 1,048,576", first, MOST);
-    at_clock(rt, b"clock 2^48 - 1,048,575, n 1,048,576", first + 1, MOST);
-    at_clock(rt, b"clock 2^48 - 1, n 1", LAST - 1, 1);
-    at_clock(rt, b"clock 2^48, n 1", LAST, 1);
+    at_clock(first, MOST).print(rt, "clock 2^48 - 1,048,576, n 1,048,576")?;
+    at_clock(first + 1, MOST).print(rt, "clock 2^48 - 1,048,575, n 1,048,576")?;
+    at_clock(LAST - 1, 1).print(rt, "clock 2^48 - 1, n 1")?;
+    at_clock(LAST, 1).print(rt, "clock 2^48, n 1")
 }
 
-// A call with the first of these times and the first of these bytes.
-fn keyed_by_some(
-    rt: &impl Print,
-    text: &[u8],
-    m: Machine,
-    size: usize,
-    times: &[u64],
-    k: usize,
-    bytes: &[u8],
-    l: usize,
-    n: u64,
-)
-    requires size_bound { size ≤ 65537 }
-    requires k_in_bounds { k ≤ length times.now }
-    requires l_in_bounds { l ≤ length bytes.now }
-{
-    attempt(rt, text, m, size, &times[0..k], &bytes[0..l], n);
-}
-
-// A call of one step with so many times and so many bytes.
-fn listed(rt: &impl Print, text: &[u8], times: usize, bytes: usize)
-    requires times_bound { times ≤ 2 }
-    requires bytes_bound { bytes ≤ 2 }
-{
-    keyed_by_some(
-        rt,
-        text,
-        record(),
-        SIZE,
-        &[1000, 1000],
-        times,
-        b"ab",
-        bytes,
-        1,
-    );
-}
-
-fn list_lengths(rt: &impl Print) {
-    heading(rt, b"14: the key lists differ in length");
-    listed(rt, b"2 times, 2 bytes", 2, 2);
-    listed(rt, b"2 times, 1 byte", 2, 1);
-    listed(rt, b"1 time, 2 bytes", 1, 2);
-    listed(rt, b"no time, 1 byte", 0, 1);
+fn list_lengths(rt: &(impl AllocGlobal + Print)) -> io::Result<()> {
+    println!(rt; "\n14: the key lists differ in length")?;
+    let call = Call::keyless(record(), 1);
+    call.keyed(&[1000, 1000], b"ab")
+        .print(rt, "2 times, 2 bytes")?;
+    call.keyed(&[1000, 1000], b"a")
+        .print(rt, "2 times, 1 byte")?;
+    call.keyed(&[1000], b"ab").print(rt, "1 time, 2 bytes")?;
+    call.keyed(&[], b"a").print(rt, "no time, 1 byte")
 }
 
 // A call of two steps with three keys, at these times.
-fn keyed(rt: &impl Print, text: &[u8], first: u64, second: u64, third: u64) {
-    attempt(rt, text, record(), SIZE, &[first, second, third], b"abc", 2);
+fn keyed(times: &[u64; 3]) -> Call<'_> {
+    Call::keyless(record(), 2).keyed(times, b"abc")
 }
 
-fn key_times(rt: &impl Print) {
-    heading(
-        rt,
-        b"15: a time below the clock, here 1000; entries are counted from 0",
-    );
-    keyed(rt, b"times 1000, 1001, 1001", 1000, 1001, 1001);
-    keyed(rt, b"times 999, 1001, 1001", 999, 1001, 1001);
-    keyed(rt, b"times 999, 998, 1001", 999, 998, 1001);
-    keyed(
-        rt,
-        b"times 1000, 1001, 999: 19 would apply too",
-        1000,
-        1001,
-        999,
-    );
+fn key_times(rt: &(impl AllocGlobal + Print)) -> io::Result<()> {
+    println!(rt; "\n15: a time below the clock, here 1000; entries are counted from 0")?;
+    keyed(&[1000, 1001, 1001]).print(rt, "times 1000, 1001, 1001")?;
+    keyed(&[999, 1001, 1001]).print(rt, "times 999, 1001, 1001")?;
+    keyed(&[999, 998, 1001]).print(rt, "times 999, 998, 1001")?;
+    keyed(&[1000, 1001, 999]).print(rt, "times 1000, 1001, 999: 19 would apply too")
 }
 
-fn key_orders(rt: &impl Print) {
-    heading(
-        rt,
-        b"19: a time below the one before it, but not below the clock",
-    );
-    keyed(rt, b"times 1001, 1001, 1001", 1001, 1001, 1001);
-    keyed(rt, b"times 1001, 1001, 1000", 1001, 1001, 1000);
-    keyed(rt, b"times 1002, 1001, 1000", 1002, 1001, 1000);
-    keyed(
-        rt,
-        b"times 1002, 1001, 999: 15 at a later entry",
-        1002,
-        1001,
-        999,
-    );
-}
-
-// A call to which 15 applies, with so many words of memory, this PSR, so many steps, and so many bytes for two times.
-fn several(rt: &impl Print, text: &[u8], size: usize, psr: u16, n: u64, bytes: usize)
-    requires size_bound { size ≤ 65537 }
-    requires bytes_bound { bytes ≤ 2 }
-{
-    let mut m = record();
-    m.psr = psr;
-    keyed_by_some(rt, text, m, size, &[999, 1], 2, b"ab", bytes, n);
+fn key_orders(rt: &(impl AllocGlobal + Print)) -> io::Result<()> {
+    println!(rt; "\n19: a time below the one before it, but not below the clock")?;
+    keyed(&[1001, 1001, 1001]).print(rt, "times 1001, 1001, 1001")?;
+    keyed(&[1001, 1001, 1000]).print(rt, "times 1001, 1001, 1000")?;
+    keyed(&[1002, 1001, 1000]).print(rt, "times 1002, 1001, 1000")?;
+    keyed(&[1002, 1001, 999]).print(rt, "times 1002, 1001, 999: 15 at a later entry")
 }
 
 // Calls that every refusal from one on applies to: the first in the order of M12.2 is answered.
-fn first_answered(rt: &impl Print) {
-    heading(rt, b"The first that applies is answered");
-    several(
-        rt,
-        b"11, 12, 13, 14 and 15 apply",
-        65537,
-        0x000A,
-        MOST + 1,
-        1,
-    );
-    several(rt, b"12, 13, 14 and 15 apply", SIZE, 0x000A, MOST + 1, 1);
-    several(rt, b"13, 14 and 15 apply", SIZE, 0x0302, MOST + 1, 1);
-    several(rt, b"14 and 15 apply", SIZE, 0x0302, MOST, 1);
-    several(rt, b"15 applies", SIZE, 0x0302, MOST, 2);
+fn first_answered(rt: &(impl AllocGlobal + Print)) -> io::Result<()> {
+    println!(rt; "\nThe first that applies is answered")?;
+    let from_15 = Call::keyless(record(), MOST).keyed(&[999, 1], b"ab");
+    let from_14 = from_15.with(|c| c.bytes = b"a");
+    let from_13 = from_14.with(|c| c.steps = MOST + 1);
+    let from_12 = from_13.with(|c| c.machine.psr = 0x000A);
+    let from_11 = from_12.with(|c| c.size = 65537);
+    from_11.print(rt, "11, 12, 13, 14 and 15 apply")?;
+    from_12.print(rt, "12, 13, 14 and 15 apply")?;
+    from_13.print(rt, "13, 14 and 15 apply")?;
+    from_14.print(rt, "14 and 15 apply")?;
+    from_15.print(rt, "15 applies")
 }
 
-fn main(rt: HostRuntime) {
+fn main(rt: HostRuntime) -> io::Result<()> {
     let rt = &rt;
-    title(rt);
-    memory_sizes(rt);
-    undefined_bits(rt);
-    counts(rt);
-    clocks(rt);
-    step_counts(rt);
-    step_counts_late(rt);
-    list_lengths(rt);
-    key_times(rt);
-    key_orders(rt);
-    first_answered(rt);
+    title(rt)?;
+    memory_sizes(rt)?;
+    undefined_bits(rt)?;
+    undefined_counts(rt)?;
+    clocks(rt)?;
+    step_counts(rt)?;
+    list_lengths(rt)?;
+    key_times(rt)?;
+    key_orders(rt)?;
+    first_answered(rt)
 }

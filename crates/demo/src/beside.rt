@@ -1,192 +1,142 @@
 // The sitting in single steps, beside one with other answers in privileged memory. After each step the two records are
 // compared.
-ghost use Rattle.std.specs.Prelude.{◌≡◌, ◌+◌, ◌≤◌, length};
-
-use crate::printing::{print, print_number, print_word};
-use crate::sitting::{is_over, later};
+use crate::printing::Word;
+use crate::sitting::{Mode, Sitting, is_over};
 use machine::Machine;
-use run::Answer;
+use std::{fmt, io};
 
 // The most steps of the sitting.
 const STEPS: u64 = 5000;
 
-fn same_words(a: &[u16], b: &[u16]) -> bool {
-    if a.len() != b.len() {
-        return false;
-    }
-    let mut i = 0;
-    while i < a.len() {
-        if a[i] != b[i] {
-            return false;
+// What brings a candidate to the monitor's STOP.
+#[derive(Clone, Copy)]
+enum Cause {
+    Privilege,
+    IllegalOpcode,
+    Trap,
+    Access,
+}
+
+// A routine of the monitor.
+#[derive(Clone, Copy)]
+enum Routine {
+    Getc,
+    Out,
+    Puts,
+    Halt,
+    Stop(Cause),
+    Other,
+}
+
+impl Cause {
+    // By the opcode of the word that was obeyed.
+    fn of(word: u16) -> Cause {
+        match word / 0x1000 {
+            0x8 => Cause::Privilege,
+            0xD => Cause::IllegalOpcode,
+            0xF => Cause::Trap,
+            _ => Cause::Access,
         }
-        i += 1;
     }
-    true
 }
 
-pub(crate) fn same_record(a: Machine, b: Machine) -> bool {
-    let x = a.regs;
-    let y = b.regs;
-    let registers = same_words(&x, &y);
-    let control = a.pc == b.pc
-        && a.psr == b.psr
-        && a.saved_ssp == b.saved_ssp
-        && a.saved_usp == b.saved_usp;
-    let c = a.devices;
-    let d = b.devices;
-    let devices = c.kbsr == d.kbsr && c.kbdr == d.kbdr && c.mcr == d.mcr && c.busy == d.busy;
-    let timer = c.timer_status == d.timer_status
-        && c.timer_interval == d.timer_interval
-        && c.timer_count == d.timer_count;
-    registers && control && devices && timer && a.clock == b.clock
+impl Routine {
+    // The routine at this PC, where this word was obeyed before.
+    fn of(pc: u16, word: u16) -> Routine {
+        match pc {
+            0x0200 => Routine::Getc,
+            0x0204 => Routine::Out,
+            0x020C => Routine::Puts,
+            0x026D => Routine::Halt,
+            0x027C => Routine::Stop(Cause::of(word)),
+            _ => Routine::Other,
+        }
+    }
 }
 
-// What two calls answered: record and counts.
-fn same_answer(a: Answer, b: Answer) -> bool {
-    let r = a.report;
-    let s = b.report;
-    let counts = r.steps == s.steps && r.keys == s.keys && r.shown == s.shown;
-    counts && same_record(a.machine, b.machine)
+impl fmt::Display for Cause {
+    fn fmt<W: fmt::Write>(&self, f: &mut fmt::Formatter<W>) -> fmt::Result {
+        f.write_str(match self {
+            Cause::Privilege => "the privilege exception",
+            Cause::IllegalOpcode => "the illegal opcode exception",
+            Cause::Trap => "a trap without a service",
+            Cause::Access => "the access exception",
+        })
+    }
 }
 
-// A count with one more where a test holds.
-fn counted(count: u64, holds: bool) -> u64
-    requires { count ≤ 65536 }
-    ensures { result ≤ count + 1 }
-{
-    if holds { count + 1 } else { count }
+impl fmt::Display for Routine {
+    fn fmt<W: fmt::Write>(&self, f: &mut fmt::Formatter<W>) -> fmt::Result {
+        match self {
+            Routine::Getc => write!(f, "GETC"),
+            Routine::Out => write!(f, "OUT"),
+            Routine::Puts => write!(f, "PUTS"),
+            Routine::Halt => write!(f, "HALT"),
+            Routine::Stop(cause) => write!(f, "STOP, by {cause}"),
+            Routine::Other => write!(f, "another routine"),
+        }
+    }
 }
 
-// The word at an address of memory.
-fn word_at(memory: &[u16], a: u16) -> u16 {
-    let i = a as usize;
-    if i < memory.len() { memory[i] } else { 0 }
+// A step: the records before it and after it, and the word that was obeyed.
+#[derive(Clone, Copy)]
+struct Step {
+    before: Machine,
+    after: Machine,
+    word: u16,
+}
+
+impl Step {
+    fn leaves_user_mode(&self) -> bool {
+        Mode::from(self.before) == Mode::User && Mode::from(self.after) == Mode::Supervisor
+    }
+}
+
+// The clock, the PC and R0 before the step, R0 after it, and the routine that it enters.
+impl fmt::Display for Step {
+    fn fmt<W: fmt::Write>(&self, f: &mut fmt::Formatter<W>) -> fmt::Result {
+        let clock = self.before.clock;
+        let pc = Word(self.before.pc);
+        let r0 = Word(self.before.regs[0]);
+        let r0_after = Word(self.after.regs[0]);
+        let routine = Routine::of(self.after.pc, self.word);
+        write!(f, "{clock:5}  {pc}  {r0}      {r0_after}     {routine}")
+    }
+}
+
+// Makes the two sittings, with a line for each step at which the first leaves User mode.
+pub(crate) fn sit_beside(
+    rt: &impl Print,
+    first: &mut Sitting,
+    second: &mut Sitting,
+) -> io::Result<()> {
+    println!(rt; "clock  PC     R0 before  R0 after  to")?;
+    let mut same = 0;
+    for steps in 0..STEPS {
+        let before = first.machine;
+        let word = first.next_word();
+        let a = first.step();
+        let b = second.step();
+        let step = Step {
+            before,
+            after: a.machine,
+            word,
+        };
+        if step.leaves_user_mode() {
+            println!(rt; "{step}")?;
+        }
+        if is_over(a.report.ending) {
+            println!(rt;
+                "\nSteps made: {steps}. After {same} of them record and counts were the same in both sittings."
+            )?;
+            break;
+        }
+        same += u64::from(a == b);
+    }
+    Ok(())
 }
 
 // The words in which two memories differ.
-pub(crate) fn count_different(a: &[u16], b: &[u16]) -> u64 {
-    let mut count = 0u64;
-    let mut i = 0u64;
-    while i < 65536 {
-        let at = (i % 65536) as u16;
-        count = counted(count, word_at(a, at) != word_at(b, at));
-        i += 1;
-    }
-    count
-}
-
-// What brought the candidate to the monitor's STOP, by the opcode of the word that it obeyed.
-fn print_reason(rt: &impl Print, word: u16) {
-    match word / 0x1000 {
-        0x8 => print(rt, b"STOP, by the privilege exception"),
-        0xD => print(rt, b"STOP, by the illegal opcode exception"),
-        0xF => print(rt, b"STOP, by a trap without a service"),
-        _ => print(rt, b"STOP, by the access exception"),
-    }
-}
-
-// The name of the monitor's routine at an address.
-fn print_routine(rt: &impl Print, pc: u16, word: u16) {
-    match pc {
-        0x0200 => print(rt, b"GETC"),
-        0x0204 => print(rt, b"OUT"),
-        0x020C => print(rt, b"PUTS"),
-        0x026D => print(rt, b"HALT"),
-        0x027C => print_reason(rt, word),
-        _ => print(rt, b"another routine"),
-    }
-}
-
-// A line for a step that left User mode: the clock, the PC and R0 before it, R0 after it, and the routine entered. The
-// word is the one that was obeyed.
-fn print_entry(rt: &impl Print, before: Machine, after: Machine, word: u16) {
-    if before.psr < 0x8000 {
-        return;
-    }
-    if 0x8000 <= after.psr {
-        return;
-    }
-    print_number(rt, before.clock, 5);
-    print(rt, b"  ");
-    print_word(rt, before.pc);
-    print(rt, b"  ");
-    print_word(rt, before.regs[0]);
-    print(rt, b"      ");
-    print_word(rt, after.regs[0]);
-    print(rt, b"     ");
-    print_routine(rt, after.pc, word);
-    print(rt, b"\n");
-}
-
-// A call of one step, on what is left of the keys.
-fn one_step(m: Machine, memory: &mut [u16], times: &[u64], bytes: &[u8], at: usize) -> Answer
-    requires at_in_bounds { at ≤ length times.now }
-    requires times_len { length times.now ≡ length bytes.now }
-{
-    let mut shown = [0u8; 1];
-    run_call::run(m, memory, &times[at..], &bytes[at..], &mut shown, 1)
-}
-
-// The same, with a line where the step leaves User mode.
-fn printed_step(
-    rt: &impl Print,
-    m: Machine,
-    memory: &mut [u16],
-    times: &[u64],
-    bytes: &[u8],
-    at: usize,
-) -> Answer
-    requires at_in_bounds { at ≤ length times.now }
-    requires times_len { length times.now ≡ length bytes.now }
-{
-    let word = word_at(memory, m.pc);
-    let a = one_step(m, memory, times, bytes, at);
-    print_entry(rt, m, a.machine, word);
-    a
-}
-
-fn print_compared(rt: &impl Print, steps: u64, same: u64) {
-    print(rt, b"\nSteps made: ");
-    print_number(rt, steps, 1);
-    print(rt, b". After ");
-    print_number(rt, same, 1);
-    print(
-        rt,
-        b" of them record and counts were the same in both sittings.\n",
-    );
-}
-
-// Makes the two sittings, and answers the last record of the first.
-pub(crate) fn sit_beside(
-    rt: &impl Print,
-    first: Machine,
-    second: Machine,
-    memory: &mut [u16],
-    other: &mut [u16],
-    times: &[u64],
-    bytes: &[u8],
-) -> Machine
-    requires { length times.now ≡ length bytes.now }
-{
-    let mut m = first;
-    let mut o = second;
-    let mut at = 0;
-    let mut same = 0;
-    let mut steps = 0;
-    while steps < STEPS {
-        let a = printed_step(rt, m, memory, times, bytes, at);
-        let b = one_step(o, other, times, bytes, at);
-        let r = a.report;
-        let ending = r.ending;
-        if is_over(ending) {
-            print_compared(rt, steps, same);
-            return m;
-        }
-        m = a.machine;
-        o = b.machine;
-        same = counted(same, same_answer(a, b));
-        at = later(at, r.keys, times.len());
-        steps += 1;
-    }
-    m
+pub(crate) fn count_different(a: &[u16], b: &[u16]) -> usize {
+    a.iter().zip(b).filter(|(x, y)| x != y).count()
 }

@@ -2,181 +2,143 @@
 // The gate compares what is printed with the file stdout.
 #![tactic(auto)]
 
-use beside::{count_different, same_record, sit_beside};
-use lent::Refusal;
+use beside::{count_different, sit_beside};
 use machine::Machine;
-use printing::{print, print_number, print_shown};
-use sitting::sit;
-use starting::{start_file, tell};
+use printing::Shown;
+use sitting::{Keys, Sitting};
+use starting::{ObjectFile, Source};
+use std::alloc::Global;
+use std::io;
 use std::rt::Files;
 
 mod beside;
+mod calls;
 mod printing;
 mod sitting;
 mod starting;
 
-// When the candidate types the keys.
-const TIMES: [u64; 6] = [300, 400, 500, 600, 700, 800];
+// What the candidate types, and when.
+const KEYS: Keys = Keys {
+    times: &[300, 400, 500, 600, 700, 800],
+    bytes: b"Ada 7\n",
+};
 
-// What the candidate types.
-const KEYS: [u8; 6] = *b"Ada 7\n";
+const NO_KEYS: Keys = Keys {
+    times: &[],
+    bytes: &[],
+};
 
 // The candidate's program, the answers of two examiners, and a file that lies on the vector of the access exception.
 // Each has a listing beside it.
-const CANDIDATE: [u8; 13] = *b"candidate.obj";
-
-const ANSWERS: [u8; 11] = *b"answers.obj";
-
-const OTHER_ANSWERS: [u8; 17] = *b"other_answers.obj";
-
-const ATTACK: [u8; 10] = *b"attack.obj";
-
-fn introduce(rt: &impl Print) {
-    print(rt, b"A sitting on the LC-3\n");
-    print(rt, b"=====================\n\n");
-    print(
-        rt,
-        b"The ready-made monitor serves traps and exceptions. The candidate's program at\n",
-    );
-    print(
-        rt,
-        b"x3000 runs in User mode: it asks for a name, echoes it in capitals, then reaches\n",
-    );
-    print(
-        rt,
-        b"for the examiner's answers, in privileged memory at x2000. The access exception\n",
-    );
-    print(
-        rt,
-        b"stops it: the monitor halts the machine and shows nothing.\n",
-    );
-    print(
-        rt,
-        b"Recorded keys: A d a space 7 Enter, at clocks 300, 400, 500, 600, 700, 800.\n\n",
-    );
+#[derive(Drop)]
+struct Exam {
+    candidate: ObjectFile,
+    answers: ObjectFile,
+    other_answers: ObjectFile,
+    attack: ObjectFile,
 }
 
-// Starts the answers and then the candidate's program, whose record is the one to run.
-fn start_all(rt: &(impl Files + Print), memory: &mut [u16]) -> Result<Machine, Refusal> {
-    installer::install(memory)?;
-    print(rt, b"Object files, of which the last is run:\n");
-    tell(rt, &ANSWERS, start_file(rt, &ANSWERS, memory, false));
-    let started = start_file(rt, &CANDIDATE, memory, true);
-    tell(rt, &CANDIDATE, started);
-    Ok(started?.machine)
+impl Exam {
+    fn read(rt: &(impl AllocGlobal + Files)) -> anyhow::Result<Exam> {
+        Ok(Exam {
+            candidate: ObjectFile::read(rt, "candidate.obj")?,
+            answers: ObjectFile::read(rt, "answers.obj")?,
+            other_answers: ObjectFile::read(rt, "other_answers.obj")?,
+            attack: ObjectFile::read(rt, "attack.obj")?,
+        })
+    }
+
+    // The candidate's sitting with these answers.
+    fn sitting(&self, alloc: Global, answers: &ObjectFile) -> anyhow::Result<Sitting> {
+        Sitting::new(alloc, answers, &self.candidate, Source::Candidate, KEYS)
+    }
+
+    // What the attack shows where it is loaded all the same, beside these answers.
+    fn stolen(&self, alloc: Global, answers: &ObjectFile) -> anyhow::Result<[u8; 1]> {
+        let mut sitting = Sitting::new(alloc, answers, &self.attack, Source::Examiner, NO_KEYS)?;
+        let mut shown = [0];
+        sitting.call(100, &mut shown);
+        Ok(shown)
+    }
 }
 
-// The same with these answers, and nothing said.
-fn start_sitting(
-    rt: &impl Files,
-    memory: &mut [u16],
-    answers: &[u8],
-) -> Result<Machine, Refusal> {
-    installer::install(memory)?;
-    start_file(rt, answers, memory, false)?;
-    Ok(start_file(rt, &CANDIDATE, memory, true)?.machine)
-}
-
-fn print_heading(rt: &impl Print) {
-    print(
-        rt,
-        b"\nIn calls of at most 200 steps and 4 bytes, each going on from the one before:\n\n",
-    );
-    print(
-        rt,
-        b"call  steps  keys  shown  stop         clock  PC     mode        display\n",
-    );
+fn introduce(rt: &impl Print) -> io::Result<()> {
+    println!(rt; "A sitting on the LC-3")?;
+    println!(rt; "=====================\n")?;
+    println!(rt; "The ready-made monitor serves traps and exceptions. The candidate's program at")?;
+    println!(rt;
+        "x3000 runs in User mode: it asks for a name, echoes it in capitals, then reaches"
+    )?;
+    println!(rt;
+        "for the examiner's answers, in privileged memory at x2000. The access exception"
+    )?;
+    println!(rt; "stops it: the monitor halts the machine and shows nothing.")?;
+    println!(rt; "Recorded keys: A d a space 7 Enter, at clocks 300, 400, 500, 600, 700, 800.\n")
 }
 
 // The sitting in calls, and its display. Answers the last record.
-fn in_calls(rt: &(impl Files + Print)) -> Result<Machine, Refusal> {
-    let mut memory = [0u16; 65536];
-    let m = start_all(rt, &mut memory)?;
-    print_heading(rt);
-    let mut display = [0u8; 64];
-    let sat = sit(rt, m, &mut memory, &TIMES, &KEYS, &mut display);
-    let n = sat.shown;
-    print(rt, b"\nThe display:\n\n");
-    print(rt, &display[0..n]);
-    Ok(sat.machine)
+fn in_calls(rt: &(impl AllocGlobal + Print), exam: &Exam) -> anyhow::Result<Machine> {
+    let mut sitting = exam.sitting(rt.alloc(), &exam.answers)?;
+    println!(rt; "Object files, of which the last is run:")?;
+    println!(rt; "  {}", sitting.answers)?;
+    println!(rt; "  {}", sitting.program)?;
+    println!(rt;
+        "\nIn calls of at most 200 steps and 4 bytes, each going on from the one before:\n"
+    )?;
+    let display = calls::sit(rt, &mut sitting)?;
+    println!(rt; "\nThe display:\n")?;
+    rt.write_all(&display)?;
+    Ok(sitting.machine)
 }
 
 // The sitting one step a call, beside one with other answers. Answers the last record of the first.
-fn in_steps(rt: &(impl Files + Print)) -> Result<Machine, Refusal> {
-    let mut memory = [0u16; 65536];
-    let m = start_sitting(rt, &mut memory, &ANSWERS)?;
-    let mut other = [0u16; 65536];
-    let o = start_sitting(rt, &mut other, &OTHER_ANSWERS)?;
-    print(
-        rt,
-        b"\nThe same in single steps, beside a sitting whose answers are other words.\n",
-    );
-    print(
-        rt,
-        b"The candidate's program leaves User mode at these steps:\n\n",
-    );
-    print(rt, b"clock  PC     R0 before  R0 after  to\n");
-    let last = sit_beside(rt, m, o, &mut memory, &mut other, &TIMES, &KEYS);
-    print(rt, b"Words of memory that differ at the end: ");
-    print_number(rt, count_different(&memory, &other), 1);
-    print(rt, b"\n");
-    Ok(last)
-}
-
-// What the attack shows where it is loaded all the same, beside these answers.
-fn stolen(rt: &impl Files, answers: &[u8]) -> Result<u8, Refusal> {
-    let mut memory = [0u16; 65536];
-    installer::install(&mut memory)?;
-    start_file(rt, answers, &mut memory, false)?;
-    let started = start_file(rt, &ATTACK, &mut memory, false)?;
-    let mut shown = [0u8; 1];
-    run_call::run(
-        started.machine,
-        &mut memory,
-        &TIMES[0..0],
-        &KEYS[0..0],
-        &mut shown,
-        100,
-    );
-    Ok(shown[0])
+fn in_steps(rt: &(impl AllocGlobal + Print), exam: &Exam) -> anyhow::Result<Machine> {
+    let mut sitting = exam.sitting(rt.alloc(), &exam.answers)?;
+    let mut other = exam.sitting(rt.alloc(), &exam.other_answers)?;
+    println!(rt; "\nThe same in single steps, beside a sitting whose answers are other words.")?;
+    println!(rt; "The candidate's program leaves User mode at these steps:\n")?;
+    sit_beside(rt, &mut sitting, &mut other)?;
+    let different = count_different(&sitting.memory, &other.memory);
+    println!(rt; "Words of memory that differ at the end: {different}")?;
+    Ok(sitting.machine)
 }
 
 // A file that would replace the vector of the access exception, and what comes of it.
-fn attack(rt: &(impl Files + Print)) -> Result<(), Refusal> {
-    print(
-        rt,
-        b"\nAnother candidate hands in a file for x0102, the vector of the access exception:\n",
-    );
-    let mut memory = [0u16; 65536];
-    start_sitting(rt, &mut memory, &ANSWERS)?;
-    let before = memory;
-    tell(rt, &ATTACK, start_file(rt, &ATTACK, &mut memory, true));
-    print(rt, b"Words of memory that it has changed: ");
-    print_number(rt, count_different(&memory, &before), 1);
-    print(rt, b"\n");
-    print(rt, b"Loaded all the same it would show the first answer: ");
-    print_shown(rt, &[stolen(rt, &ANSWERS)?]);
-    print(rt, b" in the one sitting, ");
-    print_shown(rt, &[stolen(rt, &OTHER_ANSWERS)?]);
-    print(rt, b" in the other.\n");
+fn attack(rt: &(impl AllocGlobal + Print), exam: &Exam) -> anyhow::Result<()> {
+    println!(rt;
+        "\nAnother candidate hands in a file for x0102, the vector of the access exception:"
+    )?;
+    let alloc = rt.alloc();
+    let mut sitting = exam.sitting(alloc, &exam.answers)?;
+    let before = sitting.memory.clone()?;
+    match exam.attack.start(Source::Candidate, &mut sitting.memory) {
+        Ok(loaded) => println!(rt; "  {loaded}")?,
+        Err(refused) => println!(rt; "  {refused}")?,
+    }
+    let changed = count_different(&sitting.memory, &before);
+    println!(rt; "Words of memory that it has changed: {changed}")?;
+    let first = exam.stolen(alloc, &exam.answers)?;
+    let second = exam.stolen(alloc, &exam.other_answers)?;
+    print!(rt;
+        "Loaded all the same it would show the first answer: {} in the one sitting, ",
+        Shown(&first)
+    )?;
+    println!(rt; "{} in the other.", Shown(&second))?;
     Ok(())
 }
 
-fn main(rt: HostRuntime) -> Result<(), Refusal> {
+fn main(rt: HostRuntime) -> anyhow::Result<()> {
     let rt = &rt;
-    introduce(rt);
-    let a = in_calls(rt)?;
-    let b = in_steps(rt)?;
-    if same_record(a, b) {
-        print(
-            rt,
-            b"In calls of 200 steps and in single steps the sitting ends with the same record.\n",
-        );
+    introduce(rt)?;
+    let exam = Exam::read(rt)?;
+    let calls = in_calls(rt, &exam)?;
+    let steps = in_steps(rt, &exam)?;
+    if calls == steps {
+        println!(rt;
+            "In calls of 200 steps and in single steps the sitting ends with the same record."
+        )?;
     } else {
-        print(
-            rt,
-            b"In calls and in single steps the sitting ends with DIFFERENT records.\n",
-        );
+        println!(rt; "In calls and in single steps the sitting ends with DIFFERENT records.")?;
     }
-    attack(rt)
+    attack(rt, &exam)
 }

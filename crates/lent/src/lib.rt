@@ -5,6 +5,9 @@
 ghost use Rattle.std.specs.Prelude.{◌≡◌, ℕ, List};
 ghost use Rattle.lent.specs.Lent.{refusal_number, host_counted, counted};
 
+use std::error::Error;
+use std::fmt;
+
 // Why a call is refused that reads or writes what is lent.
 #[derive(Clone, Copy, Debug, PartialEq, Eq)]
 pub enum Refusal {
@@ -36,6 +39,14 @@ impl From<Refusal> for u32 {
         }
     }
 }
+
+impl fmt::Display for Refusal {
+    fn fmt<W: fmt::Write>(&self, f: &mut fmt::Formatter<W>) -> fmt::Result {
+        write!(f, "refused with {}", u32::from(*self))
+    }
+}
+
+impl Error for Refusal {}
 
 // For a host: the number of items written, with 0; or 0, with the number of the refusal.
 #[repr(C)]

@@ -12,7 +12,7 @@ pub mod addresses;
 // xC000, KBDR x00FF, MCR x8000. `busy` counts the steps for which the display is still busy, at most 8. The timer's
 // count is at most its interval, and 0 only if that is.
 #[repr(C)]
-#[derive(Clone, Copy)]
+#[derive(Clone, Copy, Debug, PartialEq, Eq)]
 pub struct Devices {
     pub kbsr: u16,
     pub kbdr: u16,
@@ -25,7 +25,7 @@ pub struct Devices {
 
 // The record of M2.1, as a host keeps it. Defined bits of PSR: x8707 (M2.3).
 #[repr(C)]
-#[derive(Clone, Copy)]
+#[derive(Clone, Copy, Debug, PartialEq, Eq)]
 pub struct Machine {
     pub regs: [u16; 8],
     pub pc: u16,
