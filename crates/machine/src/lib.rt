@@ -8,6 +8,9 @@ ghost use Rattle.machine.specs.Record.{fresh_devices, zero_devices};
 
 pub mod addresses;
 
+// The 65,536 words of memory, as a host lends them.
+pub type Memory = [u16; 65536];
+
 // What the devices keep. Code that touches no device hands it on whole. Defined bits: KBSR and the timer's status
 // xC000, KBDR x00FF, MCR x8000. `busy` counts the steps for which the display is still busy, at most 8. The timer's
 // count is at most its interval, and 0 only if that is.

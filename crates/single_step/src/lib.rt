@@ -3,7 +3,6 @@
 #![tactic(auto)]
 
 ghost use Rattle.std.specs.Prelude.{◌≡◌, List, ℕ, ◌+◌, ◌^◌, ◌≤◌, length};
-ghost use Rattle.machine.specs.Memory.{IsMemory};
 ghost use Rattle.machine.specs.Edition.{edition_of};
 ghost use Rattle.machine.specs.Step.{step_by};
 ghost use Rattle.run.specs.Run.{begin, ended_by, run_by};
@@ -12,7 +11,7 @@ ghost use Rattle.answers.specs.Answer.{answer_of, reported};
 
 use answers::Lc3Report;
 use loop_parts::{advance, is_full, shown_count};
-use machine::Machine;
+use machine::{Machine, Memory};
 use run::{Admission, Answer, Ending, Report};
 
 // A step that is stopped before it began: the record as handed in, and zero counts.
@@ -33,12 +32,11 @@ fn stopped(m: Machine, ending: Ending) -> Answer
 fn step_accepted(
     second: bool,
     m: Machine,
-    memory: &mut [u16],
+    memory: &mut Memory,
     times: &[u64],
     bytes: &[u8],
     output: &mut [u8],
 ) -> Answer
-    requires memory { IsMemory memory.old }
     requires times_len { length times.now ≡ length bytes.now }
     requires clock_bound { m.clock + 1 ≤ 2 ^ 48 }
     ensures { end_of result memory.new output.new

@@ -1,6 +1,5 @@
 // The accesses of LD, LDR, LDI, ST, STR, STI: each address is checked first, then the access is made.
 ghost use Rattle.std.specs.Prelude.{◌≡◌, ℕ, List};
-ghost use Rattle.machine.specs.Memory.{IsMemory};
 ghost use Rattle.machine.specs.Words.{with_register};
 ghost use Rattle.machine.specs.Record.{whole};
 ghost use Rattle.machine.specs.Psr.{Codes, kept, set_from, recoded};
@@ -16,7 +15,7 @@ use crate::protection::is_denied;
 use crate::psr::with_codes;
 use crate::words::{next, set_register};
 use machine::addresses::ACCESS_VECTOR;
-use machine::{Control, Rule};
+use machine::{Control, Memory, Rule};
 
 // The record after an instruction. Every field is written out, here and wherever a `Control` is made anew: a copy that
 // is then altered lets the compiler pack neighbouring fields into one word, which costs a step a quarter more
@@ -67,11 +66,10 @@ fn load_allowed(
     second: bool,
     c: Control,
     regs: &mut [u16; 8],
-    memory: &[u16],
+    memory: &Memory,
     r: u8,
     a: u16,
 ) -> Control
-    requires { IsMemory memory.now }
     ensures { (clock : ℕ) → whole regs.new clock result
         ≡ loaded_to_by (edition_of second) r a (whole regs.old clock c) memory.now }
 {
@@ -85,11 +83,10 @@ pub fn load_to(
     second: bool,
     c: Control,
     regs: &mut [u16; 8],
-    memory: &mut [u16],
+    memory: &mut Memory,
     r: u8,
     a: u16,
 ) -> Obeyed
-    requires { IsMemory memory.old }
     ensures { (clock : ℕ) (output : List ℕ) → after result regs.new clock memory.new output
         ≡ delivered regs.old memory.old output
         (load_to_by (edition_of second) r a (whole regs.old clock c) memory.old) }
@@ -107,12 +104,11 @@ pub fn store_at(
     second: bool,
     c: Control,
     regs: &mut [u16; 8],
-    memory: &mut [u16],
+    memory: &mut Memory,
     output: &mut [u8],
     v: u16,
     a: u16,
 ) -> Obeyed
-    requires { IsMemory memory.old }
     ensures { (clock : ℕ) → after result regs.new clock memory.new output.new
         ≡ delivered regs.old memory.old output.old
         (store_at_by (edition_of second) v a (whole regs.old clock c) memory.old) }
@@ -129,11 +125,10 @@ pub fn load_by(
     second: bool,
     c: Control,
     regs: &mut [u16; 8],
-    memory: &mut [u16],
+    memory: &mut Memory,
     r: u8,
     a: u16,
 ) -> Obeyed
-    requires { IsMemory memory.old }
     ensures { (clock : ℕ) (output : List ℕ) → after result regs.new clock memory.new output
         ≡ delivered regs.old memory.old output
         (by_pointer_by (edition_of second) a (load_to_by (edition_of second) r) (whole regs.old clock c)
@@ -158,12 +153,11 @@ pub fn store_by(
     second: bool,
     c: Control,
     regs: &mut [u16; 8],
-    memory: &mut [u16],
+    memory: &mut Memory,
     output: &mut [u8],
     v: u16,
     a: u16,
 ) -> Obeyed
-    requires { IsMemory memory.old }
     ensures { (clock : ℕ) → after result regs.new clock memory.new output.new
         ≡ delivered regs.old memory.old output.old
         (by_pointer_by (edition_of second) a (store_at_by (edition_of second) v) (whole regs.old clock c)

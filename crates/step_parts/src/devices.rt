@@ -1,6 +1,5 @@
 // Loads and stores: the device registers at their addresses, plain words everywhere else.
 ghost use Rattle.std.specs.Prelude.{◌≡◌, ℕ, ◌+◌, List, [], if◌then◌else◌, nat_eq, slice_index};
-ghost use Rattle.machine.specs.Memory.{IsMemory};
 ghost use Rattle.machine.specs.Record.{whole, with_psr, with_kbsr, with_mcr, with_busy, with_timer};
 ghost use Rattle.machine.specs.Edition.{edition_of, has_psr_address};
 ghost use Rattle.machine.specs.Devices.{PSR, loaded_value_by, after_load, with_enable, ddr_store, stored_by};
@@ -13,7 +12,7 @@ ghost use Rattle.step_parts.specs.Delivery.{effect, no_output, after, delivered,
 use crate::memory::{set_word, word_at};
 use crate::{Display, Obeyed};
 use machine::addresses::{DDR, DSR, KBDR, KBSR, MCR, PSR, TIR, TSR};
-use machine::{Control, Rule, set_busy, set_keyboard, set_mcr, set_timer, with_devices};
+use machine::{Control, Memory, Rule, set_busy, set_keyboard, set_mcr, set_timer, with_devices};
 
 // DSR: x8000, or 0 while the display is busy.
 fn display_status(busy: u16) -> u16
@@ -23,8 +22,7 @@ fn display_status(busy: u16) -> u16
 }
 
 // A load from xFFFC: the PSR, or the word there.
-fn psr_or_word(second: bool, psr: u16, memory: &[u16]) -> u16
-    requires { IsMemory memory.now }
+fn psr_or_word(second: bool, psr: u16, memory: &Memory) -> u16
     ensures { result ≡ (if has_psr_address (edition_of second) then psr else slice_index memory.now PSR) }
 {
     if second {
@@ -34,8 +32,7 @@ fn psr_or_word(second: bool, psr: u16, memory: &[u16]) -> u16
 }
 
 // The value that a load gives.
-pub fn load(second: bool, c: Control, memory: &[u16], a: u16) -> u16
-    requires { IsMemory memory.now }
+pub fn load(second: bool, c: Control, memory: &Memory, a: u16) -> u16
     ensures { (regs : List ℕ) (clock : ℕ) → result
         ≡ loaded_value_by (edition_of second) a (whole regs clock c) memory.now }
 {
@@ -170,8 +167,7 @@ pub fn count_down(c: Control, display: Display) -> Control
 }
 
 // A store to xFFFC: to the PSR, or to the word there.
-fn store_psr(second: bool, c: Control, memory: &mut [u16], v: u16) -> Control
-    requires { IsMemory memory.old }
+fn store_psr(second: bool, c: Control, memory: &mut Memory, v: u16) -> Control
     ensures { (regs : List ℕ) (clock : ℕ) → no_output (whole regs clock result) memory.new
         ≡ effect (stored_by (edition_of second) v PSR (whole regs clock c) memory.old) }
 {
@@ -186,12 +182,11 @@ fn store_psr(second: bool, c: Control, memory: &mut [u16], v: u16) -> Control
 pub fn store(
     second: bool,
     c: Control,
-    memory: &mut [u16],
+    memory: &mut Memory,
     output: &mut [u8],
     v: u16,
     a: u16,
 ) -> Obeyed
-    requires { IsMemory memory.old }
     ensures { (regs : List ℕ) (clock : ℕ) → after result regs clock memory.new output.new
         ≡ delivered regs memory.old output.old
         (stored_by (edition_of second) v a (whole regs clock c) memory.old) }
