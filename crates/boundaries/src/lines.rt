@@ -45,7 +45,7 @@ pub(crate) fn fill(memory: &mut [u16]) {
 
 // The record of every case but for what the case sets: each field is defined, and most differ.
 pub(crate) fn record() -> Machine {
-    let devices = machine::set_keyboard(machine::fresh_devices(), 0, 0x0055);
+    let devices = machine::set_keyboard(Devices::fresh(), 0, 0x0055);
     Machine {
         regs: [1, 2, 3, 4, 5, 6, 0x2F00, 8],
         pc: 0x3000,

@@ -69,7 +69,7 @@ fn tell_step(second: bool, m: Machine, memory: &Memory, times: &[u64], bytes: &[
         (keys_due m.clock times.now bytes.now) m memory.now) }
 {
     let regs = m.regs;
-    let a = step_parts::keys::arrive(machine::control_of(m), m.clock, times, bytes, 0);
+    let a = step_parts::keys::arrive(Control::from(m), m.clock, times, bytes, 0);
     let c = step_parts::timer::count_down(a.control);
     let pending = step_parts::interrupts::pending_interrupt(c);
     let touched = touching::interrupt_or_obey(second, c, &regs, memory, pending);

@@ -13,7 +13,7 @@ ghost use Rattle.telling.specs.Told.{after_pointer, touched_in, untouched};
 
 use crate::lists::{below, none, prepend, prepend_lent};
 use machine::addresses::{ACCESS_VECTOR, ILLEGAL_VECTOR, PRIVILEGE_VECTOR};
-use machine::{Control, Memory, Pending, Plan, Rule};
+use machine::{Control, Interrupt, Memory, Plan, Rule};
 use step::planning::plan_for;
 use step_parts::devices::{after_load, load};
 use step_parts::entry::interrupt_rule;
@@ -210,13 +210,13 @@ pub fn interrupt_or_obey(
     c: Control,
     regs: &[u16; 8],
     memory: &Memory,
-    pending: Pending,
+    pending: Option<Interrupt>,
 ) -> Touched
     ensures { (clock : ℕ) → result ≡ touched_in (interrupted_or_obeyed_by (edition_of second) pending
         (whole regs.now clock c) memory.now) }
 {
     match pending {
-        Pending::Nothing => obey(second, c, regs, memory),
-        Pending::Interrupt(vector, _) => enter(c, regs, vector, interrupt_rule(vector)),
+        None => obey(second, c, regs, memory),
+        Some(i) => enter(c, regs, i.vector, interrupt_rule(i.vector)),
     }
 }

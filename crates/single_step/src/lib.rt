@@ -47,7 +47,7 @@ fn step_accepted(
         return stopped(m, Ending::Halted);
     }
     let mut regs = m.regs;
-    let c = machine::control_of(m);
+    let c = Control::from(m);
     let s = advance(
         second, c, m.clock, &mut regs, memory, times, bytes, 0, output, 0,
     );
@@ -55,7 +55,7 @@ fn step_accepted(
     if is_full(display) {
         return stopped(m, Ending::OutputFull);
     }
-    let machine = machine::machine_of(regs, m.clock + 1, s.control);
+    let machine = s.control.machine(regs, m.clock + 1);
     let report = Report {
         steps: 1,
         keys: s.keys,

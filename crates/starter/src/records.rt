@@ -10,7 +10,7 @@ fn fresh(pc: u16, user: bool, stack: u16) -> Machine
     ensures { result ≡ fresh_of pc user stack }
 {
     let mut regs = [0u16; 8];
-    let devices = machine::fresh_devices();
+    let devices = Devices::fresh();
     if user {
         regs[6] = stack;
         return Machine {
@@ -40,7 +40,7 @@ pub fn zero() -> Machine
     ensures { result ≡ zero_machine }
 {
     let regs = [0u16; 8];
-    let devices = machine::zero_devices();
+    let devices = Devices::zero();
     Machine {
         regs,
         pc: 0,

@@ -24,14 +24,7 @@ fn after_instruction(c: Control, pc: u16, psr: u16) -> Control
     ensures { (regs : List ℕ) (clock : ℕ) (codes : Codes) → psr ≡ recoded codes c.psr → whole regs clock result
         ≡ after_instruction regs pc codes (whole regs clock c) }
 {
-    let devices = c.devices;
-    Control {
-        pc,
-        psr,
-        saved_ssp: c.saved_ssp,
-        saved_usp: c.saved_usp,
-        devices,
-    }
+    Control { pc, psr, ..c }
 }
 
 // An instruction that puts a value in a register and sets the codes from it.

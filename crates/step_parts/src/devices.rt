@@ -12,7 +12,7 @@ ghost use Rattle.step_parts.specs.Delivery.{effect, no_output, after, delivered,
 use crate::memory::{set_word, word_at};
 use crate::{Display, Obeyed};
 use machine::addresses::{DDR, DSR, KBDR, KBSR, MCR, PSR, TIR, TSR};
-use machine::{Control, Memory, Rule, set_busy, set_keyboard, set_mcr, set_timer, with_devices};
+use machine::{Control, Memory, Rule};
 
 // DSR: x8000, or 0 while the display is busy.
 fn display_status(busy: u16) -> u16
@@ -98,7 +98,7 @@ fn show(busy: u16, output: &mut [u8], v: u16) -> Display
 pub fn with_kbsr(c: Control, kbsr: u16) -> Control
     ensures { (regs : List ℕ) (clock : ℕ) → whole regs clock result ≡ with_kbsr kbsr (whole regs clock c) }
 {
-    with_devices(c, set_keyboard(c.devices, kbsr, c.devices.kbdr))
+    c.with_devices(c.devices.with_keyboard(kbsr, c.devices.kbdr))
 }
 
 // A status register that a value is stored to: bit 14, enable, is copied, and ready stays.
@@ -113,33 +113,26 @@ pub fn with_timer(c: Control, status: u16, interval: u16, count: u16) -> Control
     ensures { (regs : List ℕ) (clock : ℕ) → whole regs clock result
         ≡ with_timer (record { status = status; interval = interval; count = count }) (whole regs clock c) }
 {
-    with_devices(c, set_timer(c.devices, status, interval, count))
+    c.with_devices(c.devices.with_timer(status, interval, count))
 }
 
 fn with_mcr(c: Control, mcr: u16) -> Control
     ensures { (regs : List ℕ) (clock : ℕ) → whole regs clock result ≡ with_mcr mcr (whole regs clock c) }
 {
-    with_devices(c, set_mcr(c.devices, mcr))
+    c.with_devices(c.devices.with_mcr(mcr))
 }
 
 fn with_psr(c: Control, psr: u16) -> Control
     ensures { (regs : List ℕ) (clock : ℕ) → whole regs clock result ≡ with_psr psr (whole regs clock c) }
 {
-    let devices = c.devices;
-    Control {
-        pc: c.pc,
-        psr,
-        saved_ssp: c.saved_ssp,
-        saved_usp: c.saved_usp,
-        devices,
-    }
+    Control { psr, ..c }
 }
 
 // The record with this busy count of the display.
 fn with_busy(c: Control, busy: u16) -> Control
     ensures { (regs : List ℕ) (clock : ℕ) → whole regs clock result ≡ with_busy busy (whole regs clock c) }
 {
-    with_devices(c, set_busy(c.devices, busy))
+    c.with_devices(c.devices.with_busy(busy))
 }
 
 // The end of a step that shows nothing. The record stays as it is where the count is 0, as it is most often.

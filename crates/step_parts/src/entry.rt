@@ -10,7 +10,7 @@ ghost use Rattle.step_parts.specs.Delivery.{effect, no_output};
 use crate::memory::{set_word, word_at};
 use crate::words::{before, register, set_register};
 use machine::addresses::TIMER_VECTOR;
-use machine::{Control, Memory, Rule};
+use machine::{Control, Interrupt, Memory, Rule};
 
 // The one of two stack pointers that User mode chooses.
 fn by_mode(psr: u16, user: u16, supervisor: u16) -> u16
@@ -82,18 +82,17 @@ pub fn interrupt(
     c: Control,
     regs: &mut [u16; 8],
     memory: &mut Memory,
-    vector: u16,
-    priority: u16,
+    i: Interrupt,
 ) -> Control
     ensures { (clock : ℕ) → no_output (whole regs.new clock result) memory.new
-        ≡ effect (interrupted vector priority (whole regs.old clock c) memory.old) }
+        ≡ effect (interrupted i.vector i.priority (whole regs.old clock c) memory.old) }
 {
     enter(
         c,
         regs,
         memory,
-        vector,
+        i.vector,
         c.pc,
-        c.psr % 256 + priority % 8 * 256,
+        c.psr % 256 + i.priority % 8 * 256,
     )
 }
