@@ -11,7 +11,7 @@ ghost use Rattle.run.specs.Call.{start_of};
 ghost use Rattle.telling.specs.Told.{untold, told_of, told_by, told_next};
 
 use machine::{Machine, Memory, Rule};
-use run::{Admission, Ending};
+use run::Ending;
 use telling::{Told, Touched};
 
 pub mod lists;
@@ -100,9 +100,8 @@ pub fn tell(second: bool, m: Machine, memory: &[u16], times: &[u64], bytes: &[u8
     ensures { (output : List ℕ) → result ≡ told_by (edition_of second)
         (start_of m memory.now times.now bytes.now output) }
 {
-    let admission = refusals::admission(m, memory, times, bytes, 1);
-    match admission {
-        Admission::Accepted => tell_accepted(second, m, memory, times, bytes),
-        Admission::Rejected(refusal) => nothing(Ending::Refused(refusal)),
+    match refusals::admission(m, memory, times, bytes, 1) {
+        Ok(()) => tell_accepted(second, m, memory, times, bytes),
+        Err(refusal) => nothing(Ending::Refused(refusal)),
     }
 }

@@ -12,7 +12,7 @@ ghost use Rattle.answers.specs.Answer.{answer_of, reported};
 use answers::Lc3Report;
 use loop_parts::{advance, is_full, shown_count};
 use machine::{Machine, Memory};
-use run::{Admission, Answer, Ending, Report};
+use run::{Answer, Ending, Report};
 
 // A step that is stopped before it began: the record as handed in, and zero counts.
 fn stopped(m: Machine, ending: Ending) -> Answer
@@ -78,10 +78,9 @@ pub fn step(
         ≡ call_by (step_by (edition_of second)) (start_of m memory.old times.now bytes.now
         output.old) 1 }
 {
-    let admission = refusals::admission(m, memory, times, bytes, 1);
-    match admission {
-        Admission::Accepted => step_accepted(second, m, memory, times, bytes, output),
-        Admission::Rejected(refusal) => refusals::refused(m, refusal),
+    match refusals::admission(m, memory, times, bytes, 1) {
+        Ok(()) => step_accepted(second, m, memory, times, bytes, output),
+        Err(refusal) => refusals::refused(m, refusal),
     }
 }
 

@@ -25,7 +25,6 @@ use Rattle.machine.specs.Exclusions.{exclusions_of}
 use Rattle.machine.specs.Step.{Step, after_start, step_by}
 use Rattle.footprint.specs.Footprint.{Each, NoneOf}
 use Rattle.footprint.specs.Altered.{is_among}
-use Rattle.run.specs.declared.Admission.TheVariants.{Accepted}
 use Rattle.run.specs.Run.{Start, End, arriving, next_step_by}
 use Rattle.run.specs.Refusals.{admission_of}
 use Rattle.run.specs.Call.{start_of, call_by, second_call_of}

@@ -14,10 +14,9 @@ use Rattle.machine.specs.Interrupts.{pending_interrupt}
 use Rattle.machine.specs.Devices.{loaded_value_by}
 use Rattle.machine.specs.Step.{Step, after_start, step_by}
 use Rattle.footprint.specs.Footprint.{Each, NoneOf}
-use Rattle.run.specs.declared.Admission.TheVariants.{Accepted}
 use Rattle.run.specs.declared.Ending.TheVariants.{OutputFull}
 use Rattle.run.specs.Run.{Start, End, arriving, next_step_by}
-use Rattle.run.specs.Refusals.{admission_of}
+use Rattle.run.specs.Refusals.{admission_of, Accepted}
 use Rattle.run.specs.Call.{start_of, call_by, call_of, second_call_of}
 
 -- ---- M27.7

@@ -12,28 +12,28 @@ run_accepted-requires c =
     let a = c.args in
     let k = accepted_is_acceptable (start_of a.m a.memory.now a.times.now a.bytes.now a.output.now)
     a.n (sym (c.admission-admission.ensures a.output.now)
-    ∙ c.in-Accepted.is) in
+    ∙ c.in-Ok.is) in
     record {
       memory = k.size;
       times_len = k.equal;
       n_bound = k.clock;
     }
 
-pub returns-in-Accepted : goal.returns-in-Accepted
+pub returns-in-Ok : goal.returns-in-Ok
 unfolding call_by admitted_by
-returns-in-Accepted c =
+returns-in-Ok c =
     let went = c.run_accepted in
     let admission = c.admission-admission in
     let a = c.args in
-    rw (← admission.ensures a.output.now, c.in-Accepted.is)
+    rw (← admission.ensures a.output.now, c.in-Ok.is)
     (c.answer_of.ensures went.new.memory went.new.output ∙ ap answer_of went.ensures)
 
-pub returns-in-Rejected : goal.returns-in-Rejected
+pub returns-in-Err : goal.returns-in-Err
 unfolding call_by admitted_by
-returns-in-Rejected c =
+returns-in-Err c =
     let a = c.args in
     rw (
       ← c.admission-admission.ensures a.output.now,
-      c.in-Rejected.is,
+      c.in-Err.is,
     )
     (c.refused.ensures a.memory.now a.times.now a.bytes.now a.output.now)

@@ -13,24 +13,24 @@ run_accepted-requires c =
     let admission = c.admission-admission in
     let a = c.args in
     let k = accepted_is_acceptable (start_of a.m a.memory.now a.times.now a.bytes.now a.output.now)
-    a.n (sym (admission.ensures a.output.now) ∙ c.in-Accepted.is) in
+    a.n (sym (admission.ensures a.output.now) ∙ c.in-Ok.is) in
     record {
       memory = k.size;
       times_len = k.equal;
       n_bound = k.clock;
     }
 
-pub returns-in-Accepted : goal.returns-in-Accepted
+pub returns-in-Ok : goal.returns-in-Ok
 unfolding logged_call_by logged_admitted_by
-returns-in-Accepted c =
+returns-in-Ok c =
     let run-accepted = c.run_accepted in
     let admission = c.admission-admission in
     let a = c.args in
-    rw (← admission.ensures a.output.now, c.in-Accepted.is) run-accepted.ensures
+    rw (← admission.ensures a.output.now, c.in-Ok.is) run-accepted.ensures
 
-pub returns-in-Rejected : goal.returns-in-Rejected
+pub returns-in-Err : goal.returns-in-Err
 unfolding logged_call_by logged_admitted_by begin
-returns-in-Rejected c =
+returns-in-Err c =
     let admission = c.admission-admission in
     let a = c.args in
-    rw (← admission.ensures a.output.now, c.in-Rejected.is, c.refused.ensures) refl
+    rw (← admission.ensures a.output.now, c.in-Err.is, c.refused.ensures) refl

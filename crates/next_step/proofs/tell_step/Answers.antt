@@ -35,7 +35,7 @@ returns c =
     let arrived : whole R t c.arrive-a.result.control ≡ after_keys keys a.m =
     ap (λ (x : Arrival). x.machine) (c.arrive-a.ensures R t)
     ∙ ap (λ (x : Machine). (arrival_of t a.times.now a.bytes.now x 0).machine)
-    c.control_of.ensures in
+    c.from.ensures in
     let begun : n ≡ m = c.count_down-c.ensures R t ∙ ap after_timer arrived in
     let told : touched.result ≡ touched_in (interrupted_or_obeyed_by e (pending_interrupt m) m M) =
     touched.ensures t

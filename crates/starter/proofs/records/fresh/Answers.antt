@@ -6,9 +6,9 @@ use Rattle.starter.proofs.records.fresh.Goals as goal
 pub returns-then-user : goal.returns-then-user
 unfolding fresh_of
 returns-then-user c =
-    rw (c.if-user.true, c.fresh_devices-devices.ensures)
+    rw (c.if-user.true, c.fresh-devices.ensures)
 
 pub returns : goal.returns
 unfolding fresh_of
 returns c =
-    rw (c.if-user.false, c.fresh_devices-devices.ensures)
+    rw (c.if-user.false, c.fresh-devices.ensures)
