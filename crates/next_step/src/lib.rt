@@ -10,7 +10,7 @@ ghost use Rattle.machine.specs.Step.{step_by};
 ghost use Rattle.run.specs.Call.{start_of};
 ghost use Rattle.telling.specs.Told.{untold, told_of, told_by, told_next};
 
-use machine::{Machine, Memory, Rule};
+use machine::{Control, Machine, Memory, Rule};
 use run::Ending;
 use telling::{Told, Touched};
 

@@ -11,7 +11,7 @@ ghost use Rattle.answers.specs.Answer.{answer_of, reported};
 
 use answers::Lc3Report;
 use loop_parts::{advance, is_full, shown_count};
-use machine::{Machine, Memory};
+use machine::{Control, Machine, Memory};
 use run::{Answer, Ending, Report};
 
 // A step that is stopped before it began: the record as handed in, and zero counts.
@@ -79,7 +79,10 @@ pub fn step(
         output.old) 1 }
 {
     match refusals::admission(m, memory, times, bytes, 1) {
-        Ok(()) => step_accepted(second, m, memory, times, bytes, output),
+        Ok(()) => {
+            let memory: &mut Memory = memory.try_into().unwrap();
+            step_accepted(second, m, memory, times, bytes, output)
+        }
         Err(refusal) => refusals::refused(m, refusal),
     }
 }
