@@ -46,9 +46,12 @@ pub fn run_logged_by(
         ≡ logged_call_by (edition_of second) (start_of m memory.old times.now bytes.now
         output.old) log.old n }
 {
-    match refusals::admission(m, memory, times, bytes, n) {
+    let Some(whole) = memory.as_mut_array() else {
+        return refused(m, Refusal::MemorySize);
+    };
+    match refusals::admission(m, whole, times, bytes, n) {
         Ok(()) => stepping::run_accepted(
-            second, m, memory, times, bytes, output, log, n,
+            second, m, whole, times, bytes, output, log, n,
         ),
         Err(refusal) => refused(m, refusal),
     }

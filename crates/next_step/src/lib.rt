@@ -11,7 +11,7 @@ ghost use Rattle.run.specs.Call.{start_of};
 ghost use Rattle.telling.specs.Told.{untold, told_of, told_by, told_next};
 
 use machine::{Control, Machine, Memory, Rule};
-use run::Ending;
+use run::{Ending, Refusal};
 use telling::{Told, Touched};
 
 pub mod lists;
@@ -100,8 +100,11 @@ pub fn tell(second: bool, m: Machine, memory: &[u16], times: &[u64], bytes: &[u8
     ensures { (output : List ℕ) → result ≡ told_by (edition_of second)
         (start_of m memory.now times.now bytes.now output) }
 {
-    match refusals::admission(m, memory, times, bytes, 1) {
-        Ok(()) => tell_accepted(second, m, memory, times, bytes),
+    let Some(whole) = memory.as_array() else {
+        return nothing(Ending::Refused(Refusal::MemorySize));
+    };
+    match refusals::admission(m, whole, times, bytes, 1) {
+        Ok(()) => tell_accepted(second, m, whole, times, bytes),
         Err(refusal) => nothing(Ending::Refused(refusal)),
     }
 }

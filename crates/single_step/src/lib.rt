@@ -12,7 +12,7 @@ ghost use Rattle.answers.specs.Answer.{answer_of, reported};
 use answers::Lc3Report;
 use loop_parts::{advance, is_full, shown_count};
 use machine::{Control, Machine, Memory};
-use run::{Answer, Ending, Report};
+use run::{Answer, Ending, Refusal, Report};
 
 // A step that is stopped before it began: the record as handed in, and zero counts.
 fn stopped(m: Machine, ending: Ending) -> Answer
@@ -78,11 +78,11 @@ pub fn step(
         ≡ call_by (step_by (edition_of second)) (start_of m memory.old times.now bytes.now
         output.old) 1 }
 {
-    match refusals::admission(m, memory, times, bytes, 1) {
-        Ok(()) => {
-            let memory: &mut Memory = memory.try_into().unwrap();
-            step_accepted(second, m, memory, times, bytes, output)
-        }
+    let Some(whole) = memory.as_mut_array() else {
+        return refusals::refused(m, Refusal::MemorySize);
+    };
+    match refusals::admission(m, whole, times, bytes, 1) {
+        Ok(()) => step_accepted(second, m, whole, times, bytes, output),
         Err(refusal) => refusals::refused(m, refusal),
     }
 }

@@ -12,9 +12,8 @@ use Rattle.next_step.proofs.tell.Goals as goal
 pub tell_accepted-requires : goal.tell_accepted-requires
 tell_accepted-requires c =
     let a = c.args in
-    let k = accepted_is_acceptable (start_of a.m a.memory.now a.times.now a.bytes.now []) 1
-    (sym (c.admission-admission.ensures []) ∙ c.in-Ok.is) in
+    let k = accepted_is_acceptable (start_of a.m c.in-Some.whole.now a.times.now a.bytes.now []) 1
+    (sym (c.admission.ensures []) ∙ c.in-Ok.is) in
     record {
-      memory = k.size;
       times_len = k.equal;
     }
