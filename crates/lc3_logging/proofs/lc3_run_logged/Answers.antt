@@ -44,7 +44,7 @@ pub returns-in-Err : goal.returns-in-Err
 unfolding logged_call_by logged_admitted_by begin
 returns-in-Err c =
     let a = c.args in
-    let turned = c.refused in
+    let turned = c.refused-in-Err in
     rw (← c.in-Some.ensures.cases.same, ← c.admission.ensures a.output.now, c.in-Err.is)
     (c.in_numbers-in-Err.ensures c.in-Some.whole.now a.output.now a.log.now
     ∙ ap (λ (x : LoggedAnswer). logged_answer_of (logged_end_of x c.in-Some.whole.now a.output.now a.log.now))

@@ -40,4 +40,4 @@ unfolding logged_call_by logged_admitted_by begin
 returns-in-Err c =
     let admission = c.admission in
     let a = c.args in
-    rw (← c.in-Some.ensures.cases.same, ← admission.ensures a.output.now, c.in-Err.is, c.refused.ensures) refl
+    rw (← c.in-Some.ensures.cases.same, ← admission.ensures a.output.now, c.in-Err.is, c.refused-in-Err.ensures) refl
