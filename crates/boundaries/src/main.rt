@@ -3,7 +3,7 @@
 #![tactic(auto)]
 
 use call::Call;
-use machine::Machine;
+use machine::{Devices, Machine};
 use std::io;
 
 mod call;
@@ -23,7 +23,7 @@ fn record() -> Machine {
         psr: 0x0302,
         saved_ssp: 0x3000,
         saved_usp: 0xFDFF,
-        devices: machine::set_keyboard(machine::fresh_devices(), 0, 0x0055),
+        devices: Devices::fresh().with_keyboard(0, 0x0055),
         clock: 1000,
     }
 }

@@ -1,6 +1,8 @@
 -- Two steps from one record, with the same keys, from two memories: where these agree at all words that the first step
 -- reads, both have the same effect. By accesses and by the plan that they share, never by the instruction; by either
 -- edition.
+use Rattle.machine.specs.declared.Interrupt.{Interrupt}
+use Rattle.std.specs.Prelude.{Option, None, Some}
 use Prim.Native.Nat.{ℕ, zero, suc}
 use mathlib.Core.Path.{◌≡◌, refl}
 use mathlib.Core.Bool.{Bool, true, false, cond}
@@ -13,8 +15,6 @@ use Rattle.machine.specs.declared.Machine.{Machine}
 use Rattle.machine.specs.declared.Plan.{Plan}
 use Rattle.machine.specs.declared.Plan.TheVariants.{Move, Put, Jump, Load, LoadBy, Store, StoreBy}
 use Rattle.machine.specs.declared.Plan.TheVariants.{Call, Illegal, Return}
-use Rattle.machine.specs.declared.Pending.{Pending}
-use Rattle.machine.specs.declared.Pending.TheVariants.{Nothing, Interrupt}
 use Rattle.machine.specs.Edition.{Edition, third, second, linked, trapped}
 use Rattle.machine.specs.Words.{before}
 use Rattle.machine.specs.Psr.{in_user_mode}
@@ -248,10 +248,10 @@ module _ (edition : Edition) (mem₁ mem₂ : List ℕ) (l : length mem₁ ≡ l
       (after_reads (m.pc ∷ []) _ _
       (λ e. rw (← e.0) (plan_follows (plan_by edition m.regs m.pc m.psr (read_of (get_or mem₁ m.pc 0))) m)))
 
-  either_follows : (p : Pending) (m : Machine) → Followed (interrupted_or_obeyed_by edition p m)
+  either_follows : (p : Option Interrupt) (m : Machine) → Followed (interrupted_or_obeyed_by edition p m)
   unfolding interrupted_or_obeyed_by interrupted
-  either_follows Nothing m = obeyed_follows m
-  either_follows (Interrupt vector priority) m = entry_follows (interrupt vector) m.pc _ m
+  either_follows None m = obeyed_follows m
+  either_follows (Some q) m = entry_follows (interrupt q.vector) m.pc _ m
 
   end_follows : (o₁ o₂ : Outcome) → Follows o₁ o₂ → Follows (ended o₁) (ended o₂)
   unfolding ended

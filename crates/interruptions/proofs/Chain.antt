@@ -7,9 +7,8 @@ use mathlib.Core.Bool.{true}
 use mathlib.Core.List.{List, [], ◌++◌}
 use lib.ListN.{length, drop}
 use lib.Seq.{take-append_seam}
-use Rattle.run.specs.declared.Admission.TheVariants.{Accepted}
 use Rattle.run.specs.Run.{Start, End}
-use Rattle.run.specs.Refusals.{admission_of}
+use Rattle.run.specs.Refusals.{admission_of, Accepted}
 use Rattle.monitor.specs.Calls.{StackApart, takes_none}
 use Rattle.monitor.proofs.Execution.{Frame, View, Quiet}
 use Rattle.monitor.proofs.Intact.{cells_fine}

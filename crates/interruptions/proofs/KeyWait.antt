@@ -16,9 +16,8 @@ use Rattle.word.specs.declared.Instruction.TheVariants.{Br}
 use Rattle.machine.specs.declared.Plan.TheVariants.{Jump}
 use Rattle.machine.specs.Words.{next, with_register}
 use Rattle.machine.specs.Psr.{is_taken}
-use Rattle.run.specs.declared.Admission.TheVariants.{Accepted}
 use Rattle.run.specs.Run.{Start, End}
-use Rattle.run.specs.Refusals.{admission_of}
+use Rattle.run.specs.Refusals.{admission_of, Accepted}
 use Rattle.monitor.specs.Keys.{arrived_by, key_at}
 use Rattle.monitor.proofs.Execution.{Frame, Known, from, View, At, Quiet, status_in}
 use Rattle.monitor.proofs.Intact.{cells_fine, usable}

@@ -8,9 +8,8 @@ use mathlib.Core.List.{List}
 use lib.ListN.{get_or, set, take, drop}
 use Rattle.machine.specs.Words.{next}
 use Rattle.machine.specs.Keys.{ready_after}
-use Rattle.run.specs.declared.Admission.TheVariants.{Accepted}
 use Rattle.run.specs.Run.{Start, ended_by}
-use Rattle.run.specs.Refusals.{admission_of}
+use Rattle.run.specs.Refusals.{admission_of, Accepted}
 use Rattle.run.specs.Call.{call_of}
 use Rattle.monitor.specs.Calls.{stack_of, StackApart, Begins}
 use Rattle.monitor.proofs.Execution.{Frame, View, psr_at, memory_with, At, Quiet}

@@ -7,10 +7,9 @@ use Rattle.std.specs.Prelude.{get_or, set, take, drop}
 use Rattle.machine.specs.Words.{next}
 use Rattle.machine.specs.Psr.{in_user_mode}
 use Rattle.machine.specs.Protection.{privileged}
-use Rattle.run.specs.declared.Admission.TheVariants.{Accepted}
 use Rattle.run.specs.declared.Ending.TheVariants.{Done, Halted}
 use Rattle.run.specs.Run.{Start}
-use Rattle.run.specs.Refusals.{admission_of}
+use Rattle.run.specs.Refusals.{admission_of, Accepted}
 use Rattle.run.specs.Call.{call_of}
 use Rattle.lent.specs.Lent.{written_over}
 use Rattle.monitor.specs.Uses.{out_code, puts_code, putsp_code, halt_code}

@@ -13,7 +13,7 @@ use logger::refused;
 use logger::stepping::run_accepted;
 use logging::{LoggedAnswer, LoggedEnding};
 use machine::Machine;
-use run::{Admission, Ending, Report};
+use run::{Ending, Refusal, Report};
 
 // What a logged run answers, 96 bytes: what a run does, and `logged`, the words written to the log. `stop` may be log
 // full, 3.
@@ -90,12 +90,14 @@ pub fn lc3_run_logged(
         ≡ logged_answer_of (logged_call_of (start_of m memory.old times.now bytes.now
         output.old) log.old n) }
 {
-    let admission = refusals::admission(m, memory, times, bytes, n);
-    match admission {
-        Admission::Accepted => in_numbers(run_accepted(
-            false, m, memory, times, bytes, output, log, n,
+    let Some(whole) = memory.as_mut_array() else {
+        return in_numbers(refused(m, Refusal::MemorySize));
+    };
+    match refusals::admission(m, whole, times, bytes, n) {
+        Ok(()) => in_numbers(run_accepted(
+            false, m, whole, times, bytes, output, log, n,
         )),
-        Admission::Rejected(refusal) => in_numbers(refused(m, refusal)),
+        Err(refusal) => in_numbers(refused(m, refusal)),
     }
 }
 
@@ -113,11 +115,13 @@ pub fn lc3_run_logged_second(
         ≡ logged_answer_of (second_logged_call_of (start_of m memory.old times.now bytes.now
         output.old) log.old n) }
 {
-    let admission = refusals::admission(m, memory, times, bytes, n);
-    match admission {
-        Admission::Accepted => in_numbers(run_accepted(
-            true, m, memory, times, bytes, output, log, n,
+    let Some(whole) = memory.as_mut_array() else {
+        return in_numbers(refused(m, Refusal::MemorySize));
+    };
+    match refusals::admission(m, whole, times, bytes, n) {
+        Ok(()) => in_numbers(run_accepted(
+            true, m, whole, times, bytes, output, log, n,
         )),
-        Admission::Rejected(refusal) => in_numbers(refused(m, refusal)),
+        Err(refusal) => in_numbers(refused(m, refusal)),
     }
 }

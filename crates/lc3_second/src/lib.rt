@@ -7,7 +7,7 @@ ghost use Rattle.answers.specs.Answer.{answer_of, answered};
 
 use answers::{Lc3Answer, answer_of, refused};
 use machine::Machine;
-use run::Admission;
+use run::Refusal;
 use run_call::run_accepted;
 
 // The run of n steps. A call that is turned down answers its number and leaves everything as it was handed in.
@@ -23,9 +23,11 @@ pub fn lc3_run_second(
         ≡ answer_of (second_call_of (start_of m memory.old times.now bytes.now
         output.old) n) }
 {
-    let admission = refusals::admission(m, memory, times, bytes, n);
-    match admission {
-        Admission::Accepted => answer_of(run_accepted(true, m, memory, times, bytes, output, n)),
-        Admission::Rejected(refusal) => refused(m, refusal),
+    let Some(whole) = memory.as_mut_array() else {
+        return refused(m, Refusal::MemorySize);
+    };
+    match refusals::admission(m, whole, times, bytes, n) {
+        Ok(()) => answer_of(run_accepted(true, m, whole, times, bytes, output, n)),
+        Err(refusal) => refused(m, refusal),
     }
 }

@@ -11,7 +11,7 @@ ghost use Rattle.logging.specs.LoggedCall.{logged_end_of, logged_call_by, logged
 
 use logging::{LoggedAnswer, LoggedEnding};
 use machine::Machine;
-use run::{Admission, Ending, Refusal};
+use run::{Ending, Refusal};
 
 pub mod stepping;
 
@@ -46,12 +46,14 @@ pub fn run_logged_by(
         ≡ logged_call_by (edition_of second) (start_of m memory.old times.now bytes.now
         output.old) log.old n }
 {
-    let admission = refusals::admission(m, memory, times, bytes, n);
-    match admission {
-        Admission::Accepted => stepping::run_accepted(
-            second, m, memory, times, bytes, output, log, n,
+    let Some(whole) = memory.as_mut_array() else {
+        return refused(m, Refusal::MemorySize);
+    };
+    match refusals::admission(m, whole, times, bytes, n) {
+        Ok(()) => stepping::run_accepted(
+            second, m, whole, times, bytes, output, log, n,
         ),
-        Admission::Rejected(refusal) => refused(m, refusal),
+        Err(refusal) => refused(m, refusal),
     }
 }
 

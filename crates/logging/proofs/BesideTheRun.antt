@@ -1,5 +1,6 @@
 -- A logged call is the run but for its log, or the run of the steps made where the log is full: by what the laws of one
 -- logged run say of each accepted call; a refused one is the run's refusal.
+use Rattle.std.specs.Prelude.{Ok, Err}
 use Prim.Native.Nat.{ℕ, zero, suc, ◌+◌, ◌*◌, ◌≤◌, ◌<◌}
 use mathlib.Core.Path.{◌≡◌, refl, sym, ap, subst, ◌∙◌}
 use mathlib.Core.Bool.{true}
@@ -9,11 +10,9 @@ use borrow.Author.Tests.{ltb-true}
 use lib.ListN.{length}
 use Rattle.machine.specs.Edition.{Edition}
 use Rattle.machine.specs.Step.{step_by}
-use Rattle.run.specs.declared.Admission.{Admission}
-use Rattle.run.specs.declared.Admission.TheVariants.{Accepted, Rejected}
 use Rattle.run.specs.declared.Ending.TheVariants.{Done}
 use Rattle.run.specs.Run.{Start, End, begin, ended_by, run_by}
-use Rattle.run.specs.Refusals.{admission_of}
+use Rattle.run.specs.Refusals.{admission_of, Admission, Accepted}
 use Rattle.run.specs.Call.{call_by, admitted_by}
 use Rattle.run.proofs.RunLaws.{steps_made_at_most, done_steps_are_made}
 use Rattle.run.proofs.Acceptance.{call_is_run}
@@ -58,10 +57,10 @@ unfolding logged_call_by
 logged_run_is_the_run edition s log n = go (admission_of s n) refl
   where
     go : (a : Admission) → admission_of s n ≡ a → AsTheRun edition s log n (logged_admitted_by edition a s log n)
-    go Accepted e = unfold logged_admitted_by in
+    go (Ok _) e = unfold logged_admitted_by in
         accepted_is_the_run edition s log n e (logged_run_by edition s log n) (tracks edition s log n)
         (written edition s log n)
-    go (Rejected r) e = unfold logged_admitted_by call_by admitted_by ended_by begin entries_by in record {
+    go (Err r) e = unfold logged_admitted_by call_by admitted_by ended_by begin entries_by in record {
       unless_full = λ x. rw e refl;
       where_full = λ x. absurd (run_is_not_log_full _ x);
       full_before_done = λ x. absurd (run_is_not_log_full _ x);

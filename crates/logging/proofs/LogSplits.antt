@@ -15,10 +15,9 @@ use lib.Seq.{sets, length-take-le}
 use Rattle.machine.specs.Edition.{Edition}
 use Rattle.machine.proofs.StepLaws.{step_keeps}
 use Rattle.machine.specs.Step.{step_by}
-use Rattle.run.specs.declared.Admission.TheVariants.{Accepted}
 use Rattle.run.specs.declared.Ending.TheVariants.{Done, Halted, OutputFull, Refused}
 use Rattle.run.specs.Run.{Start, End, is_halted, is_full_by}
-use Rattle.run.specs.Refusals.{admission_of}
+use Rattle.run.specs.Refusals.{admission_of, Accepted}
 use Rattle.run.specs.Continuing.{remaining, joined}
 use Rattle.run.proofs.Continuing.{next_alike, full_alike, made_alike, begin_alike, shown_within, remaining_accepted}
 use Rattle.run.proofs.Acceptance.{accepted_with_fewer}

@@ -11,9 +11,8 @@ use Rattle.machine.specs.Step.{step_of}
 use Rattle.machine.specs.declared.Rule.{Rule}
 use Rattle.machine.specs.Rules.{rule_of, rule_number, fetched_word}
 use Rattle.machine.proofs.RuleLaws.{same_outcome_same_rule, two_fetches_agree}
-use Rattle.run.specs.declared.Admission.TheVariants.{Accepted}
 use Rattle.run.specs.Run.{Start, next_step, run_of}
-use Rattle.run.specs.Refusals.{admission_of}
+use Rattle.run.specs.Refusals.{admission_of, Accepted}
 use Rattle.run.specs.Call.{call_of}
 use Rattle.run.specs.Noninterference.{NoneBefore, Premises}
 use Rattle.run.proofs.RunLaws.{steps_made_at_most, steps_made_are_done, done_steps_are_made}

@@ -3,10 +3,9 @@
 use Rattle.std.specs.Prelude.{ℕ, ◌+◌, ◌≡◌, true, List, ◌++◌, take, drop}
 use Rattle.std.proofs.Math.Pow.{are_bytes}
 use Rattle.machine.specs.Edition.{Edition}
-use Rattle.run.specs.declared.Admission.TheVariants.{Accepted}
 use Rattle.run.specs.declared.Ending.TheVariants.{Done}
 use Rattle.run.specs.Run.{Start}
-use Rattle.run.specs.Refusals.{admission_of}
+use Rattle.run.specs.Refusals.{admission_of, Accepted}
 use Rattle.run.specs.Continuing.{remaining, joined}
 use Rattle.logging.specs.declared.LoggedEnding.TheVariants.{Run}
 use Rattle.logging.specs.LoggedRun.{Logged, with_log, run_in}

@@ -1,19 +1,18 @@
 -- The call of a logged run: turned down as the run is, with the log untouched; or run.
+use Rattle.std.specs.Prelude.{Ok, Err}
 use Rattle.std.specs.Prelude.{ℕ, List}
 use Rattle.machine.specs.Edition.{Edition, third, second}
-use Rattle.run.specs.declared.Admission.{Admission}
-use Rattle.run.specs.declared.Admission.TheVariants.{Accepted, Rejected}
 use Rattle.run.specs.declared.Ending.TheVariants.{Refused}
 use Rattle.run.specs.Run.{Start, begin}
-use Rattle.run.specs.Refusals.{admission_of, ending_stop}
+use Rattle.run.specs.Refusals.{admission_of, ending_stop, Admission}
 use Rattle.logging.specs.declared.LoggedAnswer.{LoggedAnswer}
 use Rattle.logging.specs.declared.LoggedEnding.{LoggedEnding}
 use Rattle.logging.specs.declared.LoggedEnding.TheVariants.{Run, LogFull}
 use Rattle.logging.specs.LoggedRun.{Logged, with_log, logged_run_by}
 
 unfoldable pub logged_admitted_by : Edition → Admission → Start → List ℕ → ℕ → Logged
-logged_admitted_by edition Accepted s log n = logged_run_by edition s log n
-logged_admitted_by edition (Rejected r) s log n = with_log (Run (Refused r)) (begin s) log 0
+logged_admitted_by edition (Ok _) s log n = logged_run_by edition s log n
+logged_admitted_by edition (Err r) s log n = with_log (Run (Refused r)) (begin s) log 0
 
 unfoldable pub logged_call_by : Edition → Start → List ℕ → ℕ → Logged
 logged_call_by edition s log n = logged_admitted_by edition (admission_of s n) s log n

@@ -5,9 +5,8 @@ use Rattle.std.specs.Prelude.{ℕ, suc, ◌*◌, ◌<◌, ◌≡◌, true, false
 use Rattle.machine.specs.Psr.{in_user_mode}
 use Rattle.machine.specs.Visible.{SameVisible}
 use Rattle.machine.specs.Causes.{takes_interrupt}
-use Rattle.run.specs.declared.Admission.TheVariants.{Accepted}
 use Rattle.run.specs.Run.{Start}
-use Rattle.run.specs.Refusals.{admission_of}
+use Rattle.run.specs.Refusals.{admission_of, Accepted}
 use Rattle.run.specs.Noninterference.{cause_at, NoneBefore, First, Premises}
 use Rattle.logging.specs.LoggedRun.{Logged}
 use Rattle.logging.specs.LoggedCall.{logged_call_of}

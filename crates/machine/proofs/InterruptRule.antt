@@ -1,6 +1,7 @@
 -- A step takes an interrupt exactly when rule 2 applies to it: "ready and enable are both set and the priority is below
 -- 4". "Otherwise the word at PC is fetched and obeyed." By the plans: what an instruction does is never the entry for
 -- an interrupt, in either mode.
+use Rattle.std.specs.Prelude.{None, Some}
 use Prim.Native.Nat.{ℕ}
 use mathlib.Core.Path.{◌≡◌, refl, ap, ◌∙◌}
 use mathlib.Core.Bool.{Bool, true, false, cond, ◌||◌, not}
@@ -12,13 +13,13 @@ use Rattle.machine.specs.declared.Machine.{Machine}
 use Rattle.machine.specs.declared.Plan.{Plan}
 use Rattle.machine.specs.declared.Plan.TheVariants.{Move, Put, Jump, Load, LoadBy, Store, StoreBy, Call, Illegal}
 use Rattle.machine.specs.declared.Plan.TheVariants.{Return}
-use Rattle.machine.specs.declared.Pending.TheVariants.{Nothing, Interrupt}
 use Rattle.machine.specs.Edition.{Edition, third, second, linked, trapped}
 use Rattle.machine.specs.Words.{next}
 use Rattle.machine.specs.Psr.{in_user_mode, kept}
 use Rattle.machine.specs.Outcome.{Reason, trap, privilege, illegal, access, Outcome, plain_outcome, with_reads}
 use Rattle.machine.specs.Outcome.{after_instruction}
-use Rattle.machine.specs.Interrupts.{keyboard_vector, keyboard_priority, timer_vector, timer_priority}
+use Rattle.machine.specs.declared.Interrupt.{Interrupt}
+use Rattle.machine.specs.Interrupts.{timer_interrupt, keyboard_interrupt}
 use Rattle.machine.specs.Interrupts.{timer_may_interrupt, keyboard_may_interrupt, pending_interrupt}
 use Rattle.machine.specs.Protection.{denied_by}
 use Rattle.machine.specs.Entry.{entry, raised, interrupted}
@@ -117,12 +118,12 @@ module _ (e : Edition) where
       checked_is_no_interrupt m.pc m mem _
       (plan_is_no_interrupt (plan_by e m.regs m.pc m.psr (read_of (get_or mem m.pc 0))) m mem)
 
-pending_is_taken : (vector priority : ℕ) (m : Machine) (mem : List ℕ)
-    → takes_interrupt (interrupted_or_obeyed (Interrupt vector priority) m mem).cause ≡ true
+pending_is_taken : (q : Interrupt) (m : Machine) (mem : List ℕ)
+    → takes_interrupt (interrupted_or_obeyed (Some q) m mem).cause ≡ true
 unfolding interrupted_or_obeyed_by interrupted entry
-pending_is_taken vector priority m mem = refl
+pending_is_taken q m mem = refl
 
-none_pending_is_none_taken : (m : Machine) (mem : List ℕ) → takes_interrupt (interrupted_or_obeyed Nothing m mem).cause
+none_pending_is_none_taken : (m : Machine) (mem : List ℕ) → takes_interrupt (interrupted_or_obeyed None m mem).cause
     ≡ false
 unfolding interrupted_or_obeyed_by
 none_pending_is_none_taken m mem = instruction_is_no_interrupt third m mem
@@ -138,11 +139,11 @@ interrupt_is_taken_by_rule_2 keys m mem =
     go (timer_may_interrupt (after_start keys m)) (keyboard_may_interrupt (after_start keys m))
   where
     go : (timer keyboard : Bool)
-        → takes_interrupt (interrupted_or_obeyed (cond timer (Interrupt timer_vector timer_priority)
-        (cond keyboard (Interrupt keyboard_vector keyboard_priority) Nothing)) (after_start keys m) mem).cause
+        → takes_interrupt (interrupted_or_obeyed (cond timer (Some timer_interrupt)
+        (cond keyboard (Some keyboard_interrupt) None)) (after_start keys m) mem).cause
         ≡ (timer || keyboard)
-    go true keyboard = pending_is_taken timer_vector timer_priority (after_start keys m) mem
-    go false true = pending_is_taken keyboard_vector keyboard_priority (after_start keys m) mem
+    go true keyboard = pending_is_taken timer_interrupt (after_start keys m) mem
+    go false true = pending_is_taken keyboard_interrupt (after_start keys m) mem
     go false false = none_pending_is_none_taken (after_start keys m) mem
 
 pub otherwise_the_word_is_obeyed : (keys : List ℕ) (m : Machine) (mem : List ℕ) → interrupt_is_due keys m ≡ false

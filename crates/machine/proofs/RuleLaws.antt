@@ -1,4 +1,6 @@
 -- What a log tells of a step: by the rules, and by the definition of the step.
+use Rattle.machine.specs.declared.Interrupt.{Interrupt}
+use Rattle.std.specs.Prelude.{Option, None, Some}
 use Prim.Native.Nat.{ℕ}
 use mathlib.Core.Path.{◌≡◌, refl, sym, ap, ◌∙◌}
 use mathlib.Core.Bool.{Bool, true, false, cond, ◌&&◌, true≢false}
@@ -9,8 +11,6 @@ use Rattle.word.specs.Reading.{read_of}
 use Rattle.machine.specs.declared.Machine.{Machine}
 use Rattle.machine.specs.declared.Rule.{Rule}
 use Rattle.machine.specs.declared.Rule.TheVariants.{Keyboard, Timer}
-use Rattle.machine.specs.declared.Pending.{Pending}
-use Rattle.machine.specs.declared.Pending.TheVariants.{Nothing, Interrupt}
 use Rattle.machine.specs.Edition.{Edition, third}
 use Rattle.machine.specs.Psr.{in_user_mode}
 use Rattle.machine.specs.Outcome.{trap, privilege, illegal, access, interrupt, Cause, instruction, entered}
@@ -98,12 +98,12 @@ step_obeys keys m mem i =
     ap (λ (o : Outcome). o.reads)
     (no_interrupt_is_obeyed (pending_interrupt (after_start keys m)) (after_start keys m) mem i)
 
-interrupt_reads : (p : Pending) (m : Machine) (mem : List ℕ)
+interrupt_reads : (p : Option Interrupt) (m : Machine) (mem : List ℕ)
     → takes_interrupt (interrupted_or_obeyed p m mem).cause ≡ true
     → (vector : ℕ) × ((interrupted_or_obeyed p m mem).reads ≡ vector ∷ [])
 unfolding interrupted_or_obeyed_by interrupted entry
-interrupt_reads Nothing m mem i = absurd (true≢false (sym i ∙ instruction_is_no_interrupt third m mem))
-interrupt_reads (Interrupt vector priority) m mem i = (vector, refl)
+interrupt_reads None m mem i = absurd (true≢false (sym i ∙ instruction_is_no_interrupt third m mem))
+interrupt_reads (Some q) m mem i = (q.vector, refl)
 
 word_is_fetched : (keys : List ℕ) (m : Machine) (mem : List ℕ) → WordIsFetched keys m mem
 unfolding step_by ended after_keys after_timer

@@ -1,5 +1,7 @@
 -- A step that meets none of the exclusions is the same by both editions: its plan is one that the editions share, each
 -- of its addresses is allowed, and none of them is xFFFC, so it is a device register by both or by neither.
+use Rattle.machine.specs.declared.Interrupt.{Interrupt}
+use Rattle.std.specs.Prelude.{Option, None, Some}
 use Prim.Native.Nat.{ℕ, ◌%◌}
 use mathlib.Core.Path.{◌≡◌, refl, ap}
 use mathlib.Core.Bool.{Bool, true, false, cond, true≢false}
@@ -14,8 +16,6 @@ use Rattle.word.specs.declared.Instruction.TheVariants.{AndImmediate, Ldr, Str, 
 use Rattle.word.specs.declared.Instruction.TheVariants.{Trap}
 use Rattle.machine.specs.declared.Machine.{Machine}
 use Rattle.machine.specs.Edition.{third, second}
-use Rattle.machine.specs.declared.Pending.{Pending}
-use Rattle.machine.specs.declared.Pending.TheVariants.{Nothing, Interrupt}
 use Rattle.machine.specs.Words.{next, plus, register}
 use Rattle.machine.specs.Psr.{kept}
 use Rattle.machine.specs.Outcome.{Outcome, with_reads, after_instruction}
@@ -181,11 +181,11 @@ module _ (m : Machine) (mem : List ℕ) where
       (ap (with_reads (m.pc ∷ []))
       (instructions_alike i (none_in_first _ _ r) (none_in_second (instruction_exclusions i) _ r)))
 
-  taken_alike : (pending : Pending) → taken_exclusions pending m mem ≡ []
+  taken_alike : (pending : Option Interrupt) → taken_exclusions pending m mem ≡ []
       → interrupted_or_obeyed_by second pending m mem ≡ interrupted_or_obeyed_by third pending m mem
   unfolding taken_exclusions interrupted_or_obeyed_by
-  taken_alike Nothing h = obeyed_alike h
-  taken_alike (Interrupt vector priority) h = refl
+  taken_alike None h = obeyed_alike h
+  taken_alike (Some q) h = refl
 
 pub common_steps_agree : CommonStepsAgree
 unfolding exclusions_of step_by

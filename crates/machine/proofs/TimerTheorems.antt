@@ -1,5 +1,6 @@
 -- The timer is entered at once, by the first test of `pending_interrupt`; and it is ready at every interval, by
 -- induction on the steps of one interval and on the intervals.
+use Rattle.std.specs.Prelude.{Some}
 use Prim.Native.Nat.{ℕ, zero, suc, ◌+◌, ◌-◌, ◌*◌, ◌%◌, ◌≤◌, ◌<◌}
 use native.Mathlib.Nat.{zero-mul, suc-mul}
 use native.Mathlib.Decide.{dec_le}
@@ -10,12 +11,11 @@ use mathlib.Core.List.{List}
 use lib.Dec.{leb, ltb, eqb}
 use borrow.Author.Tests.{le-leb, lt-leb, lt-ltb, eq-eqb, ne_eqb}
 use Rattle.machine.specs.declared.Machine.{Machine}
-use Rattle.machine.specs.declared.Pending.TheVariants.{Interrupt}
 use Rattle.machine.specs.Record.{Timer, timer_of}
 use Rattle.machine.specs.Psr.{priority_of}
 use Rattle.machine.specs.Keys.{after_keys}
 use Rattle.machine.specs.Timer.{is_off, expires, expired, one_less, ticked, after_timer, ticked_by}
-use Rattle.machine.specs.Interrupts.{timer_vector, timer_priority, pending_interrupt}
+use Rattle.machine.specs.Interrupts.{timer_vector, timer_priority, pending_interrupt, timer_interrupt}
 use Rattle.machine.specs.Entry.{interrupted}
 use Rattle.machine.specs.Step.{interrupted_or_obeyed_by, ended, after_start, step_by, step_of}
 use Rattle.machine.specs.TimerTheorems.{TimerIsEnteredAtOnce, new_interval, ReadyAtEveryInterval, TimerTheorems}
@@ -23,7 +23,7 @@ use Rattle.machine.specs.TimerTheorems.{TimerIsEnteredAtOnce, new_interval, Read
 -- ---- entered at once
 
 timer_is_pending : (m : Machine) → 0xC000 ≤ m.devices.timer_status → priority_of m.psr < timer_priority
-    → pending_interrupt m ≡ Interrupt timer_vector timer_priority
+    → pending_interrupt m ≡ Some timer_interrupt
 unfolding pending_interrupt
 timer_is_pending m ready below =
     rw (le-leb 0xC000 m.devices.timer_status ready, lt-ltb (priority_of m.psr) timer_priority below)

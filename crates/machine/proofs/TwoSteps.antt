@@ -1,6 +1,8 @@
 -- Two steps side by side, in User mode: what an instruction asks for is one function of what User mode sees, so two
 -- steps that take no interrupt look the same afterwards or make the same entry. By the plan that they share, and never
 -- by the instruction.
+use Rattle.machine.specs.declared.Interrupt.{Interrupt}
+use Rattle.std.specs.Prelude.{Option, None, Some}
 use Prim.Native.Nat.{ℕ}
 use mathlib.Core.Path.{◌≡◌, refl}
 use mathlib.Core.Bool.{true, false, true≢false}
@@ -11,8 +13,6 @@ use Rattle.machine.specs.declared.Machine.{Machine}
 use Rattle.machine.specs.declared.Plan.{Plan}
 use Rattle.machine.specs.declared.Plan.TheVariants.{Move, Put, Jump, Load, LoadBy, Store, StoreBy, Call, Illegal}
 use Rattle.machine.specs.declared.Plan.TheVariants.{Return}
-use Rattle.machine.specs.declared.Pending.{Pending}
-use Rattle.machine.specs.declared.Pending.TheVariants.{Nothing, Interrupt}
 use Rattle.machine.specs.Psr.{in_user_mode}
 use Rattle.machine.specs.Outcome.{trap, privilege, illegal, Outcome}
 use Rattle.machine.specs.Keys.{after_keys}
@@ -76,12 +76,12 @@ unfolding after_keys after_timer
 start_leaves_visible m₁ m₂ mem₁ mem₂ keys₁ keys₂ g = record
     { regs = g.regs; pc = g.pc; psr = g.psr; mcr = g.mcr; words = g.words }
 
-pub no_interrupt_is_obeyed : (p : Pending) (m : Machine) (mem : List ℕ)
+pub no_interrupt_is_obeyed : (p : Option Interrupt) (m : Machine) (mem : List ℕ)
     → takes_interrupt (interrupted_or_obeyed p m mem).cause ≡ false
     → interrupted_or_obeyed p m mem ≡ obeyed m mem
 unfolding interrupted_or_obeyed_by interrupted entry
-no_interrupt_is_obeyed Nothing m mem h = refl
-no_interrupt_is_obeyed (Interrupt vector priority) m mem h = absurd (true≢false h)
+no_interrupt_is_obeyed None m mem h = refl
+no_interrupt_is_obeyed (Some q) m mem h = absurd (true≢false h)
 
 -- The clocks move on, and stay out of sight.
 ticks_do_not_matter : (h₁ h₂ : Hidden) (o₁ o₂ : Outcome) → SameOutcome h₁ h₂ o₁ o₂
@@ -120,7 +120,7 @@ user_mode_shows_nothing m mem keys u = go (pending_interrupt n)
     shown (both_obey g c₁ c₂) = c₁.shows_nothing
     shown (both_enter r x y t e₁ e₂ z₁ z₂) = z₁
 
-    go : (p : Pending) → (interrupted_or_obeyed p n mem).shown ≡ []
-    go (Interrupt vector priority) = refl
-    go Nothing = shown (obeyed_instructions_agree n n mem mem
+    go : (p : Option Interrupt) → (interrupted_or_obeyed p n mem).shown ≡ []
+    go (Some q) = refl
+    go None = shown (obeyed_instructions_agree n n mem mem
         (record { regs = refl; pc = refl; psr = refl; mcr = refl; words = refl }) u)

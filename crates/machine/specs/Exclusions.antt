@@ -1,5 +1,7 @@
 -- What the editions treat differently, as a step meets it: a step with "no LEA, TRAP or JSRR R7" that touches "no
 -- privileged address in User mode, fetches included, and no xFFFC by a data or pointer access" is the same by both.
+use Rattle.machine.specs.declared.Interrupt.{Interrupt}
+use Rattle.std.specs.Prelude.{Option, None, Some}
 use Rattle.std.specs.Prelude.{ℕ, ◌%◌, ◌≡◌, cond, List, [], ◌∷◌, ◌++◌, eqb, get_or}
 use Rattle.word.specs.Reading.{read_of}
 use Rattle.word.specs.declared.Instruction.{Instruction}
@@ -11,8 +13,6 @@ use Rattle.machine.specs.Edition.{second}
 use Rattle.machine.specs.declared.Plan.{Plan}
 use Rattle.machine.specs.declared.Plan.TheVariants.{Move, Put, Jump, Load, LoadBy, Store, StoreBy, Call, Illegal}
 use Rattle.machine.specs.declared.Plan.TheVariants.{Return}
-use Rattle.machine.specs.declared.Pending.{Pending}
-use Rattle.machine.specs.declared.Pending.TheVariants.{Nothing, Interrupt}
 use Rattle.machine.specs.Interrupts.{pending_interrupt}
 use Rattle.machine.specs.Protection.{denied}
 use Rattle.machine.specs.Devices.{PSR, loaded_value_by}
@@ -81,9 +81,9 @@ obeyed_exclusions m mem =
     ++ access_exclusions m.psr (accesses_of (plan_by second m.regs m.pc m.psr i) m mem))
 
 -- An interrupt meets none: it fetches nothing, and pushes and takes its vector in Supervisor mode, as every entry does.
-unfoldable pub taken_exclusions : Pending → Machine → List ℕ → List Exclusion
-taken_exclusions Nothing m mem = obeyed_exclusions m mem
-taken_exclusions (Interrupt vector priority) m mem = []
+unfoldable pub taken_exclusions : Option Interrupt → Machine → List ℕ → List Exclusion
+taken_exclusions None m mem = obeyed_exclusions m mem
+taken_exclusions (Some q) m mem = []
 
 -- What the step in which these keys arrive meets.
 unfoldable pub exclusions_of : List ℕ → Machine → List ℕ → List Exclusion

@@ -8,11 +8,14 @@ ghost use Rattle.machine.specs.Record.{fresh_devices, zero_devices};
 
 pub mod addresses;
 
+// The 65,536 words of memory, as a host lends them.
+pub type Memory = [u16; 65536];
+
 // What the devices keep. Code that touches no device hands it on whole. Defined bits: KBSR and the timer's status
 // xC000, KBDR x00FF, MCR x8000. `busy` counts the steps for which the display is still busy, at most 8. The timer's
 // count is at most its interval, and 0 only if that is.
 #[repr(C)]
-#[derive(Clone, Copy, Debug, PartialEq, Eq)]
+#[derive(Clone, Copy, Debug, Default, PartialEq, Eq)]
 pub struct Devices {
     pub kbsr: u16,
     pub kbdr: u16,
@@ -25,7 +28,7 @@ pub struct Devices {
 
 // The record of M2.1, as a host keeps it. Defined bits of PSR: x8707 (M2.3).
 #[repr(C)]
-#[derive(Clone, Copy, Debug, PartialEq, Eq)]
+#[derive(Clone, Copy, Debug, Default, PartialEq, Eq)]
 pub struct Machine {
     pub regs: [u16; 8],
     pub pc: u16,
@@ -69,11 +72,11 @@ pub enum Plan {
     Return,
 }
 
-// The interrupt that a step takes, by the address of its vector word and its priority.
+// An interrupt: the address of its vector word, and its priority.
 #[derive(Clone, Copy)]
-pub enum Pending {
-    Nothing,
-    Interrupt(u16, u16),
+pub struct Interrupt {
+    pub vector: u16,
+    pub priority: u16,
 }
 
 // By which rule a step was made: an instruction obeyed to its end, or the entry for one of the others.
@@ -92,142 +95,96 @@ pub enum Rule {
 pub fn fallen(count: u16, by: u64) -> u16
     ensures { result ≡ count - by }
 {
-    let c = count as u64;
-    if c <= by {
-        return 0;
-    }
-    (c - by) as u16
+    (count as u64).saturating_sub(by) as u16
 }
 
-// The devices with these keyboard registers.
-pub fn set_keyboard(d: Devices, kbsr: u16, kbdr: u16) -> Devices
-    ensures { result ≡ set_keyboard kbsr kbdr d }
-{
-    Devices {
-        kbsr,
-        kbdr,
-        mcr: d.mcr,
-        busy: d.busy,
-        timer_status: d.timer_status,
-        timer_interval: d.timer_interval,
-        timer_count: d.timer_count,
+impl Devices {
+    // The devices of a fresh record.
+    pub fn fresh() -> Devices
+        ensures { result ≡ fresh_devices }
+    {
+        Devices {
+            mcr: 0x8000,
+            ..Devices::zero()
+        }
     }
-}
 
-// The devices with this MCR.
-pub fn set_mcr(d: Devices, mcr: u16) -> Devices
-    ensures { result ≡ set_mcr mcr d }
-{
-    Devices {
-        kbsr: d.kbsr,
-        kbdr: d.kbdr,
-        mcr,
-        busy: d.busy,
-        timer_status: d.timer_status,
-        timer_interval: d.timer_interval,
-        timer_count: d.timer_count,
+    // Devices that are all zero.
+    pub fn zero() -> Devices
+        ensures { result ≡ zero_devices }
+    {
+        Devices::default()
     }
-}
 
-// The devices with this busy count of the display.
-pub fn set_busy(d: Devices, busy: u16) -> Devices
-    ensures { result ≡ set_busy busy d }
-{
-    Devices {
-        kbsr: d.kbsr,
-        kbdr: d.kbdr,
-        mcr: d.mcr,
-        busy,
-        timer_status: d.timer_status,
-        timer_interval: d.timer_interval,
-        timer_count: d.timer_count,
+    // These devices with other keyboard registers.
+    pub fn with_keyboard(self, kbsr: u16, kbdr: u16) -> Devices
+        ensures { result ≡ set_keyboard kbsr kbdr self }
+    {
+        Devices { kbsr, kbdr, ..self }
     }
-}
 
-// The devices with this timer.
-pub fn set_timer(d: Devices, status: u16, interval: u16, count: u16) -> Devices
-    ensures { result ≡ set_timer (record { status = status; interval = interval; count = count }) d }
-{
-    Devices {
-        kbsr: d.kbsr,
-        kbdr: d.kbdr,
-        mcr: d.mcr,
-        busy: d.busy,
-        timer_status: status,
-        timer_interval: interval,
-        timer_count: count,
+    // These devices with another MCR.
+    pub fn with_mcr(self, mcr: u16) -> Devices
+        ensures { result ≡ set_mcr mcr self }
+    {
+        Devices { mcr, ..self }
+    }
+
+    // These devices with another busy count of the display.
+    pub fn with_busy(self, busy: u16) -> Devices
+        ensures { result ≡ set_busy busy self }
+    {
+        Devices { busy, ..self }
+    }
+
+    // These devices with another timer.
+    pub fn with_timer(self, status: u16, interval: u16, count: u16) -> Devices
+        ensures { result ≡ set_timer (record { status = status; interval = interval; count = count }) self }
+    {
+        Devices {
+            timer_status: status,
+            timer_interval: interval,
+            timer_count: count,
+            ..self
+        }
     }
 }
 
-// The devices of a fresh record.
-pub fn fresh_devices() -> Devices
-    ensures { result ≡ fresh_devices }
-{
-    Devices {
-        kbsr: 0,
-        kbdr: 0,
-        mcr: 0x8000,
-        busy: 0,
-        timer_status: 0,
-        timer_interval: 0,
-        timer_count: 0,
+impl Control {
+    // The record with other devices.
+    pub fn with_devices(self, devices: Devices) -> Control
+        ensures { (regs : List ℕ) (clock : ℕ) → whole regs clock result ≡ with_devices devices (whole regs clock self) }
+    {
+        Control { devices, ..self }
     }
-}
 
-// Devices that are all zero.
-pub fn zero_devices() -> Devices
-    ensures { result ≡ zero_devices }
-{
-    Devices {
-        kbsr: 0,
-        kbdr: 0,
-        mcr: 0,
-        busy: 0,
-        timer_status: 0,
-        timer_interval: 0,
-        timer_count: 0,
-    }
-}
-
-// The record with other devices.
-pub fn with_devices(c: Control, devices: Devices) -> Control
-    ensures { (regs : List ℕ) (clock : ℕ) → whole regs clock result ≡ with_devices devices (whole regs clock c) }
-{
-    Control {
-        pc: c.pc,
-        psr: c.psr,
-        saved_ssp: c.saved_ssp,
-        saved_usp: c.saved_usp,
-        devices,
+    // The record put together again.
+    pub fn machine(self, regs: [u16; 8], clock: u64) -> Machine
+        ensures { result ≡ whole regs clock self }
+    {
+        Machine {
+            regs,
+            pc: self.pc,
+            psr: self.psr,
+            saved_ssp: self.saved_ssp,
+            saved_usp: self.saved_usp,
+            devices: self.devices,
+            clock,
+        }
     }
 }
 
 // The record taken apart: all but the registers and the clock.
-pub fn control_of(m: Machine) -> Control
-    ensures { whole m.regs m.clock result ≡ m }
-{
-    let devices = m.devices;
-    Control {
-        pc: m.pc,
-        psr: m.psr,
-        saved_ssp: m.saved_ssp,
-        saved_usp: m.saved_usp,
-        devices,
-    }
-}
+impl From<Machine> for Control {
+    ghost from_gives = { λ m c. whole m.regs m.clock c ≡ m };
 
-// The record put together again.
-pub fn machine_of(regs: [u16; 8], clock: u64, c: Control) -> Machine
-    ensures { result ≡ whole regs clock c }
-{
-    let devices = c.devices;
-    Machine {
-        regs,
-        pc: c.pc,
-        psr: c.psr,
-        saved_ssp: c.saved_ssp,
-        saved_usp: c.saved_usp,
-        devices,
-        clock,
+    fn from(m: Machine) -> Control {
+        Control {
+            pc: m.pc,
+            psr: m.psr,
+            saved_ssp: m.saved_ssp,
+            saved_usp: m.saved_usp,
+            devices: m.devices,
+        }
     }
 }

@@ -24,9 +24,8 @@ use Rattle.machine.specs.Entry.{interrupted}
 use Rattle.machine.specs.Plan.{plan_by}
 use Rattle.machine.specs.Step.{ended, after_start, interrupted_or_obeyed_by, step_by, step_of}
 use Rattle.machine.proofs.InterruptRule.{interrupt_is_taken_by_rule_2}
-use Rattle.run.specs.declared.Admission.TheVariants.{Accepted}
 use Rattle.run.specs.declared.Ending.TheVariants.{Done}
-use Rattle.run.specs.Refusals.{admission_of}
+use Rattle.run.specs.Refusals.{admission_of, Accepted}
 use Rattle.run.specs.Run.{Start, End, arriving, next_step_by, next_step}
 use Rattle.run.specs.Call.{call_of}
 use Rattle.run.specs.Noninterference.{cause_at}

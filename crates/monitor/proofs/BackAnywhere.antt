@@ -10,10 +10,9 @@ use Rattle.machine.specs.Edition.{third}
 use Rattle.machine.specs.Keys.{keys_due}
 use Rattle.machine.specs.Causes.{takes_interrupt}
 use Rattle.machine.specs.Step.{step_of}
-use Rattle.run.specs.declared.Admission.TheVariants.{Accepted}
 use Rattle.run.specs.declared.Ending.TheVariants.{Done}
 use Rattle.run.specs.Run.{Start, End, arriving, next_step_by, next_step, run_of}
-use Rattle.run.specs.Refusals.{admission_of}
+use Rattle.run.specs.Refusals.{admission_of, Accepted}
 use Rattle.run.specs.Call.{call_of}
 use Rattle.run.specs.Continuing.{remaining, joined, Splits}
 use Rattle.run.specs.Noninterference.{cause_at}

@@ -19,10 +19,9 @@ use Rattle.machine.specs.Outcome.{Reason, trap, illegal, vector_of}
 use Rattle.machine.specs.Causes.{takes_interrupt}
 use Rattle.machine.specs.Plan.{plan_by}
 use Rattle.machine.specs.Step.{perform_by, step_of}
-use Rattle.run.specs.declared.Admission.TheVariants.{Accepted}
 use Rattle.run.specs.declared.Ending.TheVariants.{Done, Halted}
 use Rattle.run.specs.Run.{Start, End, next_step, is_halted, ended_by, run_by, run_of}
-use Rattle.run.specs.Refusals.{admission_of}
+use Rattle.run.specs.Refusals.{admission_of, Accepted}
 use Rattle.run.specs.Call.{call_of}
 use Rattle.run.specs.Noninterference.{cause_at}
 use Rattle.run.proofs.RunLaws.{done_steps_are_made, one_more_halts, stopped_run_stays, halted_is_not_done}

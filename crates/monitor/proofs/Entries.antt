@@ -27,12 +27,11 @@ use Rattle.machine.specs.Entry.{pushed, entry, after_entry, raised, stack_pointe
 use Rattle.machine.specs.Return.{after_return, popped, return}
 use Rattle.machine.specs.Plan.{plan_of}
 use Rattle.machine.specs.Step.{perform_by, perform, obeyed_by, ended, step_of, busy_after}
-use Rattle.run.specs.declared.Admission.TheVariants.{Accepted}
 use Rattle.run.specs.declared.Ending.TheVariants.{Done}
 use Rattle.run.specs.Run.{Start, End, begin, next_step, run_of, with_shown, shows_byte}
 use Rattle.run.specs.Call.{call_of}
 use Rattle.run.specs.Noninterference.{cause_at}
-use Rattle.run.specs.Refusals.{admission_of}
+use Rattle.run.specs.Refusals.{admission_of, Accepted}
 use Rattle.run.proofs.RunLaws.{run_of_none}
 use Rattle.run.proofs.Acceptance.{accepted_is_acceptable, call_is_run}
 use Rattle.monitor.specs.Vectors.{vector_word, ours}

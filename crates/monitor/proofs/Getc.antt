@@ -11,9 +11,8 @@ use lib.Seq.{set-set}
 use Rattle.machine.specs.Words.{next, with_register}
 use Rattle.machine.specs.Keys.{ready_after, last_key}
 use Rattle.machine.proofs.StepLaws.{first_is_byte, rest_are_bytes}
-use Rattle.run.specs.declared.Admission.TheVariants.{Accepted}
 use Rattle.run.specs.Run.{Start}
-use Rattle.run.specs.Refusals.{admission_of}
+use Rattle.run.specs.Refusals.{admission_of, Accepted}
 use Rattle.run.proofs.Acceptance.{accepted_is_acceptable}
 use Rattle.monitor.specs.Vectors.{vector_word}
 use Rattle.monitor.specs.Keys.{keys_before, arrived_by, status_at, key_at}

@@ -9,10 +9,9 @@ use lib.Seq.{get_or-set_other}
 use Rattle.machine.specs.Record.{Timer, timer_of}
 use Rattle.machine.specs.Timer.{ticked, ticked_by}
 use Rattle.machine.specs.Causes.{takes_interrupt}
-use Rattle.run.specs.declared.Admission.TheVariants.{Accepted}
 use Rattle.run.specs.declared.Ending.TheVariants.{Done}
 use Rattle.run.specs.Run.{Start, End}
-use Rattle.run.specs.Refusals.{admission_of}
+use Rattle.run.specs.Refusals.{admission_of, Accepted}
 use Rattle.run.specs.Call.{call_of}
 use Rattle.run.specs.Noninterference.{cause_at}
 use Rattle.monitor.specs.Uses.{HasWords, back_uses}

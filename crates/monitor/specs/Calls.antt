@@ -12,10 +12,9 @@ use Rattle.machine.specs.Protection.{denied}
 use Rattle.machine.specs.Keys.{ready_after, last_key}
 use Rattle.machine.specs.Timer.{ticked_by}
 use Rattle.machine.specs.Outcome.{Reason, vector_of, entered}
-use Rattle.run.specs.declared.Admission.TheVariants.{Accepted}
 use Rattle.run.specs.declared.Ending.TheVariants.{Done, Halted}
 use Rattle.run.specs.Run.{Start, End}
-use Rattle.run.specs.Refusals.{admission_of}
+use Rattle.run.specs.Refusals.{admission_of, Accepted}
 use Rattle.run.specs.Call.{call_of}
 use Rattle.run.specs.Noninterference.{cause_at}
 use Rattle.lent.specs.Lent.{written_over}

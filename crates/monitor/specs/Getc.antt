@@ -1,9 +1,8 @@
 -- GETC: waits for a key; R0 becomes the key. Nothing is shown.
 use Rattle.std.specs.Prelude.{ℕ, suc, ◌+◌, ◌-◌, ◌*◌, ◌/◌, ◌≤◌, ◌<◌, ◌≡◌, Bool, true, List, [], ◌∷◌, length, set}
 use Rattle.std.proofs.Math.Pow.{are_bytes}
-use Rattle.run.specs.declared.Admission.TheVariants.{Accepted}
 use Rattle.run.specs.Run.{Start}
-use Rattle.run.specs.Refusals.{admission_of}
+use Rattle.run.specs.Refusals.{admission_of, Accepted}
 use Rattle.monitor.specs.Uses.{getc_code}
 use Rattle.monitor.specs.Keys.{arrived_by, status_at, key_at}
 use Rattle.monitor.specs.Calls.{Calls, NoInterrupt, read_in, Resumes}

@@ -13,11 +13,10 @@ use Rattle.machine.specs.Protection.{privileged}
 use Rattle.machine.specs.Keys.{ready_after, last_key}
 use Rattle.machine.specs.Timer.{ticked_by}
 use Rattle.machine.specs.Causes.{takes_interrupt}
-use Rattle.run.specs.declared.Admission.TheVariants.{Accepted}
 use Rattle.run.specs.declared.Ending.TheVariants.{Done}
 use Rattle.run.specs.Fresh.{fresh_of}
 use Rattle.run.specs.Run.{Start, End}
-use Rattle.run.specs.Refusals.{admission_of}
+use Rattle.run.specs.Refusals.{admission_of, Accepted}
 use Rattle.run.specs.Call.{start_of, call_of}
 use Rattle.run.specs.Noninterference.{cause_at}
 use Rattle.monitor.specs.Routines.{monitor_words}

@@ -7,10 +7,9 @@ use Rattle.machine.specs.Record.{with_mcr, timer_of}
 use Rattle.machine.specs.Keys.{last_key}
 use Rattle.machine.specs.Timer.{ticked_by}
 use Rattle.machine.specs.Outcome.{privilege, illegal, access, vector_of}
-use Rattle.run.specs.declared.Admission.TheVariants.{Accepted}
 use Rattle.run.specs.declared.Ending.TheVariants.{Halted}
 use Rattle.run.specs.Run.{Start}
-use Rattle.run.specs.Refusals.{admission_of}
+use Rattle.run.specs.Refusals.{admission_of, Accepted}
 use Rattle.run.specs.Call.{call_of}
 use Rattle.monitor.specs.Keys.{arrived_by}
 use Rattle.monitor.specs.Uses.{HasWords, with_vector, stop_code}

@@ -3,7 +3,6 @@
 #![tactic(auto)]
 
 ghost use Rattle.std.specs.Prelude.{◌≡◌, List, ℕ, length};
-ghost use Rattle.machine.specs.Memory.{IsMemory};
 ghost use Rattle.machine.specs.Edition.{edition_of};
 ghost use Rattle.machine.specs.Keys.{keys_due};
 ghost use Rattle.machine.specs.Rules.{is_interrupt, fetched_word_by};
@@ -11,8 +10,8 @@ ghost use Rattle.machine.specs.Step.{step_by};
 ghost use Rattle.run.specs.Call.{start_of};
 ghost use Rattle.telling.specs.Told.{untold, told_of, told_by, told_next};
 
-use machine::{Machine, Rule};
-use run::{Admission, Ending};
+use machine::{Control, Machine, Memory, Rule};
+use run::{Ending, Refusal};
 use telling::{Told, Touched};
 
 pub mod lists;
@@ -51,8 +50,7 @@ fn is_interrupt(rule: Rule) -> bool
 }
 
 // The word fetched by a step of this rule: 0 at an interrupt, and where the fetch is denied.
-fn fetched_word(second: bool, rule: Rule, m: Machine, memory: &[u16]) -> u16
-    requires { IsMemory memory.now }
+fn fetched_word(second: bool, rule: Rule, m: Machine, memory: &Memory) -> u16
     ensures { result ≡ fetched_word_by (edition_of second) rule m memory.now }
 {
     if is_interrupt(rule) {
@@ -65,14 +63,13 @@ fn fetched_word(second: bool, rule: Rule, m: Machine, memory: &[u16]) -> u16
 }
 
 // The next step of a machine that is not halted: keys arrive and the timer's count falls, as in every step.
-fn tell_step(second: bool, m: Machine, memory: &[u16], times: &[u64], bytes: &[u8]) -> Told
-    requires memory { IsMemory memory.now }
+fn tell_step(second: bool, m: Machine, memory: &Memory, times: &[u64], bytes: &[u8]) -> Told
     requires times_len { length times.now ≡ length bytes.now }
     ensures { result ≡ told_of (edition_of second) m memory.now (step_by (edition_of second)
         (keys_due m.clock times.now bytes.now) m memory.now) }
 {
     let regs = m.regs;
-    let a = step_parts::keys::arrive(machine::control_of(m), m.clock, times, bytes, 0);
+    let a = step_parts::keys::arrive(Control::from(m), m.clock, times, bytes, 0);
     let c = step_parts::timer::count_down(a.control);
     let pending = step_parts::interrupts::pending_interrupt(c);
     let touched = touching::interrupt_or_obey(second, c, &regs, memory, pending);
@@ -86,8 +83,7 @@ fn tell_step(second: bool, m: Machine, memory: &[u16], times: &[u64], bytes: &[u
 }
 
 // What the next step of a call that is accepted does. The one stop that no step decides is tested: halted.
-fn tell_accepted(second: bool, m: Machine, memory: &[u16], times: &[u64], bytes: &[u8]) -> Told
-    requires memory { IsMemory memory.now }
+fn tell_accepted(second: bool, m: Machine, memory: &Memory, times: &[u64], bytes: &[u8]) -> Told
     requires times_len { length times.now ≡ length bytes.now }
     ensures { (output : List ℕ) → result ≡ told_next (edition_of second)
         (start_of m memory.now times.now bytes.now output) }
@@ -104,9 +100,11 @@ pub fn tell(second: bool, m: Machine, memory: &[u16], times: &[u64], bytes: &[u8
     ensures { (output : List ℕ) → result ≡ told_by (edition_of second)
         (start_of m memory.now times.now bytes.now output) }
 {
-    let admission = refusals::admission(m, memory, times, bytes, 1);
-    match admission {
-        Admission::Accepted => tell_accepted(second, m, memory, times, bytes),
-        Admission::Rejected(refusal) => nothing(Ending::Refused(refusal)),
+    let Some(whole) = memory.as_array() else {
+        return nothing(Ending::Refused(Refusal::MemorySize));
+    };
+    match refusals::admission(m, whole, times, bytes, 1) {
+        Ok(()) => tell_accepted(second, m, whole, times, bytes),
+        Err(refusal) => nothing(Ending::Refused(refusal)),
     }
 }

@@ -1,7 +1,6 @@
 // The lent words that each plan takes and stores to, and by which rule: the accesses of crate `step_parts` without
 // their effects. Each address is checked first.
 ghost use Rattle.std.specs.Prelude.{◌≡◌, List, ℕ};
-ghost use Rattle.machine.specs.Memory.{IsMemory};
 ghost use Rattle.machine.specs.Record.{whole};
 ghost use Rattle.machine.specs.Edition.{edition_of, trapped};
 ghost use Rattle.machine.specs.Outcome.{Reason, vector_of};
@@ -14,7 +13,7 @@ ghost use Rattle.telling.specs.Told.{after_pointer, touched_in, untouched};
 
 use crate::lists::{below, none, prepend, prepend_lent};
 use machine::addresses::{ACCESS_VECTOR, ILLEGAL_VECTOR, PRIVILEGE_VECTOR};
-use machine::{Control, Pending, Plan, Rule};
+use machine::{Control, Interrupt, Memory, Plan, Rule};
 use step::planning::plan_for;
 use step_parts::devices::{after_load, load};
 use step_parts::entry::interrupt_rule;
@@ -108,8 +107,7 @@ fn after_pointer(second: bool, a: u16, t: Touched) -> Touched
 }
 
 // LDI: the pointer is loaded, then the word that it points to.
-fn load_by(second: bool, c: Control, regs: &[u16; 8], memory: &[u16], a: u16) -> Touched
-    requires { IsMemory memory.now }
+fn load_by(second: bool, c: Control, regs: &[u16; 8], memory: &Memory, a: u16) -> Touched
     ensures { (clock r : ℕ) → result ≡ touched_in (by_pointer_by (edition_of second) a
         (load_to_by (edition_of second) r) (whole regs.now clock c) memory.now) }
 {
@@ -121,8 +119,7 @@ fn load_by(second: bool, c: Control, regs: &[u16; 8], memory: &[u16], a: u16) ->
 }
 
 // STI: the pointer is loaded, then the word that it points to is replaced.
-fn store_by(second: bool, c: Control, regs: &[u16; 8], memory: &[u16], a: u16) -> Touched
-    requires { IsMemory memory.now }
+fn store_by(second: bool, c: Control, regs: &[u16; 8], memory: &Memory, a: u16) -> Touched
     ensures { (clock v : ℕ) → result ≡ touched_in (by_pointer_by (edition_of second) a
         (store_at_by (edition_of second) v) (whole regs.now clock c) memory.now) }
 {
@@ -168,8 +165,7 @@ fn return_from_interrupt(c: Control, regs: &[u16; 8]) -> Touched
     enter(c, regs, PRIVILEGE_VECTOR, Rule::Privilege)
 }
 
-fn perform(second: bool, c: Control, regs: &[u16; 8], memory: &[u16], plan: Plan) -> Touched
-    requires { IsMemory memory.now }
+fn perform(second: bool, c: Control, regs: &[u16; 8], memory: &Memory, plan: Plan) -> Touched
     ensures { (clock : ℕ) → result ≡ touched_in (perform_by (edition_of second) plan
         (whole regs.now clock c) memory.now) }
 {
@@ -188,8 +184,7 @@ fn perform(second: bool, c: Control, regs: &[u16; 8], memory: &[u16], plan: Plan
 }
 
 // The fetch is checked as any access is, and uses the lent word at any address.
-fn obey(second: bool, c: Control, regs: &[u16; 8], memory: &[u16]) -> Touched
-    requires { IsMemory memory.now }
+fn obey(second: bool, c: Control, regs: &[u16; 8], memory: &Memory) -> Touched
     ensures { (clock : ℕ) → result ≡ touched_in (obeyed_by (edition_of second)
         (whole regs.now clock c) memory.now) }
 {
@@ -214,15 +209,14 @@ pub fn interrupt_or_obey(
     second: bool,
     c: Control,
     regs: &[u16; 8],
-    memory: &[u16],
-    pending: Pending,
+    memory: &Memory,
+    pending: Option<Interrupt>,
 ) -> Touched
-    requires { IsMemory memory.now }
     ensures { (clock : ℕ) → result ≡ touched_in (interrupted_or_obeyed_by (edition_of second) pending
         (whole regs.now clock c) memory.now) }
 {
     match pending {
-        Pending::Nothing => obey(second, c, regs, memory),
-        Pending::Interrupt(vector, _) => enter(c, regs, vector, interrupt_rule(vector)),
+        None => obey(second, c, regs, memory),
+        Some(i) => enter(c, regs, i.vector, interrupt_rule(i.vector)),
     }
 }

@@ -9,7 +9,7 @@ ghost use Rattle.run.specs.Call.{start_of, end_of};
 ghost use Rattle.run.specs.declared.Ending.TheVariants.{Refused};
 
 use machine::{Devices, Machine};
-use run::{Admission, Answer, Ending, Refusal, Report};
+use run::{Answer, Ending, Refusal, Report};
 
 // 12: an undefined bit of the timer's status, a count above the interval, or a count of zero with an interval set.
 fn undefined_timer(status: u16, interval: u16, count: u16) -> bool
@@ -63,43 +63,46 @@ fn undefined_record(m: Machine) -> bool
 
 // 15 and 19, entry by entry from the first: a time is below the clock, or below the one before it. No entry that passed
 // is below the clock, so that one comparison, with the last of them, tells whether the next passes.
-fn times_admission(clock: u64, times: &[u64]) -> Admission
+fn times_admission(clock: u64, times: &[u64]) -> Result<(), Refusal>
     ensures { result ≡ times_admission clock clock 0 times.now }
 {
     let mut last = clock;
-    let mut k = 0;
-    while k < times.len() {
-        let t = times[k];
+    for (k, &t) in times.iter().enumerate() {
         if t < last {
             if t < clock {
-                return Admission::Rejected(Refusal::TimeBelowClock(k));
+                return Err(Refusal::TimeBelowClock(k));
             }
-            return Admission::Rejected(Refusal::TimesOutOfOrder(k));
+            return Err(Refusal::TimesOutOfOrder(k));
         }
         last = t;
-        k += 1;
     }
-    Admission::Accepted
+    Ok(())
 }
 
-pub fn admission(m: Machine, memory: &[u16], times: &[u64], bytes: &[u8], n: u64) -> Admission
+pub fn admission(
+    m: Machine,
+    memory: &[u16],
+    times: &[u64],
+    bytes: &[u8],
+    n: u64,
+) -> Result<(), Refusal>
     ensures { (output : List ℕ) → result
         ≡ admission_of (start_of m memory.now times.now bytes.now output) n }
 {
     if memory.len() != 65536 {
-        return Admission::Rejected(Refusal::MemorySize);
+        return Err(Refusal::MemorySize);
     }
     if undefined_record(m) {
-        return Admission::Rejected(Refusal::UndefinedRecord);
+        return Err(Refusal::UndefinedRecord);
     }
     if 1048576 < n {
-        return Admission::Rejected(Refusal::TooManySteps);
+        return Err(Refusal::TooManySteps);
     }
     if 0x1_0000_0000_0000 - n < m.clock {
-        return Admission::Rejected(Refusal::TooManySteps);
+        return Err(Refusal::TooManySteps);
     }
     if times.len() != bytes.len() {
-        return Admission::Rejected(Refusal::UnequalLists);
+        return Err(Refusal::UnequalLists);
     }
     times_admission(m.clock, times)
 }

@@ -1,5 +1,7 @@
 -- Rules that name a number of few values, asked with each of them: trap vectors, keys and bytes shown, registers, the
 -- codes that BR tests, priorities. So a rule that fails for one of them alone comes to something else here.
+use Rattle.machine.specs.declared.Interrupt.{Interrupt}
+use Rattle.std.specs.Prelude.{Option, None, Some}
 use Rattle.std.specs.Prelude.{ℕ, zero, suc, ◌+◌, ◌*◌, ◌≡◌, Bool, true, false, List, [], ◌∷◌, map, pos, negsuc}
 use Rattle.word.specs.Reading.{read_of}
 use Rattle.word.specs.declared.Instruction.{Instruction}
@@ -8,8 +10,6 @@ use Rattle.word.specs.declared.Instruction.TheVariants.{AndImmediate, Not, Ldi, 
 use Rattle.machine.specs.declared.Machine.{Machine}
 use Rattle.machine.specs.declared.Plan.{Plan}
 use Rattle.machine.specs.declared.Plan.TheVariants.{Move, Put, Jump, Load, LoadBy, Store, StoreBy, Call}
-use Rattle.machine.specs.declared.Pending.{Pending}
-use Rattle.machine.specs.declared.Pending.TheVariants.{Nothing, Interrupt}
 use Rattle.machine.specs.Edition.{third, second}
 use Rattle.machine.specs.Words.{with_register}
 use Rattle.machine.specs.Psr.{is_taken}
@@ -51,18 +51,18 @@ plans f = map (λ r. plan_by third eight 0x3000 0x8002 (f r)) (up_from 8 0)
 -- ---- priorities
 
 -- The interrupt taken at each priority, in User mode, with these status registers.
-abbrev pub taken : ℕ → ℕ → List Pending
+abbrev pub taken : ℕ → ℕ → List (Option Interrupt)
 taken kbsr tsr =
     map
     (λ p. pending_interrupt (record_of (applied (PSR (0x8000 + p * 256) ∷ KBSR kbsr ∷ TSR tsr ∷ []) user_mode).numbers))
     (up_from 8 0)
 
 -- The keyboard's interrupt, and the timer's.
-abbrev pub key : Pending
-key = Interrupt 0x0180 4
+abbrev pub key : Option Interrupt
+key = Some (record { vector = 0x0180; priority = 4 })
 
-abbrev pub tick : Pending
-tick = Interrupt 0x0181 6
+abbrev pub tick : Option Interrupt
+tick = Some (record { vector = 0x0181; priority = 6 })
 
 pub record EachVectorAndByte : Type 0 where
   pub vectors : map trap_plans (up_from 256 0) ≡ map (λ v. Call v ∷ Call v ∷ []) (up_from 256 0)
@@ -125,13 +125,13 @@ pub record EachCodeAndPriority : Type 0 where
       ∷ []
   -- "the priority is below 4", and below 6; "if both devices may interrupt, the timer goes first"
   pub keyboard : taken 0xC000 0x0000
-      ≡ key ∷ key ∷ key ∷ key ∷ Nothing ∷ Nothing ∷ Nothing ∷ Nothing ∷ []
+      ≡ key ∷ key ∷ key ∷ key ∷ None ∷ None ∷ None ∷ None ∷ []
   pub timer : taken 0x0000 0xC000
-      ≡ tick ∷ tick ∷ tick ∷ tick ∷ tick ∷ tick ∷ Nothing ∷ Nothing ∷ []
+      ≡ tick ∷ tick ∷ tick ∷ tick ∷ tick ∷ tick ∷ None ∷ None ∷ []
   pub both : taken 0xC000 0xC000
-      ≡ tick ∷ tick ∷ tick ∷ tick ∷ tick ∷ tick ∷ Nothing ∷ Nothing ∷ []
+      ≡ tick ∷ tick ∷ tick ∷ tick ∷ tick ∷ tick ∷ None ∷ None ∷ []
   pub neither : taken 0x8000 0x4000
-      ≡ Nothing ∷ Nothing ∷ Nothing ∷ Nothing ∷ Nothing ∷ Nothing ∷ Nothing ∷ Nothing ∷ []
+      ≡ None ∷ None ∷ None ∷ None ∷ None ∷ None ∷ None ∷ None ∷ []
   -- the display's count, from 0 to 8: what it becomes, and what DSR gives
   pub busy_counts : map (busy_after []) (up_from 9 0) ≡ 0 ∷ 0 ∷ 1 ∷ 2 ∷ 3 ∷ 4 ∷ 5 ∷ 6 ∷ 7 ∷ []
   pub display : map (λ k. display_status (record_of (applied (busy k ∷ []) user_mode).numbers)) (up_from 9 0)

@@ -1,5 +1,6 @@
 -- The times of a key list, from the first: all before entry k pass, so the answer is that to the entries from k on.
 -- Hence the first offence is what is answered; and in order, with none below the clock, is what is accepted.
+use Rattle.std.specs.Prelude.{Err}
 use Prim.Native.Nat.{ℕ, zero, suc, ◌+◌, ◌<◌, ◌≤◌}
 use native.Mathlib.Omega.{arith}
 use native.Mathlib.Numerals.{add-one}
@@ -12,15 +13,13 @@ use borrow.Author.Count.{below_more}
 use borrow.Author.Tests.{ltb-true, ltb-false, lt-ltb, le-ltb}
 use Rattle.run.specs.declared.Refusal.{Refusal}
 use Rattle.run.specs.declared.Refusal.TheVariants.{TimeBelowClock, TimesOutOfOrder}
-use Rattle.run.specs.declared.Admission.{Admission}
-use Rattle.run.specs.declared.Admission.TheVariants.{Accepted, Rejected}
-use Rattle.run.specs.Refusals.{entry_admission, first_refusal, times_admission}
+use Rattle.run.specs.Refusals.{entry_admission, first_refusal, times_admission, Admission, Accepted}
 use Rattle.run.specs.KeyLists.{below_clock, below_previous, offends, out_of_order}
 use Rattle.run.specs.KeyLists.{FirstOffence, NoOffence, Says, FirstOffenceIsAnswered}
 use Rattle.machine.proofs.Tests.{or_is_false}
 use Rattle.run.proofs.RefusalLaws.{time_passes, time_below_clock, time_below_last, times_run_out}
 
-pub rejected_is_not_accepted : (r : Refusal) → Rejected r ≡ Accepted → ⊥
+pub rejected_is_not_accepted : (r : Refusal) → Err r ≡ Accepted → ⊥
 rejected_is_not_accepted r p = let z : ◌≡◌ {A = ℕ} 0 1 = cc in omega arith
 
 other_holds : (a b : Bool) → (a || b) ≡ true → a ≡ false → b ≡ true
@@ -52,14 +51,14 @@ module _ (clock : ℕ) (times : List ℕ) where
       entry_passes k (omega arith) (h k (omega arith)) ∙ all_before_pass k (omega arith) (λ j b. h j (omega arith))
 
   answered_15 : (i : ℕ) → FirstOffence clock times i → below_clock clock times i ≡ true
-      → from 0 ≡ Rejected (TimeBelowClock i)
+      → from 0 ≡ Err (TimeBelowClock i)
   answered_15 i f b =
       sym
       (time_below_clock clock (before i) times i f.listed (ltb-true (get_or times i 0) clock b)
       ∙ all_before_pass i (omega (arith, f.listed)) f.none_before)
 
   answered_19 : (i : ℕ) → FirstOffence clock times i → below_clock clock times i ≡ false
-      → from 0 ≡ Rejected (TimesOutOfOrder i)
+      → from 0 ≡ Err (TimesOutOfOrder i)
   answered_19 i f b =
       sym
       (time_below_last clock (before i) times i f.listed (ltb-false (get_or times i 0) clock b)
@@ -114,7 +113,7 @@ module _ (clock : ℕ) where
   in_order_after last i (t ∷ times) h = go (ltb t clock) (ltb t last) h (in_order_after t (suc i) times)
     where
       go : (c l : Bool)
-          → first_refusal (cond c (Rejected (TimeBelowClock i)) (cond l (Rejected (TimesOutOfOrder i)) Accepted))
+          → first_refusal (cond c (Err (TimeBelowClock i)) (cond l (Err (TimesOutOfOrder i)) Accepted))
           (times_admission clock t (suc i) times)
           ≡ Accepted
           → (times_admission clock t (suc i) times ≡ Accepted → out_of_order t times ≡ false)

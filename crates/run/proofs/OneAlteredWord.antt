@@ -11,10 +11,9 @@ use borrow.Author.Tests.{eqb-true, eqb-false, ne_eqb}
 use Rattle.machine.specs.Step.{Step, step_by}
 use Rattle.machine.proofs.Tests.{or_is_false}
 use Rattle.footprint.specs.Altered.{is_among, still_altered, NoneAltered}
-use Rattle.run.specs.declared.Admission.TheVariants.{Accepted}
 use Rattle.run.specs.declared.Ending.TheVariants.{OutputFull}
 use Rattle.run.specs.Run.{Start, End}
-use Rattle.run.specs.Refusals.{admission_of}
+use Rattle.run.specs.Refusals.{admission_of, Accepted}
 use Rattle.run.specs.Call.{call_by}
 use Rattle.run.specs.AlteredWords.{reads_at, writes_at, altered_after, Unread, UnreadUpTo, Variants, SameEnds}
 use Rattle.run.specs.AlteredWords.{VariantRuns, AgreeWhileUnread}

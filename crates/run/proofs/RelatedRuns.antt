@@ -7,11 +7,10 @@ use mathlib.Core.Bool.{Bool, true, false, true≢false}
 use native.Mathlib.Omega.{arith}
 use native.Mathlib.Decide.{dec_le}
 use Rattle.machine.specs.Step.{Step}
-use Rattle.run.specs.declared.Admission.TheVariants.{Accepted}
 use Rattle.run.specs.declared.Ending.{Ending}
 use Rattle.run.specs.declared.Ending.TheVariants.{Done, Halted, OutputFull}
 use Rattle.run.specs.Run.{Start, End, begin, ended_by, step_made_by, is_halted, is_full_by, run_by}
-use Rattle.run.specs.Refusals.{admission_of}
+use Rattle.run.specs.Refusals.{admission_of, Accepted}
 use Rattle.run.specs.Call.{call_by}
 use Rattle.run.proofs.RunLaws.{halted_is_not_done, full_is_not_done, run_of_none, one_more_halts, one_more_fills}
 use Rattle.run.proofs.RunLaws.{done_run_goes_on, step_leaves_done, stopped_run_stays, done_makes_all_steps}

@@ -1,6 +1,7 @@
 -- A run that meets no exclusion ends as the newer run does, by the law of two related runs: each step that is made, or
 -- tried where the output is full, is the same by both editions, so they stand equal; and both calls are turned down
 -- alike.
+use Rattle.std.specs.Prelude.{Ok, Err}
 use Prim.Native.Nat.{ℕ, ◌<◌}
 use mathlib.Core.Path.{◌≡◌, refl, ap, ◌∙◌}
 use mathlib.Core.List.{[]}
@@ -8,11 +9,9 @@ use native.Mathlib.Omega.{arith}
 use Rattle.machine.specs.Edition.{second}
 use Rattle.machine.specs.Step.{Step, step_by, step_of}
 use Rattle.machine.proofs.StepsAlike.{common_steps_agree}
-use Rattle.run.specs.declared.Admission.{Admission}
-use Rattle.run.specs.declared.Admission.TheVariants.{Accepted, Rejected}
 use Rattle.run.specs.Run.{Start, End, arriving, next_step_by, next_step, step_made_by, step_made, is_halted, is_full_by}
 use Rattle.run.specs.Run.{is_full}
-use Rattle.run.specs.Refusals.{admission_of}
+use Rattle.run.specs.Refusals.{admission_of, Admission, Accepted}
 use Rattle.run.specs.Call.{admitted_by, call_by, call_of, second_call_of}
 use Rattle.run.specs.SecondEdition.{exclusions_at, MeetsNoExclusion, EndsAsNewerRun}
 use Rattle.run.proofs.RelatedRuns.{Related, together, stop_alike}
@@ -59,5 +58,5 @@ pub ends_as_newer_run : EndsAsNewerRun
 ends_as_newer_run s n premise = go (admission_of s n) refl
   where
     go : (a : Admission) → admission_of s n ≡ a → second_call_of s n ≡ call_of s n
-    go Accepted e = accepted_calls_agree s n e premise
-    go (Rejected r) e = unfold call_by admitted_by in rw e refl
+    go (Ok _) e = accepted_calls_agree s n e premise
+    go (Err r) e = unfold call_by admitted_by in rw e refl

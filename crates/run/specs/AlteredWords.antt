@@ -5,10 +5,9 @@ use Rattle.std.specs.Prelude.{ℕ, zero, suc, ◌≤◌, ◌<◌, ◌≡◌, Boo
 use Rattle.machine.specs.Edition.{Edition}
 use Rattle.machine.specs.Step.{Step, step_by}
 use Rattle.footprint.specs.Altered.{SameOutside, still_altered, NoneAltered}
-use Rattle.run.specs.declared.Admission.TheVariants.{Accepted}
 use Rattle.run.specs.declared.Ending.TheVariants.{OutputFull}
 use Rattle.run.specs.Run.{Start, End, next_step_by}
-use Rattle.run.specs.Refusals.{admission_of}
+use Rattle.run.specs.Refusals.{admission_of, Accepted}
 use Rattle.run.specs.Call.{call_by}
 
 -- ---- one run

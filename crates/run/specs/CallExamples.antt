@@ -1,5 +1,6 @@
 -- Fresh records, refusals and stops, each rule with calls that would be answered otherwise without it: one table, in
 -- the order of M11 to M13.
+use Rattle.std.specs.Prelude.{Err}
 use Rattle.std.specs.Prelude.{ℕ, ◌+◌, ◌-◌, ◌^◌, ◌≡◌, true, false, List, [], ◌∷◌, map, length, get_or, replicate}
 use Rattle.machine.specs.declared.Machine.{Machine}
 use Rattle.machine.specs.declared.Devices.{Devices}
@@ -7,13 +8,11 @@ use Rattle.machine.specs.Record.{Timer, with_registers}
 use Rattle.machine.specs.Rows.{with_word}
 use Rattle.run.specs.declared.Refusal.TheVariants.{MemorySize, UndefinedRecord, TooManySteps, UnequalLists}
 use Rattle.run.specs.declared.Refusal.TheVariants.{TimeBelowClock, TimesOutOfOrder}
-use Rattle.run.specs.declared.Admission.{Admission}
-use Rattle.run.specs.declared.Admission.TheVariants.{Accepted, Rejected}
 use Rattle.run.specs.declared.Ending.{Ending}
 use Rattle.run.specs.declared.Ending.TheVariants.{Done, Halted, OutputFull}
 use Rattle.run.specs.Fresh.{fresh_of}
 use Rattle.run.specs.Run.{End, run_of}
-use Rattle.run.specs.Refusals.{admission_of, admission_number, admission_index}
+use Rattle.run.specs.Refusals.{admission_of, admission_number, admission_index, Admission, Accepted}
 use Rattle.run.specs.Call.{start_of}
 
 -- ---- refusals
@@ -145,8 +144,8 @@ calls =
 -- Every case of an admission; of two cases the entry that offends.
 abbrev pub admissions : List Admission
 admissions =
-    Accepted ∷ Rejected MemorySize ∷ Rejected UndefinedRecord ∷ Rejected TooManySteps ∷ Rejected UnequalLists
-    ∷ Rejected (TimeBelowClock 3) ∷ Rejected (TimesOutOfOrder 4) ∷ []
+    Accepted ∷ Err MemorySize ∷ Err UndefinedRecord ∷ Err TooManySteps ∷ Err UnequalLists
+    ∷ Err (TimeBelowClock 3) ∷ Err (TimesOutOfOrder 4) ∷ []
 
 -- The row with this refusal and index.
 abbrev pub with_answer : Admission → Asked → Asked
@@ -246,7 +245,7 @@ pub record CallExamplesHold : Type 0 where
   pub refusals : (memory : List ℕ) → length memory ≡ 65536 → map (answered memory) calls ≡ calls
   pub memory_size_first :
       (memory : List ℕ) → (length memory ≡ 65536 → ⊥)
-      → map (answered memory) calls ≡ map (with_answer (Rejected MemorySize)) calls
+      → map (answered memory) calls ≡ map (with_answer (Err MemorySize)) calls
   -- The number of each case, and its index: "every other answer has index 0".
   pub admission_numbers : map admission_number admissions ≡ 0 ∷ 11 ∷ 12 ∷ 13 ∷ 14 ∷ 15 ∷ 19 ∷ []
   pub admission_indices : map admission_index admissions ≡ 0 ∷ 0 ∷ 0 ∷ 0 ∷ 0 ∷ 3 ∷ 4 ∷ []

@@ -1,12 +1,11 @@
 -- Key lists that are refused, in plain terms: 15 and 19 name the first entry that offends, and the calls accepted are
 -- those that were accepted while 15 stood for both.
+use Rattle.std.specs.Prelude.{Ok, Err}
 use Rattle.std.specs.Prelude.{ℕ, zero, suc, ◌<◌, ◌≡◌, Bool, true, false, ◌||◌, List, [], ◌∷◌, ltb, length, get_or}
 use Rattle.run.specs.declared.Refusal.TheVariants.{MemorySize, UndefinedRecord, TooManySteps, UnequalLists}
 use Rattle.run.specs.declared.Refusal.TheVariants.{TimeBelowClock, TimesOutOfOrder}
-use Rattle.run.specs.declared.Admission.{Admission}
-use Rattle.run.specs.declared.Admission.TheVariants.{Accepted, Rejected}
 use Rattle.run.specs.Run.{Start}
-use Rattle.run.specs.Refusals.{wrong_size, undefined_record, too_many_steps, unequal_lists}
+use Rattle.run.specs.Refusals.{wrong_size, undefined_record, too_many_steps, unequal_lists, Admission, Accepted}
 use Rattle.run.specs.Refusals.{times_admission, admission_of}
 
 abbrev pub below_clock : ℕ → List ℕ → ℕ → Bool
@@ -31,21 +30,21 @@ NoOffence clock times = (i : ℕ) → i < length times → offends clock times i
 
 -- What an answer to the times says of them. The other refusals are none of theirs.
 abbrev pub Says : ℕ → List ℕ → Admission → Type 0
-Says clock times Accepted = NoOffence clock times
-Says clock times (Rejected MemorySize) = ⊥
-Says clock times (Rejected UndefinedRecord) = ⊥
-Says clock times (Rejected TooManySteps) = ⊥
-Says clock times (Rejected UnequalLists) = ⊥
-Says clock times (Rejected (TimeBelowClock i)) = FirstOffence clock times i × (below_clock clock times i ≡ true)
-Says clock times (Rejected (TimesOutOfOrder i)) = FirstOffence clock times i × (below_clock clock times i ≡ false)
+Says clock times (Ok _) = NoOffence clock times
+Says clock times (Err MemorySize) = ⊥
+Says clock times (Err UndefinedRecord) = ⊥
+Says clock times (Err TooManySteps) = ⊥
+Says clock times (Err UnequalLists) = ⊥
+Says clock times (Err (TimeBelowClock i)) = FirstOffence clock times i × (below_clock clock times i ≡ true)
+Says clock times (Err (TimesOutOfOrder i)) = FirstOffence clock times i × (below_clock clock times i ≡ false)
 
 -- The answer is the one that says what is so, and where that is so it is the answer.
 pub record FirstOffenceIsAnswered (clock : ℕ) (times : List ℕ) : Type 0 where
   pub answer : Says clock times (times_admission clock clock 0 times)
   pub at_15 : (i : ℕ) → FirstOffence clock times i → below_clock clock times i ≡ true
-      → times_admission clock clock 0 times ≡ Rejected (TimeBelowClock i)
+      → times_admission clock clock 0 times ≡ Err (TimeBelowClock i)
   pub at_19 : (i : ℕ) → FirstOffence clock times i → below_clock clock times i ≡ false
-      → times_admission clock clock 0 times ≡ Rejected (TimesOutOfOrder i)
+      → times_admission clock clock 0 times ≡ Err (TimesOutOfOrder i)
   pub accepted : NoOffence clock times → times_admission clock clock 0 times ≡ Accepted
 
 -- What 15 was before M22: "a time is below the clock or below the one before it".

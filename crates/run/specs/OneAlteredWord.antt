@@ -3,10 +3,9 @@ use Rattle.std.specs.Prelude.{ℕ, suc, ◌≤◌, ◌<◌, ◌≡◌, Bool, tru
 use Rattle.machine.specs.Edition.{Edition}
 use Rattle.machine.specs.Step.{Step, step_by}
 use Rattle.footprint.specs.Altered.{is_among}
-use Rattle.run.specs.declared.Admission.TheVariants.{Accepted}
 use Rattle.run.specs.declared.Ending.TheVariants.{OutputFull}
 use Rattle.run.specs.Run.{Start}
-use Rattle.run.specs.Refusals.{admission_of}
+use Rattle.run.specs.Refusals.{admission_of, Accepted}
 use Rattle.run.specs.Call.{call_by}
 use Rattle.run.specs.AlteredWords.{reads_at, writes_at, SameEnds}
 

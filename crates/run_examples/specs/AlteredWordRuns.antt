@@ -3,10 +3,9 @@
 use Rattle.std.specs.Prelude.{ℕ, ◌≡◌, true, false, List, [], ◌∷◌, get_or, set}
 use Rattle.machine.specs.Record.{fresh_devices}
 use Rattle.machine.specs.Step.{step_of}
-use Rattle.run.specs.declared.Admission.TheVariants.{Accepted}
 use Rattle.run.specs.declared.Ending.TheVariants.{Done, OutputFull}
 use Rattle.run.specs.Run.{Start}
-use Rattle.run.specs.Refusals.{admission_of}
+use Rattle.run.specs.Refusals.{admission_of, Accepted}
 use Rattle.run.specs.Call.{call_of}
 use Rattle.run.specs.OneAlteredWord.{with_word, takes, replaces, NotTaken, NotTakenUpTo}
 use Rattle.run_examples.specs.TwoStarts.{program, start₁}

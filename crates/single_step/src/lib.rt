@@ -3,7 +3,6 @@
 #![tactic(auto)]
 
 ghost use Rattle.std.specs.Prelude.{◌≡◌, List, ℕ, ◌+◌, ◌^◌, ◌≤◌, length};
-ghost use Rattle.machine.specs.Memory.{IsMemory};
 ghost use Rattle.machine.specs.Edition.{edition_of};
 ghost use Rattle.machine.specs.Step.{step_by};
 ghost use Rattle.run.specs.Run.{begin, ended_by, run_by};
@@ -12,8 +11,8 @@ ghost use Rattle.answers.specs.Answer.{answer_of, reported};
 
 use answers::Lc3Report;
 use loop_parts::{advance, is_full, shown_count};
-use machine::Machine;
-use run::{Admission, Answer, Ending, Report};
+use machine::{Control, Machine, Memory};
+use run::{Answer, Ending, Refusal, Report};
 
 // A step that is stopped before it began: the record as handed in, and zero counts.
 fn stopped(m: Machine, ending: Ending) -> Answer
@@ -33,12 +32,11 @@ fn stopped(m: Machine, ending: Ending) -> Answer
 fn step_accepted(
     second: bool,
     m: Machine,
-    memory: &mut [u16],
+    memory: &mut Memory,
     times: &[u64],
     bytes: &[u8],
     output: &mut [u8],
 ) -> Answer
-    requires memory { IsMemory memory.old }
     requires times_len { length times.now ≡ length bytes.now }
     requires clock_bound { m.clock + 1 ≤ 2 ^ 48 }
     ensures { end_of result memory.new output.new
@@ -49,7 +47,7 @@ fn step_accepted(
         return stopped(m, Ending::Halted);
     }
     let mut regs = m.regs;
-    let c = machine::control_of(m);
+    let c = Control::from(m);
     let s = advance(
         second, c, m.clock, &mut regs, memory, times, bytes, 0, output, 0,
     );
@@ -57,7 +55,7 @@ fn step_accepted(
     if is_full(display) {
         return stopped(m, Ending::OutputFull);
     }
-    let machine = machine::machine_of(regs, m.clock + 1, s.control);
+    let machine = s.control.machine(regs, m.clock + 1);
     let report = Report {
         steps: 1,
         keys: s.keys,
@@ -80,10 +78,12 @@ pub fn step(
         ≡ call_by (step_by (edition_of second)) (start_of m memory.old times.now bytes.now
         output.old) 1 }
 {
-    let admission = refusals::admission(m, memory, times, bytes, 1);
-    match admission {
-        Admission::Accepted => step_accepted(second, m, memory, times, bytes, output),
-        Admission::Rejected(refusal) => refusals::refused(m, refusal),
+    let Some(whole) = memory.as_mut_array() else {
+        return refusals::refused(m, Refusal::MemorySize);
+    };
+    match refusals::admission(m, whole, times, bytes, 1) {
+        Ok(()) => step_accepted(second, m, whole, times, bytes, output),
+        Err(refusal) => refusals::refused(m, refusal),
     }
 }
 

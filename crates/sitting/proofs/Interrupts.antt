@@ -1,5 +1,6 @@
 -- Interrupts: taken in User mode they enter the lone RTI as a routine; taken in a routine they suspend it, and the
 -- timer's may suspend the keyboard's. The RTI goes back to what was suspended.
+use Rattle.std.specs.Prelude.{None, Some}
 use Prim.Native.Nat.{ℕ, ◌+◌, ◌-◌, ◌*◌, ◌/◌, ◌%◌, ◌≤◌, ◌<◌}
 use native.Mathlib.Omega.{arith}
 use mathlib.Core.Path.{◌≡◌, refl, sym, ap, subst, ◌∙◌}
@@ -12,11 +13,10 @@ use lib.ListN.{length, get_or, set, length-set}
 use lib.Seq.{get_or-set_other, get_or-set_same, set-set, set-get_or}
 use Rattle.word.specs.Reading.{read_of}
 use Rattle.machine.specs.declared.Machine.{Machine}
-use Rattle.machine.specs.declared.Pending.TheVariants.{Nothing, Interrupt}
 use Rattle.machine.specs.Words.{next, before}
 use Rattle.machine.specs.Psr.{defined_psr, priority_of}
 use Rattle.machine.specs.Outcome.{interrupt}
-use Rattle.machine.specs.Interrupts.{keyboard_vector, keyboard_priority, timer_vector, timer_priority}
+use Rattle.machine.specs.Interrupts.{keyboard_vector, keyboard_priority, timer_vector, timer_priority, timer_interrupt, keyboard_interrupt}
 use Rattle.machine.specs.Interrupts.{timer_may_interrupt}
 use Rattle.machine.specs.Interrupts.{keyboard_may_interrupt, pending_interrupt}
 use Rattle.machine.specs.Entry.{stack_pointer_on_entry, pushed, after_entry, entry, interrupted}
@@ -397,8 +397,8 @@ module _ (g : Setting) (m : Machine) (mem : List ℕ) (q : Disabled g.enabled m.
   taken_or_obeyed s = go (timer_may_interrupt m) refl (keyboard_may_interrupt m) refl
     where
       go : (t : Bool) → timer_may_interrupt m ≡ t → (k : Bool) → keyboard_may_interrupt m ≡ k
-          → OutcomeKeeps g (interrupted_or_obeyed (cond t (Interrupt timer_vector timer_priority)
-          (cond k (Interrupt keyboard_vector keyboard_priority) Nothing)) m mem)
+          → OutcomeKeeps g (interrupted_or_obeyed (cond t (Some timer_interrupt)
+          (cond k (Some keyboard_interrupt) None)) m mem)
       go true e k f =
           let b = both_true (leb 0xC000 m.devices.timer_status) (ltb (priority_of m.psr) timer_priority) e in
           interrupted_keeps timer_vector timer_priority

@@ -1,6 +1,7 @@
 -- From one step to whole calls: an invariant of record and memory that every step keeps, where no step reads or writes
 -- a secret word. Two calls that begin alike but for secret words are then answered alike, by induction on the steps of
 -- the logged run. A run without a log is the logged run whose log has room for all its steps.
+use Rattle.std.specs.Prelude.{Ok, Err}
 use Prim.Native.Nat.{ℕ, zero, suc, ◌*◌}
 use mathlib.Core.Path.{◌≡◌, refl, sym, ap, subst, ◌∙◌}
 use mathlib.Core.Bool.{Bool, true, false, cond, true≢false}
@@ -19,13 +20,11 @@ use Rattle.footprint.specs.Footprint.{Each, NoneOf, SameWordAt}
 use Rattle.footprint.specs.Altered.{still_altered, NoneAltered, SameButAltered}
 use Rattle.footprint.proofs.AlteredWords.{altered_words_unread}
 use Rattle.footprint.proofs.FootprintLaws.{step_writes}
-use Rattle.run.specs.declared.Admission.{Admission}
-use Rattle.run.specs.declared.Admission.TheVariants.{Accepted, Rejected}
 use Rattle.run.specs.declared.Ending.TheVariants.{Done, Halted, OutputFull, Refused}
 use Rattle.run.specs.Run.{Start, End, begin, ended_by, arriving, next_step_by, next_step, step_made_by, step_made}
 use Rattle.run.specs.Run.{is_halted}
 use Rattle.run.specs.Run.{is_full, run_of}
-use Rattle.run.specs.Refusals.{wrong_size, admission_of}
+use Rattle.run.specs.Refusals.{wrong_size, admission_of, Admission}
 use Rattle.run.specs.Call.{call_of}
 use Rattle.run.specs.AlteredWords.{Variants, SameEnds}
 use Rattle.run.proofs.AlteredWords.{wider_ends, halts_alike, ended_alike, begin_alike, steps_alike, full_alike}
@@ -127,8 +126,8 @@ module _ (secret : ℕ → Bool) (Invariant : Machine → List ℕ → Type 0) w
     logged_call_keeps s i log n = go (admission_of s n)
       where
         go : (a : Admission) → Kept s.memory (run_in (logged_admitted_by third a s log n))
-        go Accepted = unfold logged_admitted_by in logged_run_stands s i log n
-        go (Rejected r) = unfold logged_admitted_by begin in record { invariant = i; kept = λ a h. refl }
+        go (Ok _) = unfold logged_admitted_by in logged_run_stands s i log n
+        go (Err r) = unfold logged_admitted_by begin in record { invariant = i; kept = λ a h. refl }
 
     pub call_keeps : (s : Start) → Invariant s.machine s.memory → (n : ℕ) → Kept s.memory (call_of s n)
     call_keeps s i n =
@@ -266,8 +265,8 @@ module _ (secret : ℕ → Bool) (Invariant : Machine → List ℕ → Type 0) w
         where
           go : (a : Admission)
               → SameAnswers secret (logged_admitted_by third a s₁ log n) (logged_admitted_by third a s₂ log n)
-          go Accepted = unfold logged_admitted_by in logged_runs_alike i log n
-          go (Rejected r) = unfold logged_admitted_by begin ended_by in
+          go (Ok _) = unfold logged_admitted_by in logged_runs_alike i log n
+          go (Err r) = unfold logged_admitted_by begin ended_by in
               record { run = ended_alike (begin_alike v) (Refused r); log = refl; words = refl; ending = refl }
 
       pub calls_alike : Invariant s₁.machine s₁.memory → (n : ℕ) → SameEnds secret (call_of s₁ n) (call_of s₂ n)

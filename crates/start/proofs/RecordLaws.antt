@@ -1,4 +1,5 @@
 -- The record that is answered: zeros where loading is refused; else a fresh one, which no run refuses.
+use Rattle.std.specs.Prelude.{Err}
 use Prim.Native.Nat.{ℕ, zero, suc, ◌+◌, ◌^◌}
 use native.Mathlib.Omega.{arith}
 use mathlib.Core.Path.{◌≡◌, refl}
@@ -9,7 +10,6 @@ use lib.ListN.{length}
 use borrow.Author.Tests.{ltb-false, le-ltb, eq-eqb}
 use Rattle.machine.specs.Psr.{defined_psr}
 use Rattle.run.specs.declared.Refusal.TheVariants.{TooManySteps, UnequalLists}
-use Rattle.run.specs.declared.Admission.TheVariants.{Rejected}
 use Rattle.run.specs.Fresh.{fresh_of}
 use Rattle.run.specs.Refusals.{wrong_size, undefined_timer, undefined_devices, undefined_record, too_many_steps}
 use Rattle.run.specs.Refusals.{unequal_lists}
@@ -40,8 +40,8 @@ limit_at_clock_0 n = by_limit (ltb 1048576 n) refl
 pub fresh_machine_admission : (pc : ℕ) (user : Bool) (userStack : ℕ) (memory times bytes output : List ℕ) (n : ℕ)
     → length memory ≡ 65536
     → admission_of (start_of (fresh_of pc user userStack) memory times bytes output) n
-    ≡ cond (ltb 1048576 n) (Rejected TooManySteps)
-    (cond (unequal_lists times bytes) (Rejected UnequalLists) (times_admission 0 0 0 times))
+    ≡ cond (ltb 1048576 n) (Err TooManySteps)
+    (cond (unequal_lists times bytes) (Err UnequalLists) (times_admission 0 0 0 times))
 unfolding admission_of wrong_size fresh_of
 fresh_machine_admission pc user userStack memory times bytes output n size =
     rw (eq-eqb (length memory) 65536 size, fresh_is_defined pc user userStack, limit_at_clock_0 n)

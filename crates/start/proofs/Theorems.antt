@@ -1,5 +1,6 @@
 -- The theorems on starting, from those on loading: a start is refused as loading is, and else its record is a fresh
 -- one.
+use Rattle.std.specs.Prelude.{Err}
 use Prim.Native.Nat.{ℕ, ◌+◌, ◌≤◌}
 use native.Mathlib.Omega.{arith}
 use mathlib.Core.Path.{◌≡◌, refl, sym, subst, ◌∙◌}
@@ -11,7 +12,6 @@ use Rattle.object.specs.File.{origin_in, words_in}
 use Rattle.object.specs.Calls.{load_refusal, load_accepted, load_of}
 use Rattle.object.specs.Accepted.{Readable}
 use Rattle.run.specs.declared.Refusal.TheVariants.{TimeBelowClock}
-use Rattle.run.specs.declared.Admission.TheVariants.{Rejected}
 use Rattle.run.specs.Fresh.{fresh_of}
 use Rattle.run.specs.KeyLists.{Says}
 use Rattle.run.specs.Refusals.{unequal_lists}
@@ -84,7 +84,7 @@ refusal_of_loading : (file memory : List ℕ) (user : Bool) (userStack : ℕ)
 unfolding started_of started_from
 refusal_of_loading file memory user userStack = refl
 
-no_time_below_zero : (times : List ℕ) (i : ℕ) → Says 0 times (Rejected (TimeBelowClock i)) → ⊥
+no_time_below_zero : (times : List ℕ) (i : ℕ) → Says 0 times (Err (TimeBelowClock i)) → ⊥
 no_time_below_zero times i says = omega (arith, ltb-true (get_or times i 0) 0 says.1)
 
 pub started_machine_runs : StartedMachineRuns

@@ -1,13 +1,12 @@
 -- What is proved of starting, for every file, memory, mode and user stack.
+use Rattle.std.specs.Prelude.{Err}
 use Rattle.std.specs.Prelude.{ℕ, ◌≤◌, ◌<◌, ◌≡◌, Bool, cond, List, [], ◌∷◌, ltb, length}
 use Rattle.object.specs.File.{word}
 use Rattle.object.specs.Calls.{Loading, load_refusal, load_of, save_of}
 use Rattle.object.specs.RoundTrip.{file_in, Reproduced}
 use Rattle.run.specs.declared.Refusal.TheVariants.{TooManySteps, UnequalLists, TimeBelowClock}
-use Rattle.run.specs.declared.Admission.{Admission}
-use Rattle.run.specs.declared.Admission.TheVariants.{Accepted, Rejected}
 use Rattle.run.specs.Fresh.{fresh_of}
-use Rattle.run.specs.Refusals.{unequal_lists, times_admission, admission_of}
+use Rattle.run.specs.Refusals.{unequal_lists, times_admission, admission_of, Admission, Accepted}
 use Rattle.run.specs.KeyLists.{NoOffence}
 use Rattle.run.specs.Call.{start_of}
 use Rattle.start.specs.Start.{zero_machine, Starting, started_of}
@@ -68,9 +67,9 @@ run_admission s times bytes output n = admission_of (start_of s.machine s.memory
 pub record Runs (s : Starting) (times bytes output : List ℕ) (n : ℕ) : Type 0 where
   pub answer :
       run_admission s times bytes output n
-      ≡ cond (ltb 1048576 n) (Rejected TooManySteps)
-      (cond (unequal_lists times bytes) (Rejected UnequalLists) (times_admission 0 0 0 times))
-  pub no_time_below_clock : (i : ℕ) → times_admission 0 0 0 times ≡ Rejected (TimeBelowClock i) → ⊥
+      ≡ cond (ltb 1048576 n) (Err TooManySteps)
+      (cond (unequal_lists times bytes) (Err UnequalLists) (times_admission 0 0 0 times))
+  pub no_time_below_clock : (i : ℕ) → times_admission 0 0 0 times ≡ Err (TimeBelowClock i) → ⊥
   pub accepted : n ≤ 1048576 → length times ≡ length bytes → NoOffence 0 times
       → run_admission s times bytes output n ≡ Accepted
 

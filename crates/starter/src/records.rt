@@ -2,7 +2,7 @@
 ghost use Rattle.std.specs.Prelude.{◌≡◌};
 ghost use Rattle.run.specs.Fresh.{fresh_of};
 
-use machine::Machine;
+use machine::{Devices, Machine};
 
 // A fresh record: R6 is the current mode's stack pointer, and the other mode's is saved.
 #[tactic(auto, unfolding(run::specs::Fresh::fresh_of))]
@@ -15,7 +15,7 @@ pub fn fresh(pc: u16, user: bool, stack: u16) -> Machine
         psr: 0x0002,
         saved_ssp: 0,
         saved_usp: stack,
-        devices: machine::fresh_devices(),
+        devices: Devices::fresh(),
         clock: 0,
     };
     if !user {

@@ -5,7 +5,6 @@ use mathlib.Core.List.{List, [], ◌∷◌, ◌++◌}
 use native.Mathlib.Omega.{arith}
 use Rattle.machine.specs.Psr.{defined_psr}
 use Rattle.machine.specs.Keys.{ready_after, last_key}
-use Rattle.run.specs.declared.Admission.TheVariants.{Accepted}
 use Rattle.run.specs.Run.{Start}
 use Rattle.run.specs.Refusals.{admission_of}
 use Rattle.run.proofs.Acceptance.{Acceptable, accepted_is_acceptable, acceptable_is_accepted}

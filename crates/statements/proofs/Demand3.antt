@@ -6,9 +6,8 @@ use Rattle.machine.specs.declared.Machine.{Machine}
 use Rattle.machine.specs.Step.{step_of}
 use Rattle.machine.proofs.MemoryParts.{three_parts_make_memory}
 use Rattle.machine.proofs.InterruptRule.{interrupt_is_taken_by_rule_2}
-use Rattle.run.specs.declared.Admission.TheVariants.{Accepted}
 use Rattle.run.specs.Run.{Start, begin, ended_by, arriving, next_step_by, step_made_by}
-use Rattle.run.specs.Refusals.{admission_of}
+use Rattle.run.specs.Refusals.{admission_of, Accepted}
 use Rattle.run.specs.Call.{call_of}
 use Rattle.run.specs.Noninterference.{cause_at, NoneBefore, MeetsNone, NoInterrupt}
 use Rattle.run.proofs.Acceptance.{call_with_fewer_makes_all}

@@ -1,4 +1,6 @@
 -- The cause of a step, by going through the definitions of a step once: only `entry` makes one.
+use Rattle.machine.specs.declared.Interrupt.{Interrupt}
+use Rattle.std.specs.Prelude.{Option, None, Some}
 use Prim.Native.Nat.{ℕ}
 use mathlib.Core.Path.{◌≡◌, refl}
 use mathlib.Core.Bool.{Bool, true, false, cond}
@@ -10,8 +12,6 @@ use Rattle.machine.specs.declared.Machine.{Machine}
 use Rattle.machine.specs.declared.Plan.{Plan}
 use Rattle.machine.specs.declared.Plan.TheVariants.{Move, Put, Jump, Load, LoadBy, Store, StoreBy}
 use Rattle.machine.specs.declared.Plan.TheVariants.{Call, Illegal, Return}
-use Rattle.machine.specs.declared.Pending.{Pending}
-use Rattle.machine.specs.declared.Pending.TheVariants.{Nothing, Interrupt}
 use Rattle.machine.specs.Edition.{Edition, third, second, linked, trapped}
 use Rattle.machine.specs.Words.{next}
 use Rattle.machine.specs.Psr.{in_user_mode, kept}
@@ -134,10 +134,10 @@ module _ (e : Edition) where
       (reads_means _ _ mem (m.pc ∷ []) _ _
       (plan_means (plan_by e m.regs m.pc m.psr (read_of (get_or mem m.pc 0))) m mem))
 
-  taken_means : (p : Pending) (m : Machine) (mem : List ℕ) → Means m mem (interrupted_or_obeyed_by e p m mem)
+  taken_means : (p : Option Interrupt) (m : Machine) (mem : List ℕ) → Means m mem (interrupted_or_obeyed_by e p m mem)
   unfolding interrupted_or_obeyed_by interrupted
-  taken_means Nothing m mem = obeyed_means m mem
-  taken_means (Interrupt vector priority) m mem = entry_means (interrupt vector) m.pc _ m mem
+  taken_means None m mem = obeyed_means m mem
+  taken_means (Some q) m mem = entry_means (interrupt q.vector) m.pc _ m mem
 
 pub entries_by_cause : EntriesByCause
 unfolding step_by ended after_keys after_timer stack_pointer_on_entry

@@ -1,4 +1,6 @@
 -- Each exclusion that a step meets is one that M27.7 names: by the definition of what it meets.
+use Rattle.machine.specs.declared.Interrupt.{Interrupt}
+use Rattle.std.specs.Prelude.{Option, None, Some}
 use Prim.Native.Nat.{ℕ, ◌%◌}
 use mathlib.Core.Path.{◌≡◌, refl, sym}
 use mathlib.Core.Bool.{Bool, true, false, cond, ◌||◌}
@@ -13,8 +15,6 @@ use Rattle.word.specs.declared.Instruction.TheVariants.{Br, AddRegister, AddImme
 use Rattle.word.specs.declared.Instruction.TheVariants.{AndImmediate, Ldr, Str, Rti, Not, Ldi, Sti, Jmp, Reserved, Lea}
 use Rattle.word.specs.declared.Instruction.TheVariants.{Trap}
 use Rattle.machine.specs.declared.Machine.{Machine}
-use Rattle.machine.specs.declared.Pending.{Pending}
-use Rattle.machine.specs.declared.Pending.TheVariants.{Nothing, Interrupt}
 use Rattle.machine.specs.Protection.{denied}
 use Rattle.machine.specs.Interrupts.{pending_interrupt}
 use Rattle.machine.specs.Step.{after_start}
@@ -104,15 +104,15 @@ obeyed_named m mem =
     (both_named m mem _ _ (instruction_named m mem (instruction_at m mem) refl)
     (accesses_named m mem (accesses_at m mem) (λ a h. h)))
 
-taken_named : (p : Pending) (m : Machine) (mem : List ℕ) → EachNamed m mem (taken_exclusions p m mem)
+taken_named : (p : Option Interrupt) (m : Machine) (mem : List ℕ) → EachNamed m mem (taken_exclusions p m mem)
 unfolding taken_exclusions
-taken_named Nothing m mem = obeyed_named m mem
-taken_named (Interrupt vector priority) m mem = none_named m mem
+taken_named None m mem = obeyed_named m mem
+taken_named (Some q) m mem = none_named m mem
 
-none_taken : (p : Pending) (m : Machine) (mem : List ℕ) → (p ≡ Nothing → ⊥) → taken_exclusions p m mem ≡ []
+none_taken : (p : Option Interrupt) (m : Machine) (mem : List ℕ) → (p ≡ None → ⊥) → taken_exclusions p m mem ≡ []
 unfolding taken_exclusions
-none_taken Nothing m mem h = absurd (h refl)
-none_taken (Interrupt vector priority) m mem h = refl
+none_taken None m mem h = absurd (h refl)
+none_taken (Some q) m mem h = refl
 
 pub exclusions_are_named : ExclusionsAreNamed
 unfolding exclusions_of

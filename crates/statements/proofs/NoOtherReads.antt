@@ -1,4 +1,6 @@
 -- A step reads no other word than those named: by going through the definitions of a step once.
+use Rattle.machine.specs.declared.Interrupt.{Interrupt}
+use Rattle.std.specs.Prelude.{Option, None, Some}
 use Prim.Native.Nat.{ℕ}
 use mathlib.Core.Path.{◌≡◌, refl}
 use mathlib.Core.Bool.{Bool, true, false, ◌||◌, false≢true}
@@ -11,8 +13,6 @@ use Rattle.machine.specs.declared.Machine.{Machine}
 use Rattle.machine.specs.declared.Plan.{Plan}
 use Rattle.machine.specs.declared.Plan.TheVariants.{Move, Put, Jump, Load, LoadBy, Store, StoreBy}
 use Rattle.machine.specs.declared.Plan.TheVariants.{Call, Illegal, Return}
-use Rattle.machine.specs.declared.Pending.{Pending}
-use Rattle.machine.specs.declared.Pending.TheVariants.{Nothing, Interrupt}
 use Rattle.machine.specs.Edition.{Edition, third, second, linked, trapped}
 use Rattle.machine.specs.Words.{next}
 use Rattle.machine.specs.Psr.{in_user_mode, kept}
@@ -192,10 +192,10 @@ module _ (e : Edition) (m : Machine) (mem : List ℕ) where
       (one_among named (perform_by e plan m mem).cause m.pc (first_among m.pc (reads_of_plan e plan m mem)))
       (plan_among e plan m mem))
 
-  taken_among : (p : Pending) → ReadsAmong named (interrupted_or_obeyed_by e p m mem)
+  taken_among : (p : Option Interrupt) → ReadsAmong named (interrupted_or_obeyed_by e p m mem)
   unfolding interrupted_or_obeyed_by interrupted
-  taken_among Nothing = obeyed_among
-  taken_among (Interrupt vector priority) = entry_among named (interrupt vector) m.pc _ m mem
+  taken_among None = obeyed_among
+  taken_among (Some q) = entry_among named (interrupt q.vector) m.pc _ m mem
 
 pub step_reads_no_other : StepReadsNoOther
 unfolding step_by ended

@@ -12,7 +12,6 @@ use Rattle.machine.specs.Outcome.{Reason, vector_of, entered}
 use Rattle.machine.specs.Causes.{is_trap_or_exception}
 use Rattle.machine.specs.Visible.{SameVisible, Hidden, words_below, user_words, words_above, hidden_of}
 use Rattle.machine.proofs.MemoryParts.{UserAddress, user_word_is_in_user_words}
-use Rattle.run.specs.declared.Admission.TheVariants.{Accepted}
 use Rattle.run.specs.Run.{Start, End, next_step}
 use Rattle.run.specs.Refusals.{admission_of}
 use Rattle.run.specs.Call.{call_of}

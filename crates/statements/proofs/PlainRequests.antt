@@ -1,4 +1,6 @@
 -- M27.7 and M28 in plain terms: from the theorems on runs; what is among a list is tested by `is_among` there.
+use Rattle.machine.specs.declared.Interrupt.{Interrupt}
+use Rattle.std.specs.Prelude.{Option, None, Some}
 use Prim.Native.Nat.{ℕ, suc, ◌%◌, ◌≤◌, ◌<◌}
 use mathlib.Core.Path.{◌≡◌, refl, sym, ap, ◌∙◌}
 use mathlib.Core.Bool.{Bool, true, false, true≢false, ◌||◌}
@@ -13,8 +15,6 @@ use Rattle.word.specs.declared.Instruction.TheVariants.{Br, AddRegister, AddImme
 use Rattle.word.specs.declared.Instruction.TheVariants.{AndImmediate, Ldr, Str, Rti, Not, Ldi, Sti, Jmp, Reserved, Lea}
 use Rattle.word.specs.declared.Instruction.TheVariants.{Trap}
 use Rattle.machine.specs.declared.Machine.{Machine}
-use Rattle.machine.specs.declared.Pending.{Pending}
-use Rattle.machine.specs.declared.Pending.TheVariants.{Nothing, Interrupt}
 use Rattle.machine.specs.Edition.{Edition, second}
 use Rattle.machine.specs.Psr.{in_user_mode}
 use Rattle.machine.specs.Protection.{privileged, denied_by, denied}
@@ -25,7 +25,6 @@ use Rattle.machine.specs.Exclusions.{exclusions_of}
 use Rattle.machine.specs.Step.{Step, after_start, step_by}
 use Rattle.footprint.specs.Footprint.{Each, NoneOf}
 use Rattle.footprint.specs.Altered.{is_among}
-use Rattle.run.specs.declared.Admission.TheVariants.{Accepted}
 use Rattle.run.specs.Run.{Start, End, arriving, next_step_by}
 use Rattle.run.specs.Refusals.{admission_of}
 use Rattle.run.specs.Call.{start_of, call_by, second_call_of}
@@ -122,24 +121,24 @@ unfolding EachNamed
 none_named m mem c [] h = refl
 none_named m mem c (x ∷ l) h = absurd (not_named m mem c x h.0)
 
-is_nothing : Pending → Bool
-is_nothing Nothing = true
-is_nothing (Interrupt vector priority) = false
+is_nothing : Option Interrupt → Bool
+is_nothing None = true
+is_nothing (Some q) = false
 
-interrupt_is_not_nothing : (vector priority : ℕ) → Interrupt vector priority ≡ Nothing → ⊥
+interrupt_is_not_nothing : (vector priority : ℕ) → Some (record { vector = vector; priority = priority }) ≡ None → ⊥
 unfolding is_nothing
 interrupt_is_not_nothing vector priority h = true≢false (sym (ap is_nothing h))
 
 common_meets_none : (s : Start) (e : End) → CommonNext s e → exclusions_of (arriving s e) e.machine e.memory ≡ []
 common_meets_none s e c = go (pending_interrupt (after_start (arriving s e) e.machine)) refl
   where
-    go : (p : Pending) → pending_interrupt (after_start (arriving s e) e.machine) ≡ p
+    go : (p : Option Interrupt) → pending_interrupt (after_start (arriving s e) e.machine) ≡ p
         → exclusions_of (arriving s e) e.machine e.memory ≡ []
-    go Nothing z =
+    go None z =
         none_named (after_start (arriving s e) e.machine) e.memory (c z)
         (exclusions_of (arriving s e) e.machine e.memory)
         (exclusions_are_named (arriving s e) e.machine e.memory).named
-    go (Interrupt vector priority) z =
+    go (Some q) z =
         (exclusions_are_named (arriving s e) e.machine e.memory).none_at_interrupt
         (λ n. interrupt_is_not_nothing vector priority (sym z ∙ n))
 

@@ -3,9 +3,8 @@
 -- says of one run: up to the first trap or exception of the sitting, in whichever call it comes.
 use Rattle.std.specs.Prelude.{ℕ, ◌+◌, ◌≡◌, List, [], ◌∷◌}
 use Rattle.machine.specs.Visible.{hidden_of}
-use Rattle.run.specs.declared.Admission.TheVariants.{Accepted}
 use Rattle.run.specs.Run.{Start, End}
-use Rattle.run.specs.Refusals.{admission_of}
+use Rattle.run.specs.Refusals.{admission_of, Accepted}
 use Rattle.run.specs.Call.{start_of, call_of}
 use Rattle.run.specs.Noninterference.{MeetsNone, NoInterrupt, Premises, Agreement}
 

@@ -6,9 +6,8 @@ use Rattle.machine.specs.Interrupts.{timer_may_interrupt, keyboard_may_interrupt
 use Rattle.machine.specs.Step.{after_start, step_of}
 use Rattle.machine.specs.Visible.{words_below, user_words, words_above}
 use Rattle.machine.specs.Causes.{takes_interrupt}
-use Rattle.run.specs.declared.Admission.TheVariants.{Accepted}
 use Rattle.run.specs.Run.{Start}
-use Rattle.run.specs.Refusals.{admission_of}
+use Rattle.run.specs.Refusals.{admission_of, Accepted}
 use Rattle.run.specs.Call.{call_of}
 use Rattle.run.specs.Noninterference.{First, MeetsNone, NoInterrupt}
 

@@ -1,11 +1,11 @@
 -- The exclusions of M27.7, from above: each that a step meets is one that the rule names, and is met for no other
 -- reason. A longer list would make `EndsAsNewerRun` say less, and be proved as gladly.
+use Rattle.std.specs.Prelude.{None}
 use Rattle.std.specs.Prelude.{ℕ, ◌%◌, ◌≡◌, true, List, [], ◌∷◌, ℤ, get_or}
 use Rattle.word.specs.Reading.{read_of}
 use Rattle.word.specs.declared.Instruction.{Instruction}
 use Rattle.word.specs.declared.Instruction.TheVariants.{Jsrr, Lea, Trap}
 use Rattle.machine.specs.declared.Machine.{Machine}
-use Rattle.machine.specs.declared.Pending.TheVariants.{Nothing}
 use Rattle.machine.specs.Edition.{second}
 use Rattle.machine.specs.Interrupts.{pending_interrupt}
 use Rattle.machine.specs.Protection.{denied}
@@ -39,7 +39,7 @@ EachNamed m mem (x ∷ exclusions) = Named m mem x × EachNamed m mem exclusions
 pub record OnlyNamed (keys : List ℕ) (m : Machine) (mem : List ℕ) : Type 0 where
   pub named : EachNamed (after_start keys m) mem (exclusions_of keys m mem)
   -- a step that takes an interrupt meets none
-  pub none_at_interrupt : (pending_interrupt (after_start keys m) ≡ Nothing → ⊥) → exclusions_of keys m mem ≡ []
+  pub none_at_interrupt : (pending_interrupt (after_start keys m) ≡ None → ⊥) → exclusions_of keys m mem ≡ []
 
 abbrev pub ExclusionsAreNamed : Type 0
 ExclusionsAreNamed = (keys : List ℕ) (m : Machine) (mem : List ℕ) → OnlyNamed keys m mem

@@ -3,9 +3,8 @@
 use Rattle.std.specs.Prelude.{ℕ, ◌≤◌, ◌<◌, ◌≡◌, true, false, get_or}
 use Rattle.machine.specs.Outcome.{Reason, vector_of, entered}
 use Rattle.machine.specs.Causes.{is_trap_or_exception, meets_trap_or_exception, takes_interrupt}
-use Rattle.run.specs.declared.Admission.TheVariants.{Accepted}
 use Rattle.run.specs.Run.{Start, next_step}
-use Rattle.run.specs.Refusals.{admission_of}
+use Rattle.run.specs.Refusals.{admission_of, Accepted}
 use Rattle.run.specs.Call.{call_of}
 
 -- No step before step number k, counted from 0, meets a trap or exception: each is made from what the call with its

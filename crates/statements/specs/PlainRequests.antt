@@ -1,5 +1,6 @@
 -- M27.7 and M28 once more, with none of the notions that their statements in crates/run name: instructions, addresses
 -- and steps as MACHINE.md has them. Were a notion there to ask for more or to say less, this would not follow.
+use Rattle.std.specs.Prelude.{None}
 use Rattle.std.specs.Prelude.{ℕ, suc, ◌%◌, ◌≤◌, ◌<◌, ◌≡◌, List, [], ◌∷◌, ℤ, length, get_or, set}
 use Rattle.word.specs.Reading.{read_of}
 use Rattle.word.specs.declared.Instruction.{Instruction}
@@ -7,17 +8,15 @@ use Rattle.word.specs.declared.Instruction.TheVariants.{Br, AddRegister, AddImme
 use Rattle.word.specs.declared.Instruction.TheVariants.{AndImmediate, Ldr, Str, Rti, Not, Ldi, Sti, Jmp, Reserved, Lea}
 use Rattle.word.specs.declared.Instruction.TheVariants.{Trap}
 use Rattle.machine.specs.declared.Machine.{Machine}
-use Rattle.machine.specs.declared.Pending.TheVariants.{Nothing}
 use Rattle.machine.specs.Edition.{Edition, second}
 use Rattle.machine.specs.Words.{next, plus, register}
 use Rattle.machine.specs.Interrupts.{pending_interrupt}
 use Rattle.machine.specs.Devices.{loaded_value_by}
 use Rattle.machine.specs.Step.{Step, after_start, step_by}
 use Rattle.footprint.specs.Footprint.{Each, NoneOf}
-use Rattle.run.specs.declared.Admission.TheVariants.{Accepted}
 use Rattle.run.specs.declared.Ending.TheVariants.{OutputFull}
 use Rattle.run.specs.Run.{Start, End, arriving, next_step_by}
-use Rattle.run.specs.Refusals.{admission_of}
+use Rattle.run.specs.Refusals.{admission_of, Accepted}
 use Rattle.run.specs.Call.{start_of, call_by, call_of, second_call_of}
 
 -- ---- M27.7
@@ -56,7 +55,7 @@ pub record Common (i : Instruction) (m : Machine) (mem : List ℕ) : Type 0 wher
 -- It is asked of the step that the run would make next, unless that takes an interrupt.
 abbrev pub CommonNext : Start → End → Type 0
 CommonNext s e =
-    pending_interrupt (after_start (arriving s e) e.machine) ≡ Nothing
+    pending_interrupt (after_start (arriving s e) e.machine) ≡ None
     → Common (read_of (get_or e.memory (after_start (arriving s e) e.machine).pc 0))
     (after_start (arriving s e) e.machine) e.memory
 

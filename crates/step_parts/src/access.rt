@@ -1,6 +1,5 @@
 // The accesses of LD, LDR, LDI, ST, STR, STI: each address is checked first, then the access is made.
 ghost use Rattle.std.specs.Prelude.{◌≡◌, ℕ, List};
-ghost use Rattle.machine.specs.Memory.{IsMemory};
 ghost use Rattle.machine.specs.Words.{with_register};
 ghost use Rattle.machine.specs.Record.{whole};
 ghost use Rattle.machine.specs.Psr.{Codes, kept, set_from, recoded};
@@ -16,7 +15,7 @@ use crate::protection::is_denied;
 use crate::psr::with_codes;
 use crate::words::{next, set_register};
 use machine::addresses::ACCESS_VECTOR;
-use machine::{Control, Rule};
+use machine::{Control, Memory, Rule};
 
 // The record after an instruction. Every field is written out, here and wherever a `Control` is made anew: a copy that
 // is then altered lets the compiler pack neighbouring fields into one word, which costs a step a quarter more
@@ -25,14 +24,7 @@ fn after_instruction(c: Control, pc: u16, psr: u16) -> Control
     ensures { (regs : List ℕ) (clock : ℕ) (codes : Codes) → psr ≡ recoded codes c.psr → whole regs clock result
         ≡ after_instruction regs pc codes (whole regs clock c) }
 {
-    let devices = c.devices;
-    Control {
-        pc,
-        psr,
-        saved_ssp: c.saved_ssp,
-        saved_usp: c.saved_usp,
-        devices,
-    }
+    Control { pc, psr, ..c }
 }
 
 // An instruction that puts a value in a register and sets the codes from it.
@@ -67,11 +59,10 @@ fn load_allowed(
     second: bool,
     c: Control,
     regs: &mut [u16; 8],
-    memory: &[u16],
+    memory: &Memory,
     r: u8,
     a: u16,
 ) -> Control
-    requires { IsMemory memory.now }
     ensures { (clock : ℕ) → whole regs.new clock result
         ≡ loaded_to_by (edition_of second) r a (whole regs.old clock c) memory.now }
 {
@@ -85,11 +76,10 @@ pub fn load_to(
     second: bool,
     c: Control,
     regs: &mut [u16; 8],
-    memory: &mut [u16],
+    memory: &mut Memory,
     r: u8,
     a: u16,
 ) -> Obeyed
-    requires { IsMemory memory.old }
     ensures { (clock : ℕ) (output : List ℕ) → after result regs.new clock memory.new output
         ≡ delivered regs.old memory.old output
         (load_to_by (edition_of second) r a (whole regs.old clock c) memory.old) }
@@ -107,12 +97,11 @@ pub fn store_at(
     second: bool,
     c: Control,
     regs: &mut [u16; 8],
-    memory: &mut [u16],
+    memory: &mut Memory,
     output: &mut [u8],
     v: u16,
     a: u16,
 ) -> Obeyed
-    requires { IsMemory memory.old }
     ensures { (clock : ℕ) → after result regs.new clock memory.new output.new
         ≡ delivered regs.old memory.old output.old
         (store_at_by (edition_of second) v a (whole regs.old clock c) memory.old) }
@@ -129,11 +118,10 @@ pub fn load_by(
     second: bool,
     c: Control,
     regs: &mut [u16; 8],
-    memory: &mut [u16],
+    memory: &mut Memory,
     r: u8,
     a: u16,
 ) -> Obeyed
-    requires { IsMemory memory.old }
     ensures { (clock : ℕ) (output : List ℕ) → after result regs.new clock memory.new output
         ≡ delivered regs.old memory.old output
         (by_pointer_by (edition_of second) a (load_to_by (edition_of second) r) (whole regs.old clock c)
@@ -158,12 +146,11 @@ pub fn store_by(
     second: bool,
     c: Control,
     regs: &mut [u16; 8],
-    memory: &mut [u16],
+    memory: &mut Memory,
     output: &mut [u8],
     v: u16,
     a: u16,
 ) -> Obeyed
-    requires { IsMemory memory.old }
     ensures { (clock : ℕ) → after result regs.new clock memory.new output.new
         ≡ delivered regs.old memory.old output.old
         (by_pointer_by (edition_of second) a (store_at_by (edition_of second) v) (whole regs.old clock c)

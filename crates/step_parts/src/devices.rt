@@ -1,6 +1,5 @@
 // Loads and stores: the device registers at their addresses, plain words everywhere else.
 ghost use Rattle.std.specs.Prelude.{◌≡◌, ℕ, ◌+◌, List, [], if◌then◌else◌, nat_eq, slice_index};
-ghost use Rattle.machine.specs.Memory.{IsMemory};
 ghost use Rattle.machine.specs.Record.{whole, with_psr, with_kbsr, with_mcr, with_busy, with_timer};
 ghost use Rattle.machine.specs.Edition.{edition_of, has_psr_address};
 ghost use Rattle.machine.specs.Devices.{PSR, loaded_value_by, after_load, with_enable, ddr_store, stored_by};
@@ -13,7 +12,7 @@ ghost use Rattle.step_parts.specs.Delivery.{effect, no_output, after, delivered,
 use crate::memory::{set_word, word_at};
 use crate::{Display, Obeyed};
 use machine::addresses::{DDR, DSR, KBDR, KBSR, MCR, PSR, TIR, TSR};
-use machine::{Control, Rule, set_busy, set_keyboard, set_mcr, set_timer, with_devices};
+use machine::{Control, Memory, Rule};
 
 // DSR: x8000, or 0 while the display is busy.
 fn display_status(busy: u16) -> u16
@@ -23,8 +22,7 @@ fn display_status(busy: u16) -> u16
 }
 
 // A load from xFFFC: the PSR, or the word there.
-fn psr_or_word(second: bool, psr: u16, memory: &[u16]) -> u16
-    requires { IsMemory memory.now }
+fn psr_or_word(second: bool, psr: u16, memory: &Memory) -> u16
     ensures { result ≡ (if has_psr_address (edition_of second) then psr else slice_index memory.now PSR) }
 {
     if second {
@@ -34,8 +32,7 @@ fn psr_or_word(second: bool, psr: u16, memory: &[u16]) -> u16
 }
 
 // The value that a load gives.
-pub fn load(second: bool, c: Control, memory: &[u16], a: u16) -> u16
-    requires { IsMemory memory.now }
+pub fn load(second: bool, c: Control, memory: &Memory, a: u16) -> u16
     ensures { (regs : List ℕ) (clock : ℕ) → result
         ≡ loaded_value_by (edition_of second) a (whole regs clock c) memory.now }
 {
@@ -101,7 +98,7 @@ fn show(busy: u16, output: &mut [u8], v: u16) -> Display
 pub fn with_kbsr(c: Control, kbsr: u16) -> Control
     ensures { (regs : List ℕ) (clock : ℕ) → whole regs clock result ≡ with_kbsr kbsr (whole regs clock c) }
 {
-    with_devices(c, set_keyboard(c.devices, kbsr, c.devices.kbdr))
+    c.with_devices(c.devices.with_keyboard(kbsr, c.devices.kbdr))
 }
 
 // A status register that a value is stored to: bit 14, enable, is copied, and ready stays.
@@ -116,33 +113,26 @@ pub fn with_timer(c: Control, status: u16, interval: u16, count: u16) -> Control
     ensures { (regs : List ℕ) (clock : ℕ) → whole regs clock result
         ≡ with_timer (record { status = status; interval = interval; count = count }) (whole regs clock c) }
 {
-    with_devices(c, set_timer(c.devices, status, interval, count))
+    c.with_devices(c.devices.with_timer(status, interval, count))
 }
 
 fn with_mcr(c: Control, mcr: u16) -> Control
     ensures { (regs : List ℕ) (clock : ℕ) → whole regs clock result ≡ with_mcr mcr (whole regs clock c) }
 {
-    with_devices(c, set_mcr(c.devices, mcr))
+    c.with_devices(c.devices.with_mcr(mcr))
 }
 
 fn with_psr(c: Control, psr: u16) -> Control
     ensures { (regs : List ℕ) (clock : ℕ) → whole regs clock result ≡ with_psr psr (whole regs clock c) }
 {
-    let devices = c.devices;
-    Control {
-        pc: c.pc,
-        psr,
-        saved_ssp: c.saved_ssp,
-        saved_usp: c.saved_usp,
-        devices,
-    }
+    Control { psr, ..c }
 }
 
 // The record with this busy count of the display.
 fn with_busy(c: Control, busy: u16) -> Control
     ensures { (regs : List ℕ) (clock : ℕ) → whole regs clock result ≡ with_busy busy (whole regs clock c) }
 {
-    with_devices(c, set_busy(c.devices, busy))
+    c.with_devices(c.devices.with_busy(busy))
 }
 
 // The end of a step that shows nothing. The record stays as it is where the count is 0, as it is most often.
@@ -170,8 +160,7 @@ pub fn count_down(c: Control, display: Display) -> Control
 }
 
 // A store to xFFFC: to the PSR, or to the word there.
-fn store_psr(second: bool, c: Control, memory: &mut [u16], v: u16) -> Control
-    requires { IsMemory memory.old }
+fn store_psr(second: bool, c: Control, memory: &mut Memory, v: u16) -> Control
     ensures { (regs : List ℕ) (clock : ℕ) → no_output (whole regs clock result) memory.new
         ≡ effect (stored_by (edition_of second) v PSR (whole regs clock c) memory.old) }
 {
@@ -186,12 +175,11 @@ fn store_psr(second: bool, c: Control, memory: &mut [u16], v: u16) -> Control
 pub fn store(
     second: bool,
     c: Control,
-    memory: &mut [u16],
+    memory: &mut Memory,
     output: &mut [u8],
     v: u16,
     a: u16,
 ) -> Obeyed
-    requires { IsMemory memory.old }
     ensures { (regs : List ℕ) (clock : ℕ) → after result regs clock memory.new output.new
         ≡ delivered regs memory.old output.old
         (stored_by (edition_of second) v a (whole regs clock c) memory.old) }

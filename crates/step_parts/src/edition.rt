@@ -1,7 +1,6 @@
 // Rules in which the two editions of the book differ: LEA, TRAP and JSRR R7 of machine/specs/Edition.antt. The access
 // exception is in `protection`, xFFFC in `devices`. `second` is whether the rules are the second edition's.
 ghost use Rattle.std.specs.Prelude.{◌≡◌, ℕ, List};
-ghost use Rattle.machine.specs.Memory.{IsMemory};
 ghost use Rattle.machine.specs.Record.{whole};
 ghost use Rattle.machine.specs.Edition.{edition_of, lea_plan, linked, trapped, jsrr_target};
 ghost use Rattle.step_parts.specs.Delivery.{effect, no_output, after, delivered};
@@ -12,7 +11,7 @@ use crate::devices::unshown;
 use crate::entry::raise;
 use crate::memory::word_at;
 use crate::words::{next, register};
-use machine::{Control, Plan, Rule};
+use machine::{Control, Memory, Plan, Rule};
 
 // LEA sets the codes in the second edition only.
 pub fn lea_plan(second: bool, r: u8, address: u16, next: u16) -> Plan
@@ -25,8 +24,7 @@ pub fn lea_plan(second: bool, r: u8, address: u16, next: u16) -> Plan
 }
 
 // TRAP by the second edition: Next in R7, and PC from the vector word.
-fn link(c: Control, regs: &mut [u16; 8], memory: &[u16], vector: u16) -> Control
-    requires { IsMemory memory.now }
+fn link(c: Control, regs: &mut [u16; 8], memory: &Memory, vector: u16) -> Control
     ensures { (clock : ℕ) → no_output (whole regs.new clock result) memory.now
         ≡ effect (linked vector (whole regs.old clock c) memory.now) }
 {
@@ -39,10 +37,9 @@ pub fn trap(
     second: bool,
     c: Control,
     regs: &mut [u16; 8],
-    memory: &mut [u16],
+    memory: &mut Memory,
     vector: u16,
 ) -> Obeyed
-    requires { IsMemory memory.old }
     ensures { (clock : ℕ) (output : List ℕ) → after result regs.new clock memory.new output
         ≡ delivered regs.old memory.old output
         (trapped (edition_of second) vector (whole regs.old clock c) memory.old) }

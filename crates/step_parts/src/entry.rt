@@ -1,6 +1,5 @@
 // Entry by a trap, an exception or an interrupt: the supervisor stack, two pushes, and only then the vector word.
 ghost use Rattle.std.specs.Prelude.{◌≡◌, ℕ, if◌then◌else◌};
-ghost use Rattle.machine.specs.Memory.{IsMemory};
 ghost use Rattle.machine.specs.Record.{whole};
 ghost use Rattle.machine.specs.Psr.{in_user_mode};
 ghost use Rattle.machine.specs.Outcome.{Reason, vector_of};
@@ -11,7 +10,7 @@ ghost use Rattle.step_parts.specs.Delivery.{effect, no_output};
 use crate::memory::{set_word, word_at};
 use crate::words::{before, register, set_register};
 use machine::addresses::TIMER_VECTOR;
-use machine::{Control, Rule};
+use machine::{Control, Interrupt, Memory, Rule};
 
 // The one of two stack pointers that User mode chooses.
 fn by_mode(psr: u16, user: u16, supervisor: u16) -> u16
@@ -21,8 +20,7 @@ fn by_mode(psr: u16, user: u16, supervisor: u16) -> u16
 }
 
 // A push subtracts 1 from R6, then stores: the PSR first, then the PC.
-fn push_two(memory: &mut [u16], sp: u16, psr: u16, pc: u16)
-    requires { IsMemory memory.old }
+fn push_two(memory: &mut Memory, sp: u16, psr: u16, pc: u16)
     ensures { memory.new ≡ pushed memory.old sp psr pc }
 {
     let first = before(sp);
@@ -35,12 +33,11 @@ fn push_two(memory: &mut [u16], sp: u16, psr: u16, pc: u16)
 fn enter(
     c: Control,
     regs: &mut [u16; 8],
-    memory: &mut [u16],
+    memory: &mut Memory,
     vector: u16,
     pc: u16,
     psr: u16,
 ) -> Control
-    requires { IsMemory memory.old }
     ensures { (clock : ℕ) (reason : Reason) → vector_of reason ≡ vector
         → no_output (whole regs.new clock result) memory.new
         ≡ effect (entry reason pc psr (whole regs.old clock c) memory.old) }
@@ -62,8 +59,7 @@ fn enter(
 }
 
 // A trap or an exception: the priority stays.
-pub fn raise(c: Control, regs: &mut [u16; 8], memory: &mut [u16], vector: u16, pc: u16) -> Control
-    requires { IsMemory memory.old }
+pub fn raise(c: Control, regs: &mut [u16; 8], memory: &mut Memory, vector: u16, pc: u16) -> Control
     ensures { (clock : ℕ) (reason : Reason) → vector_of reason ≡ vector
         → no_output (whole regs.new clock result) memory.new
         ≡ effect (raised reason pc (whole regs.old clock c) memory.old) }
@@ -85,20 +81,18 @@ pub fn interrupt_rule(vector: u16) -> Rule
 pub fn interrupt(
     c: Control,
     regs: &mut [u16; 8],
-    memory: &mut [u16],
-    vector: u16,
-    priority: u16,
+    memory: &mut Memory,
+    i: Interrupt,
 ) -> Control
-    requires { IsMemory memory.old }
     ensures { (clock : ℕ) → no_output (whole regs.new clock result) memory.new
-        ≡ effect (interrupted vector priority (whole regs.old clock c) memory.old) }
+        ≡ effect (interrupted i.vector i.priority (whole regs.old clock c) memory.old) }
 {
     enter(
         c,
         regs,
         memory,
-        vector,
+        i.vector,
         c.pc,
-        c.psr % 256 + priority % 8 * 256,
+        c.psr % 256 + i.priority % 8 * 256,
     )
 }

@@ -5,7 +5,7 @@ ghost use Rattle.machine.specs.Keys.{after_keys};
 ghost use Rattle.step_parts.specs.Delivery.{arrival, arrival_of};
 
 use crate::Arrived;
-use machine::{Control, set_keyboard, with_devices};
+use machine::Control;
 
 // One key: KBDR takes the byte, ready is set.
 pub fn press(c: Control, byte: u8) -> Control
@@ -13,7 +13,7 @@ pub fn press(c: Control, byte: u8) -> Control
 {
     let d = c.devices;
     let kbsr = d.kbsr % 0x8000 + 0x8000;
-    with_devices(c, set_keyboard(d, kbsr, byte as u16))
+    c.with_devices(d.with_keyboard(kbsr, byte as u16))
 }
 
 pub fn arrive(c: Control, t: u64, times: &[u64], bytes: &[u8], from: usize) -> Arrived

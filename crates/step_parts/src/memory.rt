@@ -1,17 +1,16 @@
 // The lent words of memory.
 ghost use Rattle.std.specs.Prelude.{◌≡◌, slice_index, slice_set};
-ghost use Rattle.machine.specs.Memory.{IsMemory};
 
-pub fn word_at(memory: &[u16], a: u16) -> u16
-    requires { IsMemory memory.now }
+use machine::Memory;
+
+pub fn word_at(memory: &Memory, a: u16) -> u16
     ensures { result ≡ slice_index memory.now a }
 {
     let k = a as usize;
     memory[k]
 }
 
-pub fn set_word(memory: &mut [u16], a: u16, v: u16)
-    requires { IsMemory memory.old }
+pub fn set_word(memory: &mut Memory, a: u16, v: u16)
     ensures { memory.new ≡ slice_set memory.old a v }
 {
     let k = a as usize;

@@ -1,6 +1,5 @@
 // RTI: both words are popped before R6 changes.
 ghost use Rattle.std.specs.Prelude.{◌≡◌, ℕ, List};
-ghost use Rattle.machine.specs.Memory.{IsMemory};
 ghost use Rattle.machine.specs.Record.{whole};
 ghost use Rattle.machine.specs.Return.{after_return, return};
 ghost use Rattle.step_parts.specs.Delivery.{after, delivered};
@@ -12,7 +11,7 @@ use crate::memory::word_at;
 use crate::psr::defined_psr;
 use crate::words::{next, register, set_register};
 use machine::addresses::PRIVILEGE_VECTOR;
-use machine::{Control, Rule};
+use machine::{Control, Memory, Rule};
 
 // The record with this PC and PSR popped, and R6 above them at sp.
 fn after_return(c: Control, regs: &mut [u16; 8], pc: u16, psr: u16, sp: u16) -> Control
@@ -40,8 +39,7 @@ fn after_return(c: Control, regs: &mut [u16; 8], pc: u16, psr: u16, sp: u16) -> 
     }
 }
 
-pub fn return_from_interrupt(c: Control, regs: &mut [u16; 8], memory: &mut [u16]) -> Obeyed
-    requires { IsMemory memory.old }
+pub fn return_from_interrupt(c: Control, regs: &mut [u16; 8], memory: &mut Memory) -> Obeyed
     ensures { (clock : ℕ) (output : List ℕ) → after result regs.new clock memory.new output
         ≡ delivered regs.old memory.old output
         (return (whole regs.old clock c) memory.old) }

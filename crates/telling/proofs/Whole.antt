@@ -1,5 +1,7 @@
 -- Nothing is left out of what is told: no step reads more than three words (crate `footprint`), and none writes more
 -- than two, by the definitions of its parts.
+use Rattle.machine.specs.declared.Interrupt.{Interrupt}
+use Rattle.std.specs.Prelude.{Option, None, Some}
 use Prim.Native.Nat.{ℕ, ◌≤◌}
 use native.Mathlib.Omega.{arith}
 use mathlib.Core.Path.{◌≡◌, refl}
@@ -7,8 +9,6 @@ use mathlib.Core.List.{List, [], ◌∷◌}
 use lib.Dec.{eqb}
 use lib.ListN.{length}
 use Rattle.machine.specs.declared.Machine.{Machine}
-use Rattle.machine.specs.declared.Pending.{Pending}
-use Rattle.machine.specs.declared.Pending.TheVariants.{Nothing, Interrupt}
 use Rattle.machine.specs.declared.Plan.{Plan}
 use Rattle.machine.specs.declared.Plan.TheVariants.{Move, Put, Jump, Load, LoadBy, Store, StoreBy, Call, Illegal}
 use Rattle.machine.specs.declared.Plan.TheVariants.{Return}
@@ -94,10 +94,10 @@ module _ (e : Edition) (mem : List ℕ) where
   plan_writes Illegal m = raised_writes illegal m.pc m
   plan_writes Return m = return_writes m
 
-  either_writes : (p : Pending) (m : Machine) → Few (interrupted_or_obeyed_by e p m mem)
+  either_writes : (p : Option Interrupt) (m : Machine) → Few (interrupted_or_obeyed_by e p m mem)
   unfolding interrupted_or_obeyed_by interrupted entry obeyed_by with_reads
-  either_writes Nothing m = checked_writes m.pc m _ (plan_writes _ m)
-  either_writes (Interrupt vector priority) m = refl
+  either_writes None m = checked_writes m.pc m _ (plan_writes _ m)
+  either_writes (Some q) m = refl
 
   step_writes : (keys : List ℕ) (m : Machine) → Few (step_by e keys m mem)
   unfolding step_by ended

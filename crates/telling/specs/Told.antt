@@ -1,6 +1,7 @@
 -- What is told of the step that a run would make next, from that step's outcome: by which rule it is made, the word
 -- that it fetches, and the addresses of the lent words that it takes and of those that it stores to, in the step's
 -- order.
+use Rattle.std.specs.Prelude.{Ok, Err}
 use Rattle.std.specs.Prelude.{ℕ, ◌+◌, min, cond, List, [], ◌∷◌}
 use Rattle.machine.specs.declared.Machine.{Machine}
 use Rattle.machine.specs.declared.Rule.TheVariants.{Instruction}
@@ -9,12 +10,10 @@ use Rattle.machine.specs.Devices.{is_device_by}
 use Rattle.machine.specs.Outcome.{Outcome}
 use Rattle.machine.specs.Step.{step_by}
 use Rattle.machine.specs.Rules.{rule_of, fetched_word_by}
-use Rattle.run.specs.declared.Admission.{Admission}
-use Rattle.run.specs.declared.Admission.TheVariants.{Accepted, Rejected}
 use Rattle.run.specs.declared.Ending.{Ending}
 use Rattle.run.specs.declared.Ending.TheVariants.{Done, Halted, Refused}
 use Rattle.run.specs.Run.{Start, begin, next_step_by, is_halted}
-use Rattle.run.specs.Refusals.{admission_of}
+use Rattle.run.specs.Refusals.{admission_of, Admission}
 use Rattle.telling.specs.declared.Addresses.{Addresses}
 use Rattle.telling.specs.declared.Touched.{Touched}
 use Rattle.telling.specs.declared.Told.{Told}
@@ -70,8 +69,8 @@ told_next e s =
     (told_of e s.machine s.memory (next_step_by (step_by e) s (begin s)))
 
 abbrev pub told_admitted : Edition → Admission → Start → Told
-told_admitted e Accepted s = told_next e s
-told_admitted e (Rejected r) s = untold (Refused r)
+told_admitted e (Ok _) s = told_next e s
+told_admitted e (Err r) s = untold (Refused r)
 
 -- The call is turned down as a run of one step is.
 abbrev pub told_by : Edition → Start → Told

@@ -3,34 +3,41 @@
 use mathlib.Core.Path.{refl, sym, ◌∙◌}
 use Rattle.run.specs.Run.{begin}
 use Rattle.run.specs.Call.{start_of}
-use Rattle.run.proofs.Acceptance.{accepted_is_acceptable}
+use Rattle.run.proofs.Acceptance.{accepted_is_acceptable, wrong_size_is_rejected}
 use Rattle.logging.specs.LoggedCall.{logged_admitted_by, logged_call_by}
 use borrow.Author.Rules.{rules}
 use Rattle.logger.proofs.run_logged_by.Goals as goal
 
+pub returns-in_default : goal.returns-in_default
+unfolding logged_call_by logged_admitted_by begin
+returns-in_default c =
+    let a = c.args in
+    rw (wrong_size_is_rejected (start_of a.m a.memory.now a.times.now a.bytes.now a.output.now) a.n
+    c.in_default.ensures.cases)
+    (rw c.refused.ensures refl)
+
 pub run_accepted-requires : goal.run_accepted-requires
 run_accepted-requires c =
-    let admission = c.admission-admission in
+    let admission = c.admission in
     let a = c.args in
-    let k = accepted_is_acceptable (start_of a.m a.memory.now a.times.now a.bytes.now a.output.now)
-    a.n (sym (admission.ensures a.output.now) ∙ c.in-Accepted.is) in
+    let k = accepted_is_acceptable (start_of a.m c.in-Some.whole.now a.times.now a.bytes.now a.output.now)
+    a.n (sym (admission.ensures a.output.now) ∙ c.in-Ok.is) in
     record {
-      memory = k.size;
       times_len = k.equal;
       n_bound = k.clock;
     }
 
-pub returns-in-Accepted : goal.returns-in-Accepted
+pub returns-in-Ok : goal.returns-in-Ok
 unfolding logged_call_by logged_admitted_by
-returns-in-Accepted c =
+returns-in-Ok c =
     let run-accepted = c.run_accepted in
-    let admission = c.admission-admission in
+    let admission = c.admission in
     let a = c.args in
-    rw (← admission.ensures a.output.now, c.in-Accepted.is) run-accepted.ensures
+    rw (← c.in-Some.ensures.cases.same, ← admission.ensures a.output.now, c.in-Ok.is) run-accepted.ensures
 
-pub returns-in-Rejected : goal.returns-in-Rejected
+pub returns-in-Err : goal.returns-in-Err
 unfolding logged_call_by logged_admitted_by begin
-returns-in-Rejected c =
-    let admission = c.admission-admission in
+returns-in-Err c =
+    let admission = c.admission in
     let a = c.args in
-    rw (← admission.ensures a.output.now, c.in-Rejected.is, c.refused.ensures) refl
+    rw (← c.in-Some.ensures.cases.same, ← admission.ensures a.output.now, c.in-Err.is, c.refused-in-Err.ensures) refl

@@ -1,8 +1,9 @@
 -- `next_step::tell_step` meets its contract: arrival, the timer's count and the pending interrupt one after the other,
 -- then what the step touches, and the word fetched from the record as it is handed in.
+use Rattle.machine.specs.declared.Interrupt.{Interrupt}
+use Rattle.std.specs.Prelude.{Option}
 use mathlib.Core.Path.{◌≡◌, ap, ◌∙◌}
 use Rattle.machine.specs.declared.Machine.{Machine}
-use Rattle.machine.specs.declared.Pending.{Pending}
 use Rattle.machine.specs.Edition.{edition_of}
 use Rattle.machine.specs.Record.{whole}
 use Rattle.machine.specs.Keys.{keys_due, after_keys}
@@ -34,11 +35,11 @@ returns c =
     let arrived : whole R t c.arrive-a.result.control ≡ after_keys keys a.m =
     ap (λ (x : Arrival). x.machine) (c.arrive-a.ensures R t)
     ∙ ap (λ (x : Machine). (arrival_of t a.times.now a.bytes.now x 0).machine)
-    c.control_of.ensures in
+    c.from.ensures in
     let begun : n ≡ m = c.count_down-c.ensures R t ∙ ap after_timer arrived in
     let told : touched.result ≡ touched_in (interrupted_or_obeyed_by e (pending_interrupt m) m M) =
     touched.ensures t
-    ∙ (ap (λ (x : Pending). touched_in (interrupted_or_obeyed_by e x n M))
+    ∙ (ap (λ (x : Option Interrupt). touched_in (interrupted_or_obeyed_by e x n M))
     (c.pending_interrupt-pending.ensures R t)
     ∙ ap (λ (x : Machine). touched_in (interrupted_or_obeyed_by e (pending_interrupt x) x M)) begun) in
     rw c.fetched_word-word.ensures

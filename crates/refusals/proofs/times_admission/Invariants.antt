@@ -13,6 +13,3 @@ abbrev pub invariant-loop-k : goal.invariant-loop-k
 invariant-loop-k l =
     (times_admission l.clock l.last l.k (drop l.k l.times) ≡ times_admission l.clock l.clock 0 l.times)
     × (l.clock ≤ l.last)
-
-abbrev pub decreases-loop-k : goal.decreases-loop-k
-decreases-loop-k l = length l.times - l.k

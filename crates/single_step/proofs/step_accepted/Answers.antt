@@ -40,7 +40,7 @@ returns-then-is_full c =
     let s = handed in
     c.advance-s.ensures
     ∙ ap (λ (m : Machine). moves_of (edition_of c.args.second) s.times s.bytes m s.memory
-    s.output 0 0) c.control_of-c.ensures
+    s.output 0 0) c.from-c.ensures
     in
     let a = c.args in
     let memory' = c.advance-s.new.memory in
@@ -65,10 +65,10 @@ returns c =
     let s = handed in
     c.advance-s.ensures
     ∙ ap (λ (m : Machine). moves_of (edition_of c.args.second) s.times s.bytes m s.memory
-    s.output 0 0) c.control_of-c.ensures
+    s.output 0 0) c.from-c.ensures
     in
     let a = c.args in
-    rw (c.machine_of-machine.ensures, c.shown_count.ensures)
+    rw (c.machine-machine.ensures, c.shown_count.ensures)
     (single_makes (edition_of a.second) (handed) (clock_on) c.advance-s.result
     c.advance-s.new.regs c.advance-s.new.memory
     c.advance-s.new.output (moved)

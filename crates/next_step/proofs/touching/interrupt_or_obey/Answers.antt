@@ -6,13 +6,13 @@ use Rattle.machine.specs.Step.{interrupted_or_obeyed_by}
 use borrow.Author.Rules.{rules}
 use Rattle.next_step.proofs.touching.interrupt_or_obey.Goals as goal
 
-pub returns-in-Nothing : goal.returns-in-Nothing
+pub returns-in-None : goal.returns-in-None
 unfolding interrupted_or_obeyed_by
-returns-in-Nothing c = λ clock. rw c.in-Nothing.is (c.obey.ensures clock)
+returns-in-None c = λ clock. rw c.in-None.is (c.obey.ensures clock)
 
-pub returns-in-Interrupt : goal.returns-in-Interrupt
+pub returns-in-Some : goal.returns-in-Some
 unfolding interrupted_or_obeyed_by interrupted
-returns-in-Interrupt c =
+returns-in-Some c =
     λ clock.
-    rw c.in-Interrupt.is
-    (c.enter.ensures clock _ _ _ (interrupt c.in-Interrupt.vector) refl (sym c.interrupt_rule.ensures))
+    rw c.in-Some.is
+    (c.enter.ensures clock _ _ _ (interrupt c.in-Some.i.vector) refl (sym c.interrupt_rule.ensures))

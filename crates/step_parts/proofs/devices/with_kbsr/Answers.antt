@@ -4,4 +4,4 @@ use Rattle.step_parts.proofs.devices.with_kbsr.Goals as goal
 
 pub returns : goal.returns
 returns c =
-    λ regs clock. rw (c.with_devices.ensures regs clock, c.set_keyboard.ensures)
+    λ regs clock. rw (c.with_devices.ensures regs clock, c.with_keyboard.ensures)

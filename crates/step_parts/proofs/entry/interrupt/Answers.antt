@@ -8,4 +8,4 @@ pub returns : goal.returns
 unfolding interrupted
 returns c = λ clock.
     c.enter.ensures clock
-    (interrupt c.args.vector) refl
+    (interrupt c.args.i.vector) refl

@@ -6,4 +6,4 @@ use Rattle.step_parts.proofs.keys.press.Goals as goal
 pub returns : goal.returns
 unfolding after_keys ready_after last_key
 returns c =
-    λ regs clock. rw (c.with_devices.ensures regs clock, c.set_keyboard.ensures)
+    λ regs clock. rw (c.with_devices.ensures regs clock, c.with_keyboard.ensures)
