@@ -26,15 +26,7 @@ pub struct Lc3Started {
 fn zero() -> Machine
     ensures { result ≡ zero_machine }
 {
-    Machine {
-        regs: [0; 8],
-        pc: 0,
-        psr: 0,
-        saved_ssp: 0,
-        saved_usp: 0,
-        devices: machine::zero_devices(),
-        clock: 0,
-    }
+    Machine::default()
 }
 
 impl From<Result<Started, Refusal>> for Lc3Started {

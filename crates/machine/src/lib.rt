@@ -105,7 +105,7 @@ impl Devices {
     {
         Devices {
             mcr: 0x8000,
-            ..Devices::zero()
+            ..Devices::default()
         }
     }
 
