@@ -23,7 +23,8 @@ use Rattle.machine.specs.Access.{load_to_by, store_at_by, by_pointer_by}
 use Rattle.machine.specs.Return.{return, popped, after_return}
 use Rattle.machine.specs.Plan.{plan_by}
 use Rattle.machine.specs.Step.{perform_by, obeyed_by, interrupted_or_obeyed_by, busy_after, after_tick, ended, step_by}
-use Rattle.run.specs.Refusals.{wrong_size, undefined_timer, undefined_devices, undefined_record, too_many_steps, Accepted}
+use Rattle.run.specs.Refusals.{wrong_size, undefined_timer, undefined_devices, undefined_record, too_many_steps}
+use Rattle.run.specs.Refusals.{Accepted}
 use Rattle.run.specs.Refusals.{unequal_lists, first_refusal, entry_admission, times_admission, admission_of}
 use Rattle.run.specs.Run.{Start, begin, arriving, next_step_by, with_shown, step_made_by, is_halted, shows_byte}
 use Rattle.run.specs.Run.{is_full_by}

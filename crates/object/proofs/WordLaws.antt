@@ -46,7 +46,8 @@ module _ (bytes words : List ℕ) (k : ℕ) (l : length bytes ≡ 2 * length wor
   unfolding bytes_of
   one_word_written rest h =
       let front = take (2 * k) bytes ++ (get_or words k 0 / 256 ∷ get_or words k 0 % 256 ∷ []) in
-      let n : length front ≡ 2 * (k + 1) = simp length-append (omega (arith, length-take-le (2 * k) bytes (omega arith))) in
+      let n : length front ≡ 2 * (k + 1) =
+      simp length-append (omega (arith, length-take-le (2 * k) bytes (omega arith))) in
       rw (← append_assoc, take_at front rest (2 * (k + 1)) n, add-one k, drop-cons words k 0 h) (simp append_assoc)
 
   pub all_words_written : length words ≤ k → bytes ≡ take (2 * k) bytes ++ bytes_of (drop k words)

@@ -15,7 +15,8 @@ use Rattle.machine.proofs.Opened.{opened}
 use Rattle.run.specs.declared.Ending.TheVariants.{OutputFull}
 use Rattle.run.specs.Run.{Start, End, begin, ended_by, arriving, next_step_by, with_shown, step_made_by, is_halted}
 use Rattle.run.specs.Run.{shows_byte, is_full_by, one_more_by, run_by}
-use Rattle.run.specs.Refusals.{wrong_size, undefined_timer, undefined_devices, undefined_record, too_many_steps, Accepted}
+use Rattle.run.specs.Refusals.{wrong_size, undefined_timer, undefined_devices, undefined_record, too_many_steps}
+use Rattle.run.specs.Refusals.{Accepted}
 use Rattle.run.specs.Refusals.{unequal_lists, admission_of, entry_admission, first_refusal, times_admission}
 use Rattle.run.specs.Call.{call_by, call_of, second_call_of}
 use Rattle.run.specs.SecondEdition.{exclusions_at}

@@ -17,7 +17,8 @@ use Rattle.machine.specs.Step.{step_of}
 use Rattle.run.specs.Run.{Start, begin, ended_by, arriving, next_step_by, next_step, with_shown, step_made_by}
 use Rattle.run.specs.Run.{is_halted}
 use Rattle.run.specs.Run.{shows_byte, is_full_by, one_more_by, run_by, run_of}
-use Rattle.run.specs.Refusals.{wrong_size, undefined_timer, undefined_devices, undefined_record, too_many_steps, Accepted}
+use Rattle.run.specs.Refusals.{wrong_size, undefined_timer, undefined_devices, undefined_record, too_many_steps}
+use Rattle.run.specs.Refusals.{Accepted}
 use Rattle.run.specs.Refusals.{unequal_lists, admission_of}
 use Rattle.run.specs.Refusals.{entry_admission, first_refusal, times_admission}
 use Rattle.run.specs.Call.{call_of}

@@ -16,7 +16,8 @@ use Rattle.machine.specs.declared.Machine.{Machine}
 use Rattle.machine.specs.Words.{next, before}
 use Rattle.machine.specs.Psr.{defined_psr, priority_of}
 use Rattle.machine.specs.Outcome.{interrupt}
-use Rattle.machine.specs.Interrupts.{keyboard_vector, keyboard_priority, timer_vector, timer_priority, timer_interrupt, keyboard_interrupt}
+use Rattle.machine.specs.Interrupts.{keyboard_vector, keyboard_priority, timer_vector, timer_priority}
+use Rattle.machine.specs.Interrupts.{timer_interrupt, keyboard_interrupt}
 use Rattle.machine.specs.Interrupts.{timer_may_interrupt}
 use Rattle.machine.specs.Interrupts.{keyboard_may_interrupt, pending_interrupt}
 use Rattle.machine.specs.Entry.{stack_pointer_on_entry, pushed, after_entry, entry, interrupted}
