@@ -27,8 +27,8 @@ use Rattle.lc3_words.specs.Unflat.{kinds, form_of, unsigned, instruction_of}
 use Rattle.lc3_words.specs.Range.{below, value_ranges}
 use Rattle.lc3_words.specs.Writing.{refusal, host_answer, flat_write_of, written_of}
 use Rattle.lc3_words.specs.Theorems.{FlatAndBack, FlatRoundTrip, FlatReadAfterWrite, FlatWriteAfterRead}
-use Rattle.lc3_words.specs.Theorems.{FlatWrittenDiffersInMaskedBits, KnownKind, UnknownKind, RefusedWordIsZero}
-use Rattle.lc3_words.specs.Theorems.{BeyondSixteenBits}
+use Rattle.lc3_words.specs.Theorems.{FlatWrittenDiffersInMaskedBits, KnownKind, UnknownKind, BeyondSixteenBits}
+use Rattle.lc3_words.specs.Theorems.{RefusedWordIsZero}
 use Rattle.lc3_words.specs.declared.Lc3Written.{Lc3Written}
 use Rattle.lc3_words.proofs.ByKind.{known_kind_written, unknown_kind_refused}
 

@@ -25,6 +25,7 @@ impl TryFrom<Lc3Instruction> for Instruction {
             return Err(WriteRefusal::Field);
         }
         let n = i16::try_from(value).unwrap_or(32767);
+        // u16::try_from costs lc3_write two instructions more.
         let u = match value {
             0..=65535 => value as u16,
             _ => 65535,
