@@ -1,5 +1,5 @@
 -- The lines by shape are those of `line_of`, for each opcode; a word with wrong fixed bits is data.
-use Prim.Native.Nat.{ℕ, ◌<◌}
+use Prim.Native.Nat.{ℕ, ◌/◌, ◌<◌, ◌≤◌}
 use native.Mathlib.Omega.{arith}
 use mathlib.Core.Path.{◌≡◌, refl, ap}
 use mathlib.Core.Bool.{Bool, true, false, cond}
@@ -49,6 +49,10 @@ read_shown w h = each (Shown w) 16 cases (opcode w) (omega arith)
         & refl
         & refl
         & tt
+
+-- the opcode of a word in the last arm of a match
+pub last_opcode : (w : ℕ) → 15 ≤ w / 4096 → w < 65536 → opcode w ≡ 15
+last_opcode w p q = omega arith
 
 pub proper_shown : (w : ℕ) → w < 65536 → mask_of w ≡ 0 → line_of w ≡ proper_line w
 unfolding line_of

@@ -45,10 +45,6 @@ then {at} {n} {m} {s} {t} {out} {mid} {end} p q inside =
         ∙ ap (λ (h : List ℕ). h ++ drop (at + length (s ++ t)) out) (append_assoc (take at out) s t)))
 
 -- the same by a writer
-pub wrote_nothing : (writer : Writer) → writer.at ≤ length writer.output.now → Wrote writer [] writer
-wrote_nothing writer inside =
-    record { put = put_nothing writer.at writer.output.now; same = refl; as_long = refl; inside = inside }
-
 pub wrote_then : {s t : List ℕ} {before between after : Writer} → Wrote before s between → Wrote between t after
     → Wrote before (s ++ t) after
 wrote_then p q = record {

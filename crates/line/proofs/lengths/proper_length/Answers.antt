@@ -1,6 +1,5 @@
 -- `line::lengths::proper_length` meets its contract: each arm of the match knows its opcode.
-use Prim.Native.Nat.{ℕ, ◌/◌, ◌≤◌, ◌<◌}
-use native.Mathlib.Omega.{arith}
+use Prim.Native.Nat.{ℕ, ◌/◌}
 use mathlib.Core.Path.{◌≡◌, refl, sym, ap, ◌∙◌}
 use mathlib.Core.List.{[], ◌∷◌}
 use lib.ListN.{length, get_or}
@@ -8,15 +7,12 @@ use Rattle.word.specs.Reading.{opcode}
 use Rattle.word.proofs.Opcodes.{none_below}
 use Rattle.text.specs.Characters.{A, D, E, I, L, N, R, S, T}
 use Rattle.line.specs.Shapes.{proper_lines, proper_line}
-use Rattle.line.proofs.ShapeLaws.{proper_as}
+use Rattle.line.proofs.ShapeLaws.{last_opcode, proper_as}
 use Rattle.line.proofs.lengths.proper_length.Goals as goal
 
 -- the line of a word by its opcode
 of : (w k : ℕ) → opcode w ≡ k → length (get_or (proper_lines w) k []) ≡ length (proper_line w)
 of w k e = ap length (sym (proper_as w k e))
-
-last : (w : ℕ) → 15 ≤ w / 4096 → w < 65536 → w / 4096 ≡ 15
-last w p q = omega arith
 
 pub returns-in-0 : goal.returns-in-0
 returns-in-0 c =
@@ -78,4 +74,4 @@ returns-in-14 c =
 pub returns-in_default : goal.returns-in_default
 returns-in_default c =
     let w = c.args.word in
-    of w 15 (last w (none_below (w / 4096) 15 c.in_default.in_default-own.rest) c.ranges.word.fits)
+    of w 15 (last_opcode w (none_below (w / 4096) 15 c.in_default.in_default-own.rest) c.ranges.word.fits)

@@ -1,11 +1,11 @@
 -- `line::putting::put_proper` meets its contract: each arm of the match knows its opcode, and so its line.
-use Rattle.std.proofs.Common.{ℕ, ◌≡◌, ◌/◌, ◌≤◌, ◌<◌, [], get_or, arith}
+use Rattle.std.proofs.Common.{ℕ, ◌≡◌, ◌/◌, [], get_or, arith}
 use Rattle.word.specs.Reading.{opcode}
 use Rattle.word.proofs.Opcodes.{none_below}
 use Rattle.text.specs.declared.characters.Writer.{Writer}
 use Rattle.text.specs.Writing.{Fits, Wrote}
 use Rattle.line.specs.Shapes.{proper_lines, proper_line}
-use Rattle.line.proofs.ShapeLaws.{proper_as}
+use Rattle.line.proofs.ShapeLaws.{last_opcode, proper_as}
 use Rattle.line.proofs.putting.put_proper.Goals as goal
 
 -- the line of a word by its opcode
@@ -16,9 +16,6 @@ room w k writer e p = rw (proper_as w k e) at p
 arm : (w k : ℕ) {before after : Writer} → opcode w ≡ k → Wrote before (get_or (proper_lines w) k []) after
     → Wrote before (proper_line w) after
 arm w k e p = rw (proper_as w k e) p
-
-last : (w : ℕ) → 15 ≤ w / 4096 → w < 65536 → opcode w ≡ 15
-last w p q = omega arith
 
 pub put_br-requires : goal.put_br-requires
 put_br-requires c = room c.args.word 0 c.args.writer.now c.in-0.is c.requires
@@ -113,10 +110,12 @@ returns-in-14 c = arm c.args.word 14 c.in-14.is c.put_relative-in-14.ensures
 pub put_trap-requires : goal.put_trap-requires
 put_trap-requires c =
     let w = c.args.word in
-    let trap : opcode w ≡ 15 = last w (none_below (w / 4096) 15 c.in_default.in_default-own.rest) c.ranges.word.fits in
+    let rest = none_below (w / 4096) 15 c.in_default.in_default-own.rest in
+    let trap = last_opcode w rest c.ranges.word.fits in
     (omega arith, room w 15 c.args.writer.now trap c.requires)
 
 pub returns-in_default : goal.returns-in_default
 returns-in_default c =
     let w = c.args.word in
-    arm w 15 (last w (none_below (w / 4096) 15 c.in_default.in_default-own.rest) c.ranges.word.fits) c.put_trap.ensures
+    let rest = none_below (w / 4096) 15 c.in_default.in_default-own.rest in
+    arm w 15 (last_opcode w rest c.ranges.word.fits) c.put_trap.ensures
