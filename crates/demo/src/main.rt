@@ -67,11 +67,7 @@ fn start_all(rt: &(impl Files + Print), memory: &mut [u16]) -> Result<Machine, R
 }
 
 // The same with these answers, and nothing said.
-fn start_sitting(
-    rt: &impl Files,
-    memory: &mut [u16],
-    answers: &[u8],
-) -> Result<Machine, Refusal> {
+fn start_sitting(rt: &impl Files, memory: &mut [u16], answers: &[u8]) -> Result<Machine, Refusal> {
     installer::install(memory)?;
     start_file(rt, answers, memory, false)?;
     Ok(start_file(rt, &CANDIDATE, memory, true)?.machine)
