@@ -94,9 +94,7 @@ pub fn lc3_run_logged(
         return in_numbers(refused(m, Refusal::MemorySize));
     };
     match refusals::admission(m, whole, times, bytes, n) {
-        Ok(()) => in_numbers(run_accepted(
-            false, m, whole, times, bytes, output, log, n,
-        )),
+        Ok(()) => in_numbers(run_accepted(false, m, whole, times, bytes, output, log, n)),
         Err(refusal) => in_numbers(refused(m, refusal)),
     }
 }
@@ -119,9 +117,7 @@ pub fn lc3_run_logged_second(
         return in_numbers(refused(m, Refusal::MemorySize));
     };
     match refusals::admission(m, whole, times, bytes, n) {
-        Ok(()) => in_numbers(run_accepted(
-            true, m, whole, times, bytes, output, log, n,
-        )),
+        Ok(()) => in_numbers(run_accepted(true, m, whole, times, bytes, output, log, n)),
         Err(refusal) => in_numbers(refused(m, refusal)),
     }
 }

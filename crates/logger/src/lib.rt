@@ -50,9 +50,7 @@ pub fn run_logged_by(
         return refused(m, Refusal::MemorySize);
     };
     match refusals::admission(m, whole, times, bytes, n) {
-        Ok(()) => stepping::run_accepted(
-            second, m, whole, times, bytes, output, log, n,
-        ),
+        Ok(()) => stepping::run_accepted(second, m, whole, times, bytes, output, log, n),
         Err(refusal) => refused(m, refusal),
     }
 }
