@@ -62,7 +62,6 @@ impl Exam {
     }
 }
 
-<<<<<<< HEAD
 fn introduce(rt: &impl Print) -> io::Result<()> {
     println!(rt; "A sitting on the LC-3")?;
     println!(rt; "=====================\n")?;
@@ -75,24 +74,6 @@ fn introduce(rt: &impl Print) -> io::Result<()> {
     )?;
     println!(rt; "stops it: the monitor halts the machine and shows nothing.")?;
     println!(rt; "Recorded keys: A d a space 7 Enter, at clocks 300, 400, 500, 600, 700, 800.\n")
-=======
-// The same with these answers, and nothing said.
-fn start_sitting(rt: &impl Files, memory: &mut [u16], answers: &[u8]) -> Result<Machine, Refusal> {
-    installer::install(memory)?;
-    start_file(rt, answers, memory, false)?;
-    Ok(start_file(rt, &CANDIDATE, memory, true)?.machine)
-}
-
-fn print_heading(rt: &impl Print) {
-    print(
-        rt,
-        b"\nIn calls of at most 200 steps and 4 bytes, each going on from the one before:\n\n",
-    );
-    print(
-        rt,
-        b"call  steps  keys  shown  stop         clock  PC     mode        display\n",
-    );
->>>>>>> 6166abc79ddab4c1e4ebd2721dc06bd48af065f5
 }
 
 // The sitting in calls, and its display. Answers the last record.
