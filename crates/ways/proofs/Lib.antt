@@ -1,3 +1,0 @@
--- Laws of what an instruction leads to.
-pub mod JumpLaws
-pub mod BranchLaws
