@@ -2,7 +2,7 @@
 use Prim.Native.Nat.{ℕ, zero, suc, ◌+◌, ◌-◌, ◌*◌, ◌≤◌, ◌<◌}
 use native.Mathlib.Omega.{arith}
 use native.Mathlib.Decide.{dec_le}
-use mathlib.Core.Path.{◌≡◌, refl, ap, ◌∙◌}
+use mathlib.Core.Path.{◌≡◌, refl, sym, ap, ◌∙◌}
 use mathlib.Core.Bool.{Bool, true, false}
 use mathlib.Core.List.{List, [], ◌∷◌}
 use borrow.Author.Tests.{eq-eqb, ne_eqb}
@@ -15,6 +15,9 @@ use Rattle.sitting.specs.Test.{Claim, State, Row, Cell, own, hidden, cell_at, va
 use Rattle.machine.specs.Interrupts.{keyboard_vector, timer_vector}
 use Rattle.sitting.specs.Test.{leads_in, leads_back, room_holds}
 use Rattle.claims.specs.Encoding.{cell_of, state_of, states_of, row_of, start_of, claim_of}
+use Rattle.claims.specs.Decoded.{known_cell}
+use Rattle.claims.specs.declared.cells.Cell.{Cell as Word}
+use Rattle.claims.specs.declared.cells.Cell.TheVariants.{Fixed, Own, Hidden}
 use Rattle.claims.proofs.ValueLaws.{by_test}
 use Rattle.claims.proofs.StateLaws.{start_is}
 use Rattle.findings.specs.declared.Certified.{Certified}
@@ -112,3 +115,34 @@ rows_end c table ends pc start j l = rw (past ends j l) refl
     past (x ∷ xs) zero h = absurd (omega arith)
     past (x ∷ xs) (suc n) h = past xs n (omega arith)
 
+-- A word that is not fixed, with states and without.
+module _ (c : Claim) (pc start n : ℕ) (ns : List ℕ) where
+  pub row_fetched : (x : Word) → ((w : ℕ) → x ≡ Fixed w → ⊥) → 0 < n
+      → wrong 5 pc start ≡ wrong_at c pc (known_cell x) start (states_of n ns)
+  unfolding wrong_at unless
+  row_fetched (Fixed w) h l = absurd (h w refl)
+  row_fetched Own h l = rw (has_states n ns l) refl
+  row_fetched Hidden h l = rw (has_states n ns l) refl
+
+  pub row_empty : (x : Word) → ((w : ℕ) → x ≡ Fixed w → ⊥) → n ≡ 0
+      → nothing_wrong ≡ wrong_at c pc (known_cell x) start (states_of n ns)
+  unfolding wrong_at unless
+  row_empty (Fixed w) h e = absurd (h w refl)
+  row_empty Own h e = rw (no_states n ns e) refl
+  row_empty Hidden h e = rw (no_states n ns e) refl
+
+-- ---- the parts of the test
+
+pub wrong_room : (c : Claim) (ends table : List ℕ) → room_holds c ≡ false → wrong 2 0 0 ≡ wrong_with c ends table
+unfolding wrong_with or_else unless wrong
+wrong_room c ends table h = rw h refl
+
+module _ (memory kinds : List ℕ) (lowest : ℕ) (watched ends table : List ℕ) where
+  pub wrong_watched : (length watched ≡ 8 → ⊥) → wrong 1 0 0 ≡ certify_of memory kinds lowest watched ends table
+  unfolding certify_of or_else unless wrong
+  wrong_watched n = rw (ne_eqb (length watched) 8 n) refl
+
+  pub eight_watched : length watched ≡ 8 → wrong_with (claim_of memory kinds lowest watched ends table) ends table
+      ≡ certify_of memory kinds lowest watched ends table
+  unfolding certify_of or_else unless
+  eight_watched e = rw (eq-eqb (length watched) 8 e) refl

@@ -9,7 +9,7 @@ use borrow.Author.Tests.{le-leb, lt-leb, ne_eqb}
 use lib.Dec.{eqb, leb, ltb}
 use lib.ListN.{length, get_or, set, take, drop, length-take, length-drop, length-set}
 use lib.Seq.{drop-cons, drop-length, get_or-take, get_or-drop, get_or-set_same, get_or-set_other, ext_get_or}
-use Rattle.sitting.specs.Values.{Value, any, implies, value_by}
+use Rattle.sitting.specs.Values.{Value, any, is, implies, value_by}
 use Rattle.sitting.specs.Test.{Claim, Cell, fixed, own, hidden, cell_at, is_own, is_kept, all_kept}
 use Rattle.sitting.specs.Test.{sound}
 use Rattle.sitting.specs.Test.{accepts, on_entry, leads_in}
@@ -28,6 +28,13 @@ kept_by c sp [] [] e = refl
 kept_by c sp [] (v ∷ vs) e = absurd (omega arith)
 kept_by c sp (w ∷ ws) [] e = absurd (omega arith)
 kept_by c sp (w ∷ ws) (v ∷ vs) e = rw (kept_by c sp ws vs (omega arith)) refl
+
+-- ---- the stack
+
+pub sound_of : (c : Claim) (sp : ℕ) (vs : List Value) → c.lowest ≤ sp → sp ≤ 0x2FFE
+    → all_kept c sp c.watched vs ≡ sound c (is sp) vs
+unfolding sound
+sound_of c sp vs l h = rw (le-leb c.lowest sp l, le-leb sp 0x2FFE h) refl
 
 -- ---- cells
 
