@@ -5,7 +5,7 @@
 ghost use Rattle.std.specs.Prelude.{◌≡◌, ◌||◌, List};
 ghost use Rattle.machine.specs.Devices.{is_device};
 ghost use Rattle.sitting.specs.Test.{Row, cell_at, is_loadable, loaded_from, loads_at, loads_by, loads_through, is_own};
-ghost use Rattle.sitting.specs.Test.{is_free_stack, stores_at, stores_by, stores_through};
+ghost use Rattle.sitting.specs.Test.{is_free_stack, is_stack, stores_at, stores_by, stores_through};
 ghost use Rattle.claims.specs.Decoded.{known, known_state, claim_by, claim_in};
 ghost use Rattle.accesses.specs.Leads.{Leads};
 
@@ -39,12 +39,19 @@ fn loaded_from(t: &State, c: &Claim, a: u16) -> Known
     }
 }
 
+#[tactic(auto, unfolding(sitting::specs::Test::is_stack))]
+fn is_stack(lowest: u16, a: u16) -> bool
+    ensures { result ≡ is_stack lowest a }
+{
+    lowest <= a && a < 0x3000
+}
+
 // A routine may load from a: from the monitor's words, its stack, or a device register.
-#[tactic(auto, unfolding(sitting::specs::Test::is_loadable, sitting::specs::Test::is_hidden, sitting::specs::Test::is_stack))]
+#[tactic(auto, unfolding(sitting::specs::Test::is_loadable, sitting::specs::Test::is_hidden))]
 fn is_loadable(c: &Claim, a: u16) -> bool
     ensures { (rows : List Row) → result ≡ is_loadable (claim_by c.now rows) a }
 {
-    c.cell_at(a) != Cell::Hidden || (c.lowest <= a && a < 0x3000) || is_device(a)
+    c.cell_at(a) != Cell::Hidden || is_stack(c.lowest, a) || is_device(a)
 }
 
 // A load at a known address: LD, and LDR and LDI where the address is known.

@@ -15,7 +15,6 @@ use claims::{Claim, Watched};
 use findings::{Certified, Fault};
 
 // What is wrong first with a claim that watches eight words.
-#[tactic(auto, using(findings::proofs::FindingLaws::found_first, findings::proofs::FindingLaws::found_second), unfolding(findings::specs::Finding::wrong_with, findings::specs::Finding::unless))]
 fn first_fault(c: &Claim) -> Result<(), Fault>
     ensures { certified result ≡ wrong_with (claim_in c.now) c.now.ends.now c.now.table.now }
 {

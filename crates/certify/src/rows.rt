@@ -15,7 +15,7 @@ use word::Instruction;
 use word::reading::read;
 
 // The first of these states with which something is wrong.
-#[tactic(auto, using(findings::proofs::FindingLaws::states_step, findings::proofs::FindingLaws::states_end, findings::proofs::FindingLaws::found_first, findings::proofs::FindingLaws::found_second))]
+#[tactic(auto, using(findings::proofs::FindingLaws::in_row))]
 fn wrong_in_row(c: &Claim, pc: u16, i: Instruction, start: u32, end: u32) -> Result<(), Fault>
     requires { end * 17 ≤ length c.now.table.now }
     ensures { certified result ≡ wrong_in_row (claim_in c.now) pc i start
@@ -28,7 +28,7 @@ fn wrong_in_row(c: &Claim, pc: u16, i: Instruction, start: u32, end: u32) -> Res
 }
 
 // What the word of row j is: one past the monitor's is secret.
-#[tactic(auto, using(findings::proofs::Laws::cell_past), unfolding(findings::specs::Wrong::is_fixed))]
+#[tactic(auto, using(findings::proofs::Laws::cell_past,), unfolding(findings::specs::Wrong::is_fixed,),)]
 fn cell_of_row(c: &Claim, j: usize) -> Cell
     requires { length (claim_in c.now).cells ≤ 0x3000 }
     ensures cell { known_cell result ≡ cell_at (claim_in c.now).cells (0x0200 + j) }
@@ -59,7 +59,7 @@ fn wrong_at(c: &Claim, j: usize) -> Result<(), Fault>
 }
 
 // The first row with which something is wrong.
-#[tactic(auto, using(findings::proofs::FindingLaws::rows_step, findings::proofs::FindingLaws::rows_end, findings::proofs::FindingLaws::found_first, findings::proofs::FindingLaws::found_second), unfolding(claims::specs::Encoding::start_of))]
+#[tactic(auto, using(findings::proofs::FindingLaws::in_rows), unfolding(claims::specs::Encoding::start_of))]
 pub fn wrong_in_rows(c: &Claim) -> Result<(), Fault>
     requires { length (claim_in c.now).cells ≤ 0x3000 }
     ensures { certified result ≡ wrong_in_rows (claim_in c.now) c.now.table.now 0x0200 0 c.now.ends.now }

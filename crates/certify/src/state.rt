@@ -27,10 +27,14 @@ fn is_kept(c: &Claim, sp: u16, w: u16, v: Known) -> bool
 
 fn all_kept(s: &State, c: &Claim, sp: u16) -> bool
     ensures same_len { length c.now.watched.now ≡ length s.now.words }
-    ensures value { result ≡ list_all (λ p. is_kept (claim_in c.now) sp p.0 (known p.1)) (zip c.now.watched.now s.now.words) }
+    ensures value { result
+        ≡ list_all (λ p. is_kept (claim_in c.now) sp p.0 (known p.1)) (zip c.now.watched.now s.now.words) }
 {
     let watched = c.watched;
-    watched.iter().zip(&s.words).all(|(w, v)| is_kept(c, sp, *w, *v))
+    watched
+        .iter()
+        .zip(&s.words)
+        .all(|(w, v)| is_kept(c, sp, *w, *v))
 }
 
 // R6 is a known address of the stack, with the trap's two words above it.
@@ -46,7 +50,7 @@ fn is_sound(s: &State, c: &Claim) -> bool
 }
 
 // What is wrong with state k: its stack, or the instruction.
-#[tactic(auto, unfolding(findings::specs::Finding::wrong_in, findings::specs::Finding::or_else, findings::specs::Finding::unless, findings::specs::Finding::wrong))]
+#[tactic(auto, using(findings::proofs::FindingLaws::in_state))]
 pub fn wrong_in(c: &Claim, pc: u16, i: Instruction, k: u32) -> Result<(), Fault>
     requires { (k + 1) * 17 ≤ length c.now.table.now }
     ensures { certified result ≡ wrong_in (claim_in c.now) pc i k

@@ -10,12 +10,12 @@ use lib.ListN.{length, get_or, set, take, drop, length-set, length-take, length-
 use native.Mathlib.Decide.{dec_le}
 use lib.Seq.{drop-drop, take-length, get_or-set_same, get_or-set_other}
 use Rattle.machine.proofs.Tests.{and_false}
-use Rattle.std.specs.Prelude.{Option, Some, None, nat_eq}
+use Rattle.std.specs.Prelude.{Some, None, nat_eq}
 use Rattle.std.specs.List.{list_all, zip, position, position_from}
 use Rattle.std.proofs.lemmas.List.Quantifiers.{position-Some}
 use Rattle.std.proofs.lemmas.Iterator.Adapters.{position_from-zero}
-use Rattle.sitting.specs.Values.{Value, any, forget, implies, all_imply}
-use Rattle.sitting.specs.Test.{State, Row, Claim, hidden, cell_at, covers, one_covers, held, stored_in, accepts}
+use Rattle.sitting.specs.Values.{Value, any, forget, implies, all_imply, taking, besides, all_besides}
+use Rattle.sitting.specs.Test.{State, Claim, put, hidden, cell_at, covers, one_covers, held, stored_in, accepts}
 use Rattle.claims.specs.Encoding.{cell_of, cells_of, value_of, values_of, state_of, states_of, row_of, rows_of}
 use Rattle.claims.specs.Encoding.{start_of}
 use Rattle.claims.specs.Decoded.{known, known_state}
@@ -255,3 +255,8 @@ pub no_kind : (w : ℕ) → hidden ≡ cell_of 0 w
 unfolding cell_of
 no_kind w = refl
 
+-- R6 takes a value: what is known of the codes and of watched words stays.
+pub put_six : (v : Value) (σ : State)
+    → put 6 v σ ≡ record { regs = taking 6 v σ.regs; codes = σ.codes; words = σ.words }
+unfolding put besides all_besides
+put_six v σ = refl

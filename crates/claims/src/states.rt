@@ -43,7 +43,10 @@ fn say_all(values: &[Known; 8], numbers: &[u32]) -> bool
     requires { length numbers.now ≡ 8 }
     ensures { result ≡ list_all (λ p. implies (known p.0) (value_of p.1)) (zip values.now numbers.now) }
 {
-    values.iter().zip(numbers).all(|(v, n)| v.says_all(Known::from(*n)))
+    values
+        .iter()
+        .zip(numbers)
+        .all(|(v, n)| v.says_all(Known::from(*n)))
 }
 
 fn forgotten(values: [Known; 8]) -> [Known; 8]

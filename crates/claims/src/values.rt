@@ -38,7 +38,6 @@ impl From<u32> for Known {
 
 impl Known {
     // The first value says all that the second says.
-    #[tactic(auto, unfolding(sitting::specs::Values::implies, sitting::specs::Values::same, sitting::specs::Values::kind_of, sitting::specs::Values::number_of))]
     pub fn says_all(self, w: Known) -> bool
         ensures { result ≡ implies (known self) (known w) }
     {

@@ -2,31 +2,27 @@
 use Prim.Native.Nat.{ℕ, zero, suc, ◌+◌, ◌-◌, ◌*◌, ◌≤◌, ◌<◌}
 use native.Mathlib.Omega.{arith}
 use native.Mathlib.Decide.{dec_le}
-use mathlib.Core.Path.{◌≡◌, refl, sym, ap, ◌∙◌}
-use mathlib.Core.Bool.{Bool, true, false}
+use mathlib.Core.Path.{◌≡◌, refl, ap, ◌∙◌}
+use mathlib.Core.Bool.{true, false}
 use mathlib.Core.List.{List, [], ◌∷◌}
 use borrow.Author.Tests.{eq-eqb, ne_eqb}
-use lib.Dec.{eqb}
 use lib.ListN.{length, get_or, take, drop}
 use lib.Seq.{drop-cons, drop-drop}
-use Rattle.word.specs.Reading.{read_of}
 use Rattle.word.specs.declared.Instruction.{Instruction}
-use Rattle.sitting.specs.Test.{Claim, State, Row, Cell, own, hidden, cell_at, value_in, sound, harmless, is_empty}
-use Rattle.machine.specs.Interrupts.{keyboard_vector, timer_vector}
-use Rattle.sitting.specs.Test.{leads_in, leads_back, room_holds}
-use Rattle.claims.specs.Encoding.{cell_of, state_of, states_of, row_of, start_of, claim_of}
+use Rattle.sitting.specs.Test.{Claim, State, cell_at, value_in, sound, harmless, is_empty}
+use Rattle.sitting.specs.Test.{leads_in, room_holds}
+use Rattle.claims.specs.Encoding.{state_of, states_of, row_of, start_of, claim_of}
 use Rattle.claims.specs.Decoded.{known_cell}
 use Rattle.claims.specs.declared.cells.Cell.{Cell as Word}
 use Rattle.claims.specs.declared.cells.Cell.TheVariants.{Fixed, Own, Hidden}
-use Rattle.claims.proofs.ValueLaws.{by_test}
 use Rattle.claims.proofs.StateLaws.{start_is}
 use Rattle.findings.specs.declared.Certified.{Certified}
 use Rattle.findings.specs.declared.Fault.{Fault}
 use Rattle.findings.specs.declared.Fault.TheVariants.{NotEightWatched, NoRoom, NoEntry, NoReturn, NotFixed, NotSound}
 use Rattle.findings.specs.declared.Fault.TheVariants.{NotHarmless}
 use Rattle.findings.specs.Found.{finding_of}
-use Rattle.findings.specs.Finding.{nothing_wrong, wrong, unless, or_else, wrong_vector, wrong_interrupt, wrong_in}
-use Rattle.findings.specs.Finding.{wrong_vectors, wrong_in_row, wrong_at, wrong_in_rows, wrong_with, certify_of}
+use Rattle.findings.specs.Finding.{nothing_wrong, wrong, unless, or_else, wrong_vector, wrong_in}
+use Rattle.findings.specs.Finding.{wrong_in_row, wrong_at, wrong_in_rows, wrong_with, certify_of}
 
 -- ---- two answers
 
@@ -43,6 +39,8 @@ found_first (NotHarmless a k) f = refl
 pub found_second : (f : Certified) → or_else nothing_wrong f ≡ f
 unfolding or_else
 found_second f = refl
+
+pub ruleset found = (found_first, found_second)
 
 -- ---- vectors
 
@@ -80,6 +78,26 @@ module _ (c : Claim) (pc : ℕ) (i : Instruction) (table : List ℕ) where
   unfolding wrong_in_row states_of
   states_end k n ns e = rw e refl
 
+-- Of a state: its stack is not known, or the instruction is not harmless, or neither.
+module _ (c : Claim) (pc : ℕ) (i : Instruction) (k : ℕ) (σ : State) where
+  pub wrong_stack : sound c (value_in σ.regs 6) σ.words ≡ false → wrong 6 pc k ≡ wrong_in c pc i k σ
+  unfolding wrong_in or_else unless wrong
+  wrong_stack h = rw h refl
+
+  pub wrong_instruction : sound c (value_in σ.regs 6) σ.words ≡ true → harmless c pc i σ ≡ false
+      → wrong 7 pc k ≡ wrong_in c pc i k σ
+  unfolding wrong_in or_else unless
+  wrong_instruction h e = rw (h, e) refl
+
+  pub state_holds : sound c (value_in σ.regs 6) σ.words ≡ true → harmless c pc i σ ≡ true
+      → nothing_wrong ≡ wrong_in c pc i k σ
+  unfolding wrong_in or_else unless
+  state_holds h e = rw (h, e) refl
+
+pub ruleset in_state = (wrong_stack, wrong_instruction, state_holds)
+
+pub ruleset in_row = (states_step, states_end, found_first, found_second)
+
 has_states : (n : ℕ) (ns : List ℕ) → 0 < n → is_empty (states_of n ns) ≡ false
 unfolding is_empty states_of
 has_states zero ns l = absurd (omega arith)
@@ -114,6 +132,8 @@ rows_end c table ends pc start j l = rw (past ends j l) refl
     past [] (suc n) h = refl
     past (x ∷ xs) zero h = absurd (omega arith)
     past (x ∷ xs) (suc n) h = past xs n (omega arith)
+
+pub ruleset in_rows = (rows_step, rows_end, found_first, found_second)
 
 -- A word that is not fixed, with states and without.
 module _ (c : Claim) (pc start n : ℕ) (ns : List ℕ) where

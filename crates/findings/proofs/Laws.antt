@@ -1,20 +1,14 @@
 -- Laws of the test: watched words, states, rows, vectors, room.
-use Prim.Native.Nat.{ℕ, zero, suc, ◌+◌, ◌-◌, ◌/◌, ◌%◌, ◌≤◌, ◌<◌, min}
+use Prim.Native.Nat.{ℕ, zero, suc, ◌≤◌, min}
 use native.Mathlib.Omega.{arith}
-use native.Mathlib.Decide.{dec_le}
-use mathlib.Core.Path.{◌≡◌, refl, sym, ap, ◌∙◌}
-use mathlib.Core.Bool.{true, false, ◌&&◌, false≢true}
+use mathlib.Core.Path.{◌≡◌, refl}
 use mathlib.Core.List.{List, [], ◌∷◌, map}
-use borrow.Author.Tests.{le-leb, lt-leb, ne_eqb}
-use lib.Dec.{eqb, leb, ltb}
-use lib.ListN.{length, get_or, set, take, drop, length-take, length-drop, length-set}
-use lib.Seq.{drop-cons, drop-length, get_or-take, get_or-drop, get_or-set_same, get_or-set_other, ext_get_or}
-use Rattle.sitting.specs.Values.{Value, any, is, implies, value_by}
-use Rattle.sitting.specs.Test.{Claim, Cell, fixed, own, hidden, cell_at, is_own, is_kept, all_kept}
+use borrow.Author.Tests.{le-leb}
+use lib.ListN.{length}
+use Rattle.sitting.specs.Values.{Value, is}
+use Rattle.sitting.specs.Test.{Claim, Cell, cell_at, is_kept, all_kept}
 use Rattle.sitting.specs.Test.{sound}
-use Rattle.sitting.specs.Test.{accepts, on_entry, leads_in}
-use Rattle.sitting.specs.Test.{is_return, leads_back, room_holds}
-use Rattle.claims.specs.Encoding.{cell_of, cells_of, value_of, values_of, state_of}
+use Rattle.claims.specs.Encoding.{cell_of, cells_of}
 use Rattle.claims.specs.Decoded.{known}
 use Rattle.claims.specs.declared.values.Known.{Known}
 use Rattle.std.specs.List.{list_all, zip}

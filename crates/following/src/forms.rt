@@ -1,5 +1,5 @@
 // Each form of instruction, by its mnemonic: what it leads to.
-#![tactic(auto, unfolding(sitting::specs::Test::harmless, sitting::specs::Test::is_first, ways::specs::Ways::way_holds))]
+#![tactic(auto, unfolding(sitting::specs::Test::harmless, sitting::specs::Test::is_first))]
 
 ghost use Rattle.std.specs.Prelude.{◌≡◌, ℕ};
 ghost use Rattle.word.specs.declared.Instruction.TheVariants.{AddRegister, AddImmediate, Ld, St, Jsr, Jsrr};
@@ -39,49 +39,56 @@ fn puts(t: &mut State, r: u8, a: u16, to: u16) -> u16
 }
 
 pub fn add_register(t: &mut State, pc: u16, d: u8, a: u8, b: u8) -> u16
-    ensures { (c : Test) → accepts c result (known_state t.new) ≡ harmless c pc (AddRegister d a b) (known_state t.old) }
+    ensures { (c : Test) → accepts c result (known_state t.new)
+        ≡ harmless c pc (AddRegister d a b) (known_state t.old) }
 {
     let v = t.register(a).sum_of(a % 8 == 0, t.register(b));
     moves(t, pc, d, v)
 }
 
 pub fn add_immediate(t: &mut State, pc: u16, d: u8, a: u8, o: i16) -> u16
-    ensures { (c : Test) → accepts c result (known_state t.new) ≡ harmless c pc (AddImmediate d a o) (known_state t.old) }
+    ensures { (c : Test) → accepts c result (known_state t.new)
+        ≡ harmless c pc (AddImmediate d a o) (known_state t.old) }
 {
     let v = t.register(a).sum_with(a % 8 == 0, word_of(o));
     moves(t, pc, d, v)
 }
 
 pub fn and_register(t: &mut State, pc: u16, d: u8, a: u8, b: u8) -> u16
-    ensures { (c : Test) → accepts c result (known_state t.new) ≡ harmless c pc (AndRegister d a b) (known_state t.old) }
+    ensures { (c : Test) → accepts c result (known_state t.new)
+        ≡ harmless c pc (AndRegister d a b) (known_state t.old) }
 {
     let v = t.register(a).and_of(t.register(b));
     moves(t, pc, d, v)
 }
 
 pub fn and_immediate(t: &mut State, pc: u16, d: u8, a: u8, o: i16) -> u16
-    ensures { (c : Test) → accepts c result (known_state t.new) ≡ harmless c pc (AndImmediate d a o) (known_state t.old) }
+    ensures { (c : Test) → accepts c result (known_state t.new)
+        ≡ harmless c pc (AndImmediate d a o) (known_state t.old) }
 {
     let v = t.register(a).and_with(word_of(o));
     moves(t, pc, d, v)
 }
 
 pub fn not(t: &mut State, pc: u16, d: u8, a: u8) -> u16
-    ensures { (c : Test) → accepts c result (known_state t.new) ≡ harmless c pc (Not d a) (known_state t.old) }
+    ensures { (c : Test) → accepts c result (known_state t.new)
+        ≡ harmless c pc (Not d a) (known_state t.old) }
 {
     let v = t.register(a).not_of();
     moves(t, pc, d, v)
 }
 
 pub fn lea(t: &mut State, pc: u16, d: u8, o: i16) -> u16
-    ensures { (c : Test) → accepts c result (known_state t.new) ≡ harmless c pc (Lea d o) (known_state t.old) }
+    ensures { (c : Test) → accepts c result (known_state t.new)
+        ≡ harmless c pc (Lea d o) (known_state t.old) }
 {
     let n = next(pc);
     puts(t, d, offset(n, o), n)
 }
 
 pub fn jsr(t: &mut State, pc: u16, o: i16) -> u16
-    ensures { (c : Test) → accepts c result (known_state t.new) ≡ harmless c pc (Jsr o) (known_state t.old) }
+    ensures { (c : Test) → accepts c result (known_state t.new)
+        ≡ harmless c pc (Jsr o) (known_state t.old) }
 {
     let n = next(pc);
     puts(t, 7, n, offset(n, o))
@@ -141,6 +148,7 @@ pub fn jmp(t: &State, b: u8) -> Option<u16>
     target_of(t.register(b))
 }
 
+#[tactic(auto, unfolding(sitting::specs::Test::harmless, ways::specs::Ways::way_holds))]
 pub fn br(pc: u16, mask: u8, o: i16) -> Way
     ensures { (c : Test) (σ : Tested) → way_holds c result σ ≡ harmless c pc (Br mask o) σ }
 {

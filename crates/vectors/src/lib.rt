@@ -7,10 +7,10 @@ ghost use Rattle.claims.specs.Decoded.{known_state, claim_in};
 ghost use Rattle.findings.specs.Finding.{wrong_vector, wrong_interrupt, wrong_vectors};
 ghost use Rattle.findings.specs.Found.{certified};
 
-use claims::{Claim, Watched};
 use claims::cells::Cell;
 use claims::states::State;
 use claims::values::Known;
+use claims::{Claim, Watched};
 use findings::Fault;
 use machine::addresses::{KEYBOARD_VECTOR, TIMER_VECTOR};
 
@@ -68,7 +68,7 @@ fn leads_back(c: &Claim, a: u16) -> bool
     }
 }
 
-#[tactic(auto, unfolding(findings::specs::Finding::wrong_interrupt, findings::specs::Finding::unless))]
+#[tactic(auto, unfolding(findings::specs::Finding::wrong_interrupt, findings::specs::Finding::unless,),)]
 fn wrong_interrupt(c: &Claim, a: u16) -> Result<(), Fault>
     ensures { certified result ≡ wrong_interrupt (claim_in c.now) a }
 {
@@ -79,7 +79,7 @@ fn wrong_interrupt(c: &Claim, a: u16) -> Result<(), Fault>
 }
 
 // The first vector with which something is wrong: of traps and exceptions, of the keyboard, of the timer.
-#[tactic(auto, using(findings::proofs::FindingLaws::found_first, findings::proofs::FindingLaws::found_second), unfolding(findings::specs::Finding::wrong_vectors))]
+#[tactic(auto, using(findings::proofs::FindingLaws::found), unfolding(findings::specs::Finding::wrong_vectors))]
 pub fn wrong_vectors(c: &Claim) -> Result<(), Fault>
     ensures { certified result ≡ wrong_vectors (claim_in c.now) }
 {
@@ -89,7 +89,7 @@ pub fn wrong_vectors(c: &Claim) -> Result<(), Fault>
 }
 
 // Four words for interrupts lie between the monitor's words and its stack, which has room for a trap's two.
-#[tactic(auto, using(findings::proofs::Laws::length_cells), unfolding(sitting::specs::Test::room_holds))]
+#[tactic(auto, using(findings::proofs::Laws::length_cells,), unfolding(sitting::specs::Test::room_holds,),)]
 pub fn has_room(c: &Claim) -> bool
     ensures by_index { result ≡ room_holds (claim_in c.now) }
     ensures memory_len_bound { result ≡ true → length (claim_in c.now).cells ≤ 0x3000 }

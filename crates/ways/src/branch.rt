@@ -80,7 +80,7 @@ fn branches_on_low(s: &State, c: &Claim, mask: u8, there: u16, here: u16) -> boo
 }
 
 // Where R0 is an address of User mode's, or nothing more is known of it.
-#[tactic(auto, using(claims::proofs::StateLaws::known_set), unfolding(sitting::specs::Test::refined_if))]
+#[tactic(auto, using(claims::proofs::StateLaws::known_set,), unfolding(sitting::specs::Test::refined_if,),)]
 fn accepts_refined(s: &State, c: &Claim, b: bool, pc: u16) -> bool
     ensures { result ≡ accepts (claim_in c.now) pc (refined_if b (known_state s.now)) }
 {
@@ -104,7 +104,11 @@ fn branches_on_sum(s: &State, c: &Claim, n: u16, mask: u8, there: u16, here: u16
 fn leads_by(mask: u8, codes: u16, there: u16, here: u16) -> u16
     ensures { result ≡ cond (not (eqb (word_and mask codes) 0)) there here }
 {
-    if bit_and(u16::from(mask), codes) != 0 { there } else { here }
+    if bit_and(u16::from(mask), codes) != 0 {
+        there
+    } else {
+        here
+    }
 }
 
 // A branch with this mask: the addresses where it is taken and where it is not.

@@ -26,7 +26,7 @@ pub fn target_of(v: Known) -> Option<u16>
 }
 
 // TRAP in a routine pushes the PSR, which is less than x8000, and Next.
-#[tactic(auto, unfolding(sitting::specs::Test::put, sitting::specs::Values::besides, sitting::specs::Values::all_besides))]
+#[tactic(auto, using(claims::proofs::StateLaws::put_six))]
 fn push_two(t: &mut State, watched: &Watched, pc: u16, sp: u16)
     requires { 2 ≤ sp }
     ensures { known_state t.new ≡ pushed watched.now pc sp (known_state t.old) }
@@ -36,7 +36,7 @@ fn push_two(t: &mut State, watched: &Watched, pc: u16, sp: u16)
     t.put_in(6, Known::Is(sp - 2));
 }
 
-#[tactic(auto, unfolding(sitting::specs::Test::calls_by, sitting::specs::Test::calls_from, sitting::specs::Test::calling))]
+#[tactic(auto, using(crate::proofs::JumpLaws::called), unfolding(sitting::specs::Test::calls_from))]
 pub fn calls_by(t: &mut State, c: &Claim, pc: u16, vector: u16) -> Option<u16>
     ensures { Leads (claim_by c.now) result (known_state t.new)
         (λ c. calls_by c pc (cell_at c.cells vector) (known_state t.old)) }
@@ -55,7 +55,6 @@ pub fn calls_by(t: &mut State, c: &Claim, pc: u16, vector: u16) -> Option<u16>
 }
 
 // RTI: to User mode, where R6 is x2FFE; or back to a routine, where the two words on the stack are known.
-#[tactic(auto, unfolding(sitting::specs::Test::returns_by, sitting::specs::Test::returning, sitting::specs::Test::put, sitting::specs::Values::besides, sitting::specs::Values::all_besides, sitting::specs::Values::number_of, sitting::specs::Values::same, sitting::specs::Values::kind_of, crate::specs::Ways::way_holds))]
 pub fn returns_to(t: &mut State, c: &Claim) -> Option<Way>
     requires { number_of (value_in (known_state t.old).regs 6) ≤ 0x2FFE }
     ensures { Goes (claim_by c.now) result (known_state t.new)

@@ -1,5 +1,5 @@
 -- `certify::rows::wrong_at` meets its contract.
-use Rattle.std.proofs.Common.{◌≡◌, ◌<◌, refl, ◌∙◌, arith}
+use Rattle.std.proofs.Common.{arith}
 use Rattle.claims.specs.Decoded.{claim_in}
 use Rattle.findings.specs.Finding.{wrong_at}
 use Rattle.findings.proofs.FindingLaws.{row_fetched, row_empty}

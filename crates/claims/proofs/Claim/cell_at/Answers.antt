@@ -1,5 +1,5 @@
 -- `claims::Claim::cell_at` meets its contract.
-use Rattle.std.proofs.Common.{◌≡◌, refl, arith, sym, ◌∙◌}
+use Rattle.std.proofs.Common.{refl, arith, sym}
 use borrow.Author.Tests.{ne_eqb}
 use lib.ListN.{get_or}
 use Rattle.claims.specs.Encoding.{cell_of}

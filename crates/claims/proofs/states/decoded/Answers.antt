@@ -1,9 +1,6 @@
 -- `claims::states::decoded` meets its contract.
 use borrow.Author.Rules.{rules}
-use Rattle.std.proofs.Common.{◌≡◌, ℕ, ◌<◌, length, arith}
-use lib.ListN.{get_or}
-use Rattle.claims.specs.Encoding.{value_of}
-use Rattle.claims.specs.Decoded.{known}
+use Rattle.std.proofs.Common.{◌≡◌, arith}
 use Rattle.claims.specs.declared.values.Known.TheVariants.{Unset}
 use Rattle.claims.proofs.StateLaws.{values_decoded}
 use Rattle.claims.proofs.states.decoded.Goals as goal

@@ -1,6 +1,6 @@
 -- `claims::states::forgotten` meets its contract.
 use borrow.Author.Rules.{rules}
-use Rattle.std.proofs.Common.{◌≡◌, ℕ, ◌<◌, length, arith}
+use Rattle.std.proofs.Common.{arith}
 use Rattle.claims.specs.declared.values.Known.TheVariants.{Unset}
 use Rattle.claims.proofs.StateLaws.{values_forgotten}
 use Rattle.claims.proofs.states.forgotten.Goals as goal

@@ -6,4 +6,5 @@ use Rattle.claims.proofs.states.StateFromRefArrayU3217.from.Goals as goal
 
 pub returns : goal.returns
 unfolding state_of
-returns c = rw (c.decoded.ensures, c.from.ensures, c.decoded-2.ensures, last_words c.args.numbers.now (omega arith)) refl
+returns c =
+    rw (c.decoded.ensures, c.from.ensures, c.decoded-2.ensures, last_words c.args.numbers.now (omega arith)) refl

@@ -1,0 +1,2 @@
+-- Laws of TRAP in a routine.
+pub mod JumpLaws
