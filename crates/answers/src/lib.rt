@@ -76,6 +76,7 @@ impl From<Answer> for Lc3Answer {
 
 // What a call answers that is turned down: the record as handed in, and zero counts. It is made by itself, so that the
 // compiler need not bring it together with the answer of a run.
+#[tactic(auto, unfolding(run::specs::Run::begin, run::specs::Run::ended_by))]
 pub fn refused(m: Machine, refusal: Refusal) -> Lc3Answer
     ensures { (memory times bytes output : List ℕ) → answered result memory output
         ≡ answer_of (ended_by (Refused refusal) (begin (start_of m memory times bytes output))) }
