@@ -5,6 +5,7 @@
 ghost use Rattle.std.specs.Prelude.{◌≡◌, List, ℕ, ◌-◌};
 ghost use Rattle.machine.specs.Record.{whole, with_devices, set_keyboard, set_mcr, set_busy, set_timer};
 ghost use Rattle.machine.specs.Record.{fresh_devices, zero_devices};
+ghost use Rattle.machine.specs.Rules.{rule_number};
 
 pub mod addresses;
 
@@ -89,6 +90,23 @@ pub enum Rule {
     Access,
     Keyboard,
     Timer,
+}
+
+// The reason of a log.
+impl From<Rule> for u16 {
+    ghost from_gives = { λ rule reason. reason ≡ rule_number rule };
+
+    fn from(rule: Rule) -> u16 {
+        match rule {
+            Rule::Instruction => 0,
+            Rule::Trap => 1,
+            Rule::Privilege => 2,
+            Rule::Illegal => 3,
+            Rule::Access => 4,
+            Rule::Keyboard => 5,
+            Rule::Timer => 6,
+        }
+    }
 }
 
 // A count that falls by so many, until 0.
