@@ -72,9 +72,10 @@ pub fn interrupt_rule(vector: u16) -> Rule
     ensures { result ≡ interrupt_rule vector }
 {
     if vector == TIMER_VECTOR {
-        return Rule::Timer;
+        Rule::Timer
+    } else {
+        Rule::Keyboard
     }
-    Rule::Keyboard
 }
 
 // An interrupt pushes PC, and its priority replaces the PSR's.
