@@ -1,269 +1,145 @@
 // What a load or a store of a monitor leads to, from what is known before it (crates/sitting/specs/Test.antt). Each
-// function answers an address: 0 where the instruction may not be obeyed, since no table accepts anything there.
+// function answers an address, or none where the instruction may not be obeyed.
 #![tactic(auto)]
 
-ghost use Rattle.std.specs.Prelude.{◌≡◌, ◌||◌, List, ℕ, length, ℤ};
-ghost use Rattle.word.specs.Field.{bits};
+ghost use Rattle.std.specs.Prelude.{◌≡◌, ◌||◌, List};
 ghost use Rattle.machine.specs.Devices.{is_device};
 ghost use Rattle.sitting.specs.Test.{Row, cell_at, is_loadable, loaded_from, loads_at, loads_by, loads_through, is_own};
-ghost use Rattle.sitting.specs.Test.{is_free_stack, stores_at, stores_by, stores_through};
-ghost use Rattle.claims.specs.Encoding.{cells_of, value_of, state_of, claim_with};
+ghost use Rattle.sitting.specs.Test.{is_free_stack, is_stack, stores_at, stores_by, stores_through};
+ghost use Rattle.claims.specs.Decoded.{known, known_state, claim_by, claim_in};
 ghost use Rattle.accesses.specs.Leads.{Leads};
 
-use claims::cells::{kind_at, word_at};
-use claims::states::{move_to, remember_at, watched_at};
-use claims::values::{low_word, wide};
+use claims::Claim;
+use claims::cells::Cell;
+use claims::states::State;
+use claims::values::Known;
 use machine::addresses::{DDR, DSR, KBDR, KBSR, MCR, PSR, TIR, TSR};
 use step_parts::words::next;
+use word::fields::{offset, word_of};
 
+#[tactic(auto, unfolding(machine::specs::Devices::is_device_by))]
 fn is_device(a: u16) -> bool
     ensures { result ≡ is_device a }
 {
-    if a == KBSR {
-        return true;
-    }
-    if a == KBDR {
-        return true;
-    }
-    if a == DSR {
-        return true;
-    }
-    if a == DDR {
-        return true;
-    }
-    if a == TSR {
-        return true;
-    }
-    if a == TIR {
-        return true;
-    }
-    if a == PSR {
-        return true;
-    }
-    a == MCR
+    matches!(a, KBSR | KBDR | DSR | DDR | TSR | TIR | PSR | MCR)
 }
 
 // What a load at a gives.
-fn loaded_from(t: &[u32], memory: &[u16], kinds: &[u8], watched: &[u16], a: u16) -> u32
-    requires t_len { length t.now ≡ 17 }
-    requires watched_len { length watched.now ≡ 8 }
-    ensures { (lowest : ℕ) (rows : List Row) → value_of result
-        ≡ loaded_from (claim_with memory.now kinds.now lowest watched.now rows) a
-        (state_of t.now) }
+#[tactic(auto, unfolding(sitting::specs::Test::loaded_from, sitting::specs::Test::from_cell))]
+fn loaded_from(t: &State, c: &Claim, a: u16) -> Known
+    ensures { (rows : List Row) → known result ≡ loaded_from (claim_by c.now rows) a (known_state t.now) }
 {
     if is_device(a) {
-        return 65536;
+        return Known::Any;
     }
-    let k = kind_at(memory, kinds, a);
-    if k == 1 {
-        return 131072 + wide(word_at(memory, a));
+    match c.cell_at(a) {
+        Cell::Fixed(w) => Known::Is(w),
+        Cell::Hidden if a == 0x2FFF => Known::High,
+        _ => t.watched_at(c.watched, a),
     }
-    let at = a as usize;
-    if k == 2 {
-        return watched_at(t, watched, at);
-    }
-    if at == 0x2FFF {
-        return 196608;
-    }
-    watched_at(t, watched, at)
+}
+
+#[tactic(auto, unfolding(sitting::specs::Test::is_stack))]
+fn is_stack(lowest: u16, a: u16) -> bool
+    ensures { result ≡ is_stack lowest a }
+{
+    lowest <= a && a < 0x3000
 }
 
 // A routine may load from a: from the monitor's words, its stack, or a device register.
-fn is_loadable(memory: &[u16], kinds: &[u8], lowest: u16, a: u16) -> bool
-    ensures { (watched : List ℕ) (rows : List Row) → result
-        ≡ is_loadable (claim_with memory.now kinds.now lowest watched rows) a }
+#[tactic(auto, unfolding(sitting::specs::Test::is_loadable, sitting::specs::Test::is_hidden))]
+fn is_loadable(c: &Claim, a: u16) -> bool
+    ensures { (rows : List Row) → result ≡ is_loadable (claim_by c.now rows) a }
 {
-    let k = kind_at(memory, kinds, a);
-    if k == 1 {
-        return true;
-    }
-    if k == 2 {
-        return true;
-    }
-    if a < lowest {
-        return is_device(a);
-    }
-    if a < 0x3000 {
-        return true;
-    }
-    is_device(a)
+    c.cell_at(a) != Cell::Hidden || is_stack(c.lowest, a) || is_device(a)
 }
 
 // A load at a known address: LD, and LDR and LDI where the address is known.
-pub fn loads_at(
-    t: &mut [u32],
-    memory: &[u16],
-    kinds: &[u8],
-    lowest: u16,
-    watched: &[u16],
-    pc: u16,
-    r: u8,
-    a: u16,
-) -> u16
-    requires t_len { length t.old ≡ 17 }
-    requires watched_len { length watched.now ≡ 8 }
-    ensures { Leads (claim_with memory.now kinds.now lowest watched.now)
-        result (state_of t.new) (λ c. loads_at c pc r a (state_of t.old)) }
+#[tactic(auto, unfolding(sitting::specs::Test::loads_at))]
+pub fn loads_at(t: &mut State, c: &Claim, pc: u16, r: u8, a: u16) -> Option<u16>
+    ensures { Leads (claim_by c.now) result (known_state t.new) (λ c. loads_at c pc r a (known_state t.old)) }
 {
-    if !is_loadable(memory, kinds, lowest, a) {
-        return 0;
+    if !is_loadable(c, a) {
+        return None;
     }
-    let v = loaded_from(t, memory, kinds, watched, a);
-    move_to(t, r, v);
-    next(pc)
+    let v = loaded_from(t, c, a);
+    t.move_to(r, v);
+    Some(next(pc))
 }
 
 // LDR: at a base register and an offset.
-pub fn loads_by(
-    t: &mut [u32],
-    memory: &[u16],
-    kinds: &[u8],
-    lowest: u16,
-    watched: &[u16],
-    pc: u16,
-    r: u8,
-    b: u32,
-    n: i16,
-) -> u16
-    requires t_len { length t.old ≡ 17 }
-    requires watched_len { length watched.now ≡ 8 }
-    ensures { Leads (claim_with memory.now kinds.now lowest watched.now)
-        result (state_of t.new) (λ c. loads_by c (value_of b) pc r n (state_of t.old)) }
+#[tactic(auto, unfolding(sitting::specs::Test::loads_by))]
+pub fn loads_by(t: &mut State, c: &Claim, pc: u16, r: u8, b: Known, n: i16) -> Option<u16>
+    ensures { Leads (claim_by c.now) result (known_state t.new)
+        (λ c. loads_by c (known b) pc r n (known_state t.old)) }
 {
-    let k = b / 65536;
-    if k == 2 {
-        let a = word::fields::offset(low_word(b), n);
-        return loads_at(t, memory, kinds, lowest, watched, pc, r, a);
+    match b {
+        Known::Is(b) => loads_at(t, c, pc, r, offset(b, n)),
+        Known::Allowed if word_of(n) == 0 => {
+            t.move_to(r, Known::Any);
+            Some(next(pc))
+        }
+        _ => None,
     }
-    if k < 6 {
-        return 0;
-    }
-    if word::fields::word_of(n) != 0 {
-        return 0;
-    }
-    move_to(t, r, 65536);
-    next(pc)
 }
 
 // LDI: the pointer is a word that never changes.
-pub fn loads_through(
-    t: &mut [u32],
-    memory: &[u16],
-    kinds: &[u8],
-    lowest: u16,
-    watched: &[u16],
-    pc: u16,
-    r: u8,
-    a: u16,
-) -> u16
-    requires t_len { length t.old ≡ 17 }
-    requires watched_len { length watched.now ≡ 8 }
-    ensures { Leads (claim_with memory.now kinds.now lowest watched.now)
-        result (state_of t.new)
-        (λ c. loads_through c pc r (cell_at c.cells a) (state_of t.old)) }
+#[tactic(auto, unfolding(sitting::specs::Test::loads_through))]
+pub fn loads_through(t: &mut State, c: &Claim, pc: u16, r: u8, a: u16) -> Option<u16>
+    ensures { Leads (claim_by c.now) result (known_state t.new)
+        (λ c. loads_through c pc r (cell_at c.cells a) (known_state t.old)) }
 {
-    if kind_at(memory, kinds, a) != 1 {
-        return 0;
+    match c.cell_at(a) {
+        Cell::Fixed(pointer) => loads_at(t, c, pc, r, pointer),
+        _ => None,
     }
-    let pointer = word_at(memory, a);
-    loads_at(t, memory, kinds, lowest, watched, pc, r, pointer)
 }
 
 // A routine may store to a: to the monitor's own words, or the stack below the caller's PSR.
-fn is_storable(memory: &[u16], kinds: &[u8], lowest: u16, a: u16) -> bool
-    ensures { result ≡ is_own (cell_at (cells_of kinds.now memory.now) a)
-        || is_free_stack lowest a }
+#[tactic(auto, unfolding(sitting::specs::Test::is_own, sitting::specs::Test::is_free_stack))]
+fn is_storable(c: &Claim, a: u16) -> bool
+    ensures { result ≡ is_own (cell_at (claim_in c.now).cells a) || is_free_stack c.now.lowest a }
 {
-    if kind_at(memory, kinds, a) == 2 {
-        return true;
-    }
-    if a < lowest {
-        return false;
-    }
-    a < 0x2FFF
+    c.cell_at(a) == Cell::Own || (c.lowest <= a && a < 0x2FFF)
 }
 
 // A store at a known address: ST, and STR and STI where the address is known.
-pub fn stores_at(
-    t: &mut [u32],
-    memory: &[u16],
-    kinds: &[u8],
-    lowest: u16,
-    watched: &[u16],
-    pc: u16,
-    v: u32,
-    a: u16,
-) -> u16
-    requires t_len { length t.old ≡ 17 }
-    requires watched_len { length watched.now ≡ 8 }
-    ensures { Leads (claim_with memory.now kinds.now lowest watched.now)
-        result (state_of t.new) (λ c. stores_at c pc (value_of v) a (state_of t.old)) }
+#[tactic(auto, unfolding(sitting::specs::Test::stores_at, sitting::specs::Test::remember))]
+pub fn stores_at(t: &mut State, c: &Claim, pc: u16, v: Known, a: u16) -> Option<u16>
+    ensures { Leads (claim_by c.now) result (known_state t.new)
+        (λ c. stores_at c pc (known v) a (known_state t.old)) }
 {
-    if a == DDR {
-        return next(pc);
+    if a == DDR || a == MCR {
+        return Some(next(pc));
     }
-    if a == MCR {
-        return next(pc);
+    if !is_storable(c, a) {
+        return None;
     }
-    if !is_storable(memory, kinds, lowest, a) {
-        return 0;
-    }
-    remember_at(t, watched, a, v);
-    next(pc)
+    t.remember_at(c.watched, a, v);
+    Some(next(pc))
 }
 
 // STR: at a base register and an offset.
-pub fn stores_by(
-    t: &mut [u32],
-    memory: &[u16],
-    kinds: &[u8],
-    lowest: u16,
-    watched: &[u16],
-    pc: u16,
-    b: u32,
-    v: u32,
-    n: i16,
-) -> u16
-    requires t_len { length t.old ≡ 17 }
-    requires watched_len { length watched.now ≡ 8 }
-    ensures { Leads (claim_with memory.now kinds.now lowest watched.now)
-        result (state_of t.new)
-        (λ c. stores_by c (value_of b) pc (value_of v) n (state_of t.old)) }
+#[tactic(auto, unfolding(sitting::specs::Test::stores_by))]
+pub fn stores_by(t: &mut State, c: &Claim, pc: u16, b: Known, v: Known, n: i16) -> Option<u16>
+    ensures { Leads (claim_by c.now) result (known_state t.new)
+        (λ c. stores_by c (known b) pc (known v) n (known_state t.old)) }
 {
-    let k = b / 65536;
-    if k == 2 {
-        let a = word::fields::offset(low_word(b), n);
-        return stores_at(t, memory, kinds, lowest, watched, pc, v, a);
+    match b {
+        Known::Is(b) => stores_at(t, c, pc, v, offset(b, n)),
+        Known::Allowed if word_of(n) == 0 => Some(next(pc)),
+        _ => None,
     }
-    if k < 6 {
-        return 0;
-    }
-    if word::fields::word_of(n) != 0 {
-        return 0;
-    }
-    next(pc)
 }
 
 // STI: the pointer is a word that never changes.
-pub fn stores_through(
-    t: &mut [u32],
-    memory: &[u16],
-    kinds: &[u8],
-    lowest: u16,
-    watched: &[u16],
-    pc: u16,
-    v: u32,
-    a: u16,
-) -> u16
-    requires t_len { length t.old ≡ 17 }
-    requires watched_len { length watched.now ≡ 8 }
-    ensures { Leads (claim_with memory.now kinds.now lowest watched.now)
-        result (state_of t.new)
-        (λ c. stores_through c pc (value_of v) (cell_at c.cells a) (state_of t.old)) }
+#[tactic(auto, unfolding(sitting::specs::Test::stores_through))]
+pub fn stores_through(t: &mut State, c: &Claim, pc: u16, v: Known, a: u16) -> Option<u16>
+    ensures { Leads (claim_by c.now) result (known_state t.new)
+        (λ c. stores_through c pc (known v) (cell_at c.cells a) (known_state t.old)) }
 {
-    if kind_at(memory, kinds, a) != 1 {
-        return 0;
+    match c.cell_at(a) {
+        Cell::Fixed(pointer) => stores_at(t, c, pc, v, pointer),
+        _ => None,
     }
-    let pointer = word_at(memory, a);
-    stores_at(t, memory, kinds, lowest, watched, pc, v, pointer)
 }

@@ -7,10 +7,23 @@ mod rows;
 mod state;
 
 ghost use Rattle.std.specs.Prelude.{◌≡◌};
-ghost use Rattle.findings.specs.Finding.{certify_of};
+ghost use Rattle.claims.specs.Decoded.{claim_in};
+ghost use Rattle.findings.specs.Finding.{wrong_with, certify_of};
+ghost use Rattle.findings.specs.Found.{certified};
 
-use findings::Certified;
-use findings::finding::wrong;
+use claims::{Claim, Watched};
+use findings::{Certified, Fault};
+
+// What is wrong first with a claim that watches eight words.
+fn first_fault(c: &Claim) -> Result<(), Fault>
+    ensures { certified result ≡ wrong_with (claim_in c.now) c.now.ends.now c.now.table.now }
+{
+    if !vectors::has_room(c) {
+        return Err(Fault::NoRoom);
+    }
+    vectors::wrong_vectors(c)?;
+    rows::wrong_in_rows(c)
+}
 
 // What is wrong first (crates/findings).
 pub fn certify(
@@ -24,16 +37,16 @@ pub fn certify(
     ensures { result ≡ certify_of memory.now kinds.now lowest watched.now
         ends.now table.now }
 {
-    if watched.len() != 8 {
-        return wrong(1, 0, 0);
-    }
-    if !vectors::has_room(memory, kinds, lowest) {
-        return wrong(2, 0, 0);
-    }
-    let found = vectors::wrong_vectors(memory, kinds, ends, table);
-    let finding = found.finding;
-    if finding != 0 {
-        return found;
-    }
-    rows::wrong_in_rows(memory, kinds, lowest, watched, ends, table)
+    let Ok(watched) = <&Watched>::try_from(watched) else {
+        return Certified::from(Err(Fault::NotEightWatched));
+    };
+    let claim = Claim {
+        memory,
+        kinds,
+        lowest,
+        watched,
+        ends,
+        table,
+    };
+    Certified::from(first_fault(&claim))
 }

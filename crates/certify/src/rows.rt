@@ -1,124 +1,71 @@
 // The rows of the table, one for each word from x0200 on.
-ghost use Rattle.std.specs.Prelude.{◌≡◌, ◌+◌, ◌-◌, ◌*◌, ◌/◌, ◌≤◌, ◌<◌, min, length, get_or, drop};
-ghost use Rattle.word.specs.Reading.{read_of};
+ghost use Rattle.std.specs.Prelude.{◌≡◌, true, ◌+◌, ◌-◌, ◌*◌, ◌≤◌, ◌<◌, length, get_or, drop};
 ghost use Rattle.sitting.specs.Test.{cell_at};
-ghost use Rattle.claims.specs.Encoding.{cell_of, cells_of, states_of, row_of, start_of, claim_of};
+ghost use Rattle.claims.specs.Encoding.{states_of, row_of, start_of};
+ghost use Rattle.claims.specs.Decoded.{known_cell, claim_in};
 ghost use Rattle.findings.specs.Finding.{wrong_in_row, wrong_at, wrong_in_rows};
+ghost use Rattle.findings.specs.Wrong.{is_fixed};
+ghost use Rattle.findings.specs.Found.{certified};
 
 use crate::state::wrong_in;
-use claims::cells::{kind_at, word_at};
-use claims::states::{end_in, start_of};
-use findings::Certified;
-use findings::finding::{nothing_wrong, wrong};
+use claims::Claim;
+use claims::cells::Cell;
+use findings::Fault;
+use word::Instruction;
+use word::reading::read;
 
 // The first of these states with which something is wrong.
-fn wrong_in_row(
-    memory: &[u16],
-    kinds: &[u8],
-    lowest: u16,
-    watched: &[u16],
-    ends: &[u32],
-    table: &[u32],
-    pc: u16,
-    w: u16,
-    start: u32,
-    end: u32,
-) -> Certified
-    requires watched_len { length watched.now ≡ 8 }
-    requires end_in_bounds { end * 17 ≤ length table.now }
-    ensures { result ≡ wrong_in_row (claim_of memory.now kinds.now lowest
-        watched.now ends.now table.now) pc (read_of w) start
-        (states_of (end - start) (drop (start * 17) table.now)) }
+#[tactic(auto, using(findings::proofs::FindingLaws::in_row))]
+fn wrong_in_row(c: &Claim, pc: u16, i: Instruction, start: u32, end: u32) -> Result<(), Fault>
+    requires { end * 17 ≤ length c.now.table.now }
+    ensures { certified result ≡ wrong_in_row (claim_in c.now) pc i start
+        (states_of (end - start) (drop (start * 17) c.now.table.now)) }
 {
-    let mut k = start;
-    while k < end {
-        let found = wrong_in(memory, kinds, lowest, watched, ends, table, pc, w, k);
-        let finding = found.finding;
-        if finding != 0 {
-            return found;
-        }
-        k += 1;
+    for k in start..end {
+        wrong_in(c, pc, i, k)?;
     }
-    nothing_wrong()
+    Ok(())
 }
 
-// What the word of row j is, as a number.
-fn kind_of_row(memory: &[u16], kinds: &[u8], j: usize) -> u8
-    requires { length (cells_of kinds.now memory.now) ≤ 0x3000 }
-    ensures j_value { cell_at (cells_of kinds.now memory.now) (0x0200 + j)
-        ≡ cell_of result (get_or memory.now (0x0200 + j) 0) }
-    ensures j_bound { result ≡ 1 → j < 0x2E00 }
+// What the word of row j is: one past the monitor's is secret.
+#[tactic(auto, using(findings::proofs::Laws::cell_past,), unfolding(findings::specs::Wrong::is_fixed,),)]
+fn cell_of_row(c: &Claim, j: usize) -> Cell
+    requires { length (claim_in c.now).cells ≤ 0x3000 }
+    ensures cell { known_cell result ≡ cell_at (claim_in c.now).cells (0x0200 + j) }
+    ensures bound { is_fixed (known_cell result) ≡ true → j < 0x2E00 }
 {
     if j >= 0x2E00 {
-        return 0;
+        return Cell::Hidden;
     }
-    kind_at(memory, kinds, (0x0200 + j) as u16)
-}
-
-// A row that ends past the table ends with it.
-fn cut(table: &[u32], end: u32) -> u32
-    ensures { result ≡ min end (length table.now / 17) }
-{
-    end_in(table, end) as u32
+    c.cell_at((0x0200 + j) as u16)
 }
 
 // Row j: a word that may change, or is secret, is never fetched.
-fn wrong_at(
-    memory: &[u16],
-    kinds: &[u8],
-    lowest: u16,
-    watched: &[u16],
-    ends: &[u32],
-    table: &[u32],
-    j: usize,
-) -> Certified
-    requires watched_len { length watched.now ≡ 8 }
-    requires memory_len_bound { length (cells_of kinds.now memory.now) ≤ 0x3000 }
-    requires j_in_bounds { j < length ends.now }
-    ensures { result ≡ wrong_at (claim_of memory.now kinds.now lowest
-        watched.now ends.now table.now) (0x0200 + j)
-        (cell_at (cells_of kinds.now memory.now) (0x0200 + j))
-        (start_of 0 ends.now j)
-        (row_of table.now (start_of 0 ends.now j) (get_or ends.now j 0)) }
+fn wrong_at(c: &Claim, j: usize) -> Result<(), Fault>
+    requires room { length (claim_in c.now).cells ≤ 0x3000 }
+    requires in_bounds { j < length c.now.ends.now }
+    ensures { certified result ≡ wrong_at (claim_in c.now) (0x0200 + j)
+        (cell_at (claim_in c.now).cells (0x0200 + j))
+        (start_of 0 c.now.ends.now j)
+        (row_of c.now.table.now (start_of 0 c.now.ends.now j) (get_or c.now.ends.now j 0)) }
 {
-    let start = start_of(ends, j);
-    let end = cut(table, ends[j]);
-    if kind_of_row(memory, kinds, j) == 1 {
-        let pc = ((0x0200 + j) % 65536) as u16;
-        let w = word_at(memory, pc);
-        return wrong_in_row(
-            memory, kinds, lowest, watched, ends, table, pc, w, start, end,
-        );
+    let start = c.start_of(j);
+    let end = c.end_in(c.ends[j]);
+    match cell_of_row(c, j) {
+        Cell::Fixed(w) => wrong_in_row(c, (0x0200 + j) as u16, read(w), start, end),
+        _ if start < end => Err(Fault::NotFixed(0x0200 + j, start)),
+        _ => Ok(()),
     }
-    if start < end {
-        return wrong(5, 0x0200 + j, start);
-    }
-    nothing_wrong()
 }
 
 // The first row with which something is wrong.
-pub fn wrong_in_rows(
-    memory: &[u16],
-    kinds: &[u8],
-    lowest: u16,
-    watched: &[u16],
-    ends: &[u32],
-    table: &[u32],
-) -> Certified
-    requires watched_len { length watched.now ≡ 8 }
-    requires memory_len_bound { length (cells_of kinds.now memory.now) ≤ 0x3000 }
-    ensures { result ≡ wrong_in_rows (claim_of memory.now kinds.now lowest
-        watched.now ends.now table.now) table.now 0x0200 0
-        ends.now }
+#[tactic(auto, using(findings::proofs::FindingLaws::in_rows), unfolding(claims::specs::Encoding::start_of))]
+pub fn wrong_in_rows(c: &Claim) -> Result<(), Fault>
+    requires { length (claim_in c.now).cells ≤ 0x3000 }
+    ensures { certified result ≡ wrong_in_rows (claim_in c.now) c.now.table.now 0x0200 0 c.now.ends.now }
 {
-    let mut j = 0;
-    while j < ends.len() {
-        let found = wrong_at(memory, kinds, lowest, watched, ends, table, j);
-        let finding = found.finding;
-        if finding != 0 {
-            return found;
-        }
-        j += 1;
+    for j in 0..c.ends.len() {
+        wrong_at(c, j)?;
     }
-    nothing_wrong()
+    Ok(())
 }

@@ -1,112 +1,67 @@
 // One state of the table: its stack is known, and the instruction from it is harmless.
-ghost use Rattle.std.specs.Prelude.{◌≡◌, List, ℕ, ◌+◌, ◌*◌, ◌≤◌, length, take, drop};
-ghost use Rattle.word.specs.Reading.{read_of};
-ghost use Rattle.sitting.specs.Test.{Row, is_kept, all_kept, sound, value_in};
-ghost use Rattle.claims.specs.Encoding.{value_of, values_of, state_of, claim_with, claim_of};
+ghost use Rattle.std.specs.Prelude.{◌≡◌, true, ◌+◌, ◌*◌, ◌≤◌, length, take, drop};
+ghost use Rattle.std.specs.List.{list_all, zip};
+ghost use Rattle.sitting.specs.Values.{number_of};
+ghost use Rattle.sitting.specs.Test.{is_kept, sound, value_in};
+ghost use Rattle.claims.specs.Encoding.{state_of};
+ghost use Rattle.claims.specs.Decoded.{known, known_state, claim_in};
 ghost use Rattle.findings.specs.Finding.{wrong_in};
+ghost use Rattle.findings.specs.Found.{certified};
 
-use claims::cells::kind_at;
-use claims::states::{register, wide};
-use claims::values::{low_word, says_all};
-use findings::Certified;
-use findings::finding::{nothing_wrong, wrong};
+use claims::Claim;
+use claims::cells::Cell;
+use claims::states::State;
+use claims::values::Known;
+use findings::Fault;
 use following::instruction::is_harmless;
+use word::Instruction;
 
 // What an interrupt's two words cannot change: nothing is known of a watched word, or it is one of the monitor's own,
 // or of the stack from R6 on.
-fn is_kept(memory: &[u16], kinds: &[u8], sp: u16, w: u16, v: u32) -> bool
-    ensures { (lowest : ℕ) (watched : List ℕ) (rows : List Row) → result
-        ≡ is_kept (claim_with memory.now kinds.now lowest watched rows) sp w (value_of v) }
+#[tactic(auto, unfolding(sitting::specs::Test::is_kept, sitting::specs::Test::is_own))]
+fn is_kept(c: &Claim, sp: u16, w: u16, v: Known) -> bool
+    ensures { result ≡ is_kept (claim_in c.now) sp w (known v) }
 {
-    if says_all(65536, v) {
-        return true;
-    }
-    if kind_at(memory, kinds, w) == 2 {
-        return true;
-    }
-    if w < sp {
-        return false;
-    }
-    w < 0x3000
+    Known::Any.says_all(v) || c.cell_at(w) == Cell::Own || (sp <= w && w < 0x3000)
 }
 
-fn all_kept(s: &[u32], memory: &[u16], kinds: &[u8], watched: &[u16], sp: u16) -> bool
-    requires s_len { length s.now ≡ 17 }
-    requires watched_len { length watched.now ≡ 8 }
-    ensures { (lowest : ℕ) (rows : List Row) → result
-        ≡ all_kept (claim_with memory.now kinds.now lowest watched.now rows) sp
-        watched.now (values_of (drop 9 s.now)) }
+fn all_kept(s: &State, c: &Claim, sp: u16) -> bool
+    ensures same_len { length c.now.watched.now ≡ length s.now.words }
+    ensures value { result
+        ≡ list_all (λ p. is_kept (claim_in c.now) sp p.0 (known p.1)) (zip c.now.watched.now s.now.words) }
 {
-    let mut j = 0;
-    while j < 8 {
-        if !is_kept(memory, kinds, sp, watched[j], s[9 + j]) {
-            return false;
-        }
-        j += 1;
-    }
-    true
+    let watched = c.watched;
+    watched
+        .iter()
+        .zip(&s.words)
+        .all(|(w, v)| is_kept(c, sp, *w, *v))
 }
 
 // R6 is a known address of the stack, with the trap's two words above it.
-fn is_sound(s: &[u32], memory: &[u16], kinds: &[u8], lowest: u16, watched: &[u16]) -> bool
-    requires s_len { length s.now ≡ 17 }
-    requires watched_len { length watched.now ≡ 8 }
-    ensures { (rows : List Row) → result
-        ≡ sound (claim_with memory.now kinds.now lowest watched.now rows)
-        (value_in (state_of s.now).regs 6) (state_of s.now).words }
+#[tactic(auto, unfolding(sitting::specs::Test::sound, sitting::specs::Values::number_of))]
+fn is_sound(s: &State, c: &Claim) -> bool
+    ensures value { result ≡ sound (claim_in c.now) (value_in (known_state s.now).regs 6) (known_state s.now).words }
+    ensures bound { result ≡ true → number_of (value_in (known_state s.now).regs 6) ≤ 0x2FFE }
 {
-    let v = register(s, 6);
-    if v / 65536 != 2 {
-        return false;
-    }
-    let sp = low_word(v);
-    if sp < lowest {
-        return false;
-    }
-    if sp > 0x2FFE {
-        return false;
-    }
-    all_kept(s, memory, kinds, watched, sp)
-}
-
-fn copy_state(table: &[u32], at: usize, t: &mut [u32])
-    requires t_len { length t.old ≡ 17 }
-    requires at_in_bounds { at + 17 ≤ length table.now }
-    ensures { t.new ≡ take 17 (drop at table.now) }
-{
-    let mut j = 0;
-    while j < 17 {
-        t[j] = table[at + j];
-        j += 1;
+    match s.register(6) {
+        Known::Is(sp) => c.lowest <= sp && sp <= 0x2FFE && all_kept(s, c, sp),
+        _ => false,
     }
 }
 
 // What is wrong with state k: its stack, or the instruction.
-pub fn wrong_in(
-    memory: &[u16],
-    kinds: &[u8],
-    lowest: u16,
-    watched: &[u16],
-    ends: &[u32],
-    table: &[u32],
-    pc: u16,
-    w: u16,
-    k: u32,
-) -> Certified
-    requires watched_len { length watched.now ≡ 8 }
-    requires k_in_bounds { (k + 1) * 17 ≤ length table.now }
-    ensures { result ≡ wrong_in (claim_of memory.now kinds.now lowest watched.now
-        ends.now table.now) pc (read_of w) k
-        (state_of (take 17 (drop (k * 17) table.now))) }
+#[tactic(auto, using(findings::proofs::FindingLaws::in_state))]
+pub fn wrong_in(c: &Claim, pc: u16, i: Instruction, k: u32) -> Result<(), Fault>
+    requires { (k + 1) * 17 ≤ length c.now.table.now }
+    ensures { certified result ≡ wrong_in (claim_in c.now) pc i k
+        (state_of (take 17 (drop (k * 17) c.now.table.now))) }
 {
-    let mut t = [0; 17];
-    copy_state(table, wide(k) * 17, &mut t);
-    if !is_sound(&t, memory, kinds, lowest, watched) {
-        return wrong(6, pc as usize, k);
+    let mut t = State::from(c.state(k));
+    if !is_sound(&t, c) {
+        return Err(Fault::NotSound(pc, k));
     }
-    let i = word::reading::read(w);
-    if !is_harmless(&mut t, memory, kinds, lowest, watched, ends, table, pc, i) {
-        return wrong(7, pc as usize, k);
+    if !is_harmless(&mut t, c, pc, i) {
+        return Err(Fault::NotHarmless(pc, k));
     }
-    nothing_wrong()
+    Ok(())
 }

@@ -1,4 +1,3 @@
 -- Laws of claims as numbers.
-pub mod ValueLaws
 pub mod StateLaws
 pub mod Encoding

@@ -1,8 +1,8 @@
 -- A claim as numbers: what each word is, and the table in one flat list. Every list of numbers is a claim.
-use Rattle.std.specs.Prelude.{ℕ, zero, suc, ◌-◌, ◌*◌, ◌/◌, ◌%◌, min, Bool, cond, ◌&&◌, List, [], ◌∷◌, eqb, leb, length}
+use Rattle.std.specs.Prelude.{ℕ, zero, suc, ◌-◌, ◌*◌, ◌/◌, ◌%◌, min, cond, List, [], ◌∷◌, eqb, length}
 use Rattle.std.specs.Prelude.{get_or, take, drop}
 use Rattle.sitting.specs.Values.{Value, value_by}
-use Rattle.sitting.specs.Test.{Cell, fixed, own, hidden, State, Row, Claim, one_covers}
+use Rattle.sitting.specs.Test.{Cell, fixed, own, hidden, State, Row, Claim}
 use Rattle.sitting.specs.Certified.{Loaded}
 
 -- What a word is: 1 one that never changes, with what stands there; 2 the monitor's own; any other number, secret.
@@ -55,10 +55,6 @@ claim_with memory kinds lowest watched rows = record {
 
 abbrev pub claim_of : List ℕ → List ℕ → ℕ → List ℕ → List ℕ → List ℕ → Claim
 claim_of memory kinds lowest watched ends table = claim_with memory kinds lowest watched (rows_of table 0 ends)
-
--- What a table accepts, by its rows.
-abbrev pub accepted_in : List Row → ℕ → State → Bool
-accepted_in rows pc σ = leb 0x0200 pc && one_covers σ (get_or rows (pc - 0x0200) [])
 
 -- Where row k begins.
 unfoldable pub start_of : ℕ → List ℕ → ℕ → ℕ

@@ -1,29 +1,34 @@
-// What each word of memory is: never changed, the monitor's own, or secret.
-ghost use Rattle.std.specs.Prelude.{◌≡◌, get_or};
+// What each word of memory is: never changed, the monitor's own, or secret (crates/sitting/specs/Test.antt).
+ghost use Rattle.std.specs.Prelude.{◌≡◌};
 ghost use Rattle.sitting.specs.Test.{cell_at};
-ghost use Rattle.claims.specs.Encoding.{cell_of, cells_of};
+ghost use Rattle.claims.specs.Encoding.{cells_of};
+ghost use Rattle.claims.specs.Decoded.{known_cell};
 
-pub fn word_at(memory: &[u16], a: u16) -> u16
-    ensures { result ≡ get_or memory.now a 0 }
-{
-    let at = a as usize;
-    if at < memory.len() {
-        return memory[at];
-    }
-    0
+use crate::Claim;
+
+#[derive(Clone, Copy, PartialEq, Eq)]
+pub enum Cell {
+    Fixed(u16),
+    Own,
+    Hidden,
 }
 
-// What the word at a is, as a number: 1 never changed, 2 the monitor's own, others secret.
-pub fn kind_at(memory: &[u16], kinds: &[u8], a: u16) -> u8
-    ensures { cell_at (cells_of kinds.now memory.now) a
-        ≡ cell_of result (get_or memory.now a 0) }
-{
-    let at = a as usize;
-    if at >= kinds.len() {
-        return 0;
+impl Claim<'_> {
+    // The kinds as numbers: 1 never changed, 2 the monitor's own, others secret.
+    pub fn cell_at(&self, a: u16) -> Cell
+        ensures { known_cell result ≡ cell_at (cells_of self.now.kinds.now self.now.memory.now) a }
+    {
+        let at = a as usize;
+        if at >= self.kinds.len() {
+            return Cell::Hidden;
+        }
+        if at >= self.memory.len() {
+            return Cell::Hidden;
+        }
+        match self.kinds[at] {
+            1 => Cell::Fixed(self.memory[at]),
+            2 => Cell::Own,
+            _ => Cell::Hidden,
+        }
     }
-    if at >= memory.len() {
-        return 0;
-    }
-    kinds[at]
 }

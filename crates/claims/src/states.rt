@@ -1,184 +1,133 @@
-// What is known at an address, as 17 numbers: R0 to R7, the codes, and eight watched words; and what a table says.
-ghost use Rattle.std.specs.Prelude.{◌≡◌, cond, ◌+◌, ◌-◌, ◌*◌, ◌/◌, ◌≤◌, ◌<◌, min, length, take, drop};
-ghost use Rattle.sitting.specs.Test.{covers, one_covers, value_in, moved, put, held};
-ghost use Rattle.claims.specs.Encoding.{value_of, state_of, states_of, rows_of, start_of, accepted_in};
+// What is known at an address: of R0 to R7, of the value that the codes were set from, and of the watched words.
+ghost use Rattle.std.specs.Prelude.{◌≡◌, ◌==◌, length, map};
+ghost use Rattle.std.specs.List.{list_all, zip, position};
+ghost use Rattle.sitting.specs.Test.{covers, value_in, moved, put, held};
+ghost use Rattle.sitting.specs.Values.{implies, forget};
+ghost use Rattle.claims.specs.Encoding.{value_of, values_of, state_of};
 ghost use Rattle.claims.specs.Changes.{forget_state, remember_in};
+ghost use Rattle.claims.specs.Decoded.{known, known_state};
 
-use crate::values::{forgotten, says_all};
+use crate::Watched;
+use crate::values::Known;
 
-// ---- what the table accepts
+#[derive(Clone, Copy)]
+pub struct State {
+    pub regs: [Known; 8],
+    pub codes: Known,
+    pub words: [Known; 8],
+}
 
-// The state says all that the table's state says.
-fn covers_one(s: &[u32], table: &[u32], at: usize) -> bool
-    requires s_len { length s.now ≡ 17 }
-    requires at_in_bounds { at + 17 ≤ length table.now }
-    ensures { result ≡ covers (state_of s.now) (state_of (take 17 (drop at table.now))) }
+fn decoded(numbers: &[u32]) -> [Known; 8]
+    requires { length numbers.now ≡ 8 }
+    ensures { map known result ≡ values_of numbers.now }
 {
-    let mut i = 0;
-    while i < 17 {
-        if !says_all(s[i], table[at + i]) {
-            return false;
+    let numbers: [u32; 8] = numbers.try_into().unwrap();
+    numbers.map(Known::from)
+}
+
+// A state of the table: 17 numbers.
+impl From<&[u32; 17]> for State {
+    ghost from_gives = { λ numbers s. known_state s ≡ state_of numbers.now };
+
+    fn from(numbers: &[u32; 17]) -> State {
+        State {
+            regs: decoded(&numbers[..8]),
+            codes: Known::from(numbers[8]),
+            words: decoded(&numbers[9..]),
         }
-        i += 1;
     }
-    true
 }
 
-// The state says all that one of these states of the table says.
-fn row_covers(s: &[u32], table: &[u32], start: usize, end: usize) -> bool
-    requires s_len { length s.now ≡ 17 }
-    requires end_in_bounds { end * 17 ≤ length table.now }
-    ensures { result ≡ one_covers (state_of s.now)
-        (states_of (end - start) (drop (start * 17) table.now)) }
+// Each of these values says all that the number in its place says.
+fn say_all(values: &[Known; 8], numbers: &[u32]) -> bool
+    requires { length numbers.now ≡ 8 }
+    ensures { result ≡ list_all (λ p. implies (known p.0) (value_of p.1)) (zip values.now numbers.now) }
 {
-    let mut i = start;
-    while i < end {
-        if covers_one(s, table, i * 17) {
-            return true;
+    values
+        .iter()
+        .zip(numbers)
+        .all(|(v, n)| v.says_all(Known::from(*n)))
+}
+
+fn forgotten(values: [Known; 8]) -> [Known; 8]
+    ensures { map known result ≡ map forget (map known values) }
+{
+    values.map(Known::forgotten)
+}
+
+// The first place at which the word at a is watched.
+fn place(watched: &Watched, a: u16) -> Option<usize>
+    ensures { result ≡ position (λ w. w == a) watched.now }
+{
+    watched.iter().position(|w| *w == a)
+}
+
+impl State {
+    // The state says all that this state of the table says.
+    #[tactic(auto, using(crate::proofs::StateLaws::covers_by))]
+    pub fn covers(&self, numbers: &[u32; 17]) -> bool
+        ensures { result ≡ covers (known_state self.now) (state_of numbers.now) }
+    {
+        say_all(&self.regs, &numbers[..8])
+            && self.codes.says_all(Known::from(numbers[8]))
+            && say_all(&self.words, &numbers[9..])
+    }
+
+    pub fn register(&self, r: u8) -> Known
+        ensures { known result ≡ value_in (known_state self.now).regs r }
+    {
+        self.regs[usize::from(r % 8)]
+    }
+
+    // R0 changes.
+    fn forget(&mut self)
+        ensures { known_state self.new ≡ forget_state (known_state self.old) }
+    {
+        self.regs = forgotten(self.regs);
+        self.codes = self.codes.forgotten();
+        self.words = forgotten(self.words);
+    }
+
+    // A register takes a value, and the codes are kept.
+    pub fn put_in(&mut self, r: u8, v: Known)
+        ensures { known_state self.new ≡ put r (known v) (known_state self.old) }
+    {
+        let r = usize::from(r % 8);
+        if r == 0 {
+            self.forget();
+            self.regs[0] = v.forgotten();
+        } else {
+            self.regs[r] = v;
         }
-        i += 1;
     }
-    false
-}
 
-pub fn wide(x: u32) -> usize
-    ensures { result ≡ x }
-{
-    x as usize
-}
-
-// Where row k begins: where the row before it ends.
-pub fn start_of(ends: &[u32], k: usize) -> u32
-    requires { k < length ends.now }
-    ensures { result ≡ start_of 0 ends.now k }
-{
-    if k == 0 {
-        return 0;
+    // A register takes a value, and the codes are set from it.
+    #[tactic(auto, unfolding(sitting::specs::Test::moved, sitting::specs::Test::put))]
+    pub fn move_to(&mut self, r: u8, v: Known)
+        ensures { known_state self.new ≡ moved r (known v) (known_state self.old) }
+    {
+        self.codes = v;
+        self.put_in(r, v);
     }
-    ends[k - 1]
-}
 
-// A row that ends past the table ends with it.
-pub fn end_in(table: &[u32], end: u32) -> usize
-    ensures { result ≡ min end (length table.now / 17) }
-{
-    let states = table.len() / 17;
-    let end = wide(end);
-    if end < states { end } else { states }
-}
-
-// The table knows no more at this address than the state says.
-pub fn accepts(s: &[u32], ends: &[u32], table: &[u32], pc: u16) -> bool
-    requires { length s.now ≡ 17 }
-    ensures { result ≡ accepted_in (rows_of table.now 0 ends.now) pc
-        (state_of s.now) }
-{
-    if pc < 0x0200 {
-        return false;
-    }
-    let k = (pc - 0x0200) as usize;
-    if k >= ends.len() {
-        return false;
-    }
-    let end = end_in(table, ends[k]);
-    row_covers(s, table, wide(start_of(ends, k)), end)
-}
-
-// ---- what a step does to a state
-
-// What is known of a register.
-pub fn register(s: &[u32], r: u8) -> u32
-    requires { length s.now ≡ 17 }
-    ensures { value_of result ≡ value_in (state_of s.now).regs r }
-{
-    let k = (r % 8) as usize;
-    s[k]
-}
-
-fn forget_all(t: &mut [u32])
-    requires { length t.old ≡ 17 }
-    ensures { state_of t.new ≡ forget_state (state_of t.old) }
-{
-    let mut i = 0;
-    while i < 17 {
-        t[i] = forgotten(t[i]);
-        i += 1;
-    }
-}
-
-// A register takes a value, and the codes are set from it.
-pub fn move_to(t: &mut [u32], r: u8, v: u32)
-    requires { length t.old ≡ 17 }
-    ensures { state_of t.new ≡ moved r (value_of v) (state_of t.old) }
-{
-    let k = (r % 8) as usize;
-    if k == 0 {
-        forget_all(t);
-        let w = forgotten(v);
-        t[0] = w;
-        t[8] = w;
-    } else {
-        t[k] = v;
-        t[8] = v;
-    }
-}
-
-// A register takes a value, and the codes are kept.
-pub fn put_in(t: &mut [u32], r: u8, v: u32)
-    requires { length t.old ≡ 17 }
-    ensures { state_of t.new ≡ put r (value_of v) (state_of t.old) }
-{
-    let k = (r % 8) as usize;
-    if k == 0 {
-        forget_all(t);
-        t[0] = forgotten(v);
-    } else {
-        t[k] = v;
-    }
-}
-
-// ---- watched words
-
-fn wide_word(x: u16) -> usize
-    ensures { result ≡ x }
-{
-    x as usize
-}
-
-// What is known of the word at a, where it is watched.
-pub fn watched_at(s: &[u32], watched: &[u16], a: usize) -> u32
-    requires s_len { length s.now ≡ 17 }
-    requires watched_len { length watched.now ≡ 8 }
-    ensures { value_of result ≡ held a watched.now (state_of s.now).words }
-{
-    let mut j = 0;
-    while j < 8 {
-        if wide_word(watched[j]) == a {
-            return s[9 + j];
+    // What is known of the word at a, where it is watched.
+    pub fn watched_at(&self, watched: &Watched, a: u16) -> Known
+        ensures { known result ≡ held a watched.now (known_state self.now).words }
+    {
+        match place(watched, a) {
+            Some(j) => self.words[j],
+            None => Known::Any,
         }
-        j += 1;
     }
-    65536
-}
 
-fn pick(first: bool, v: u32, w: u32) -> u32
-    ensures { result ≡ cond first v w }
-{
-    if first { v } else { w }
-}
-
-// The word at a takes a value: what is known of it, where it is watched.
-pub fn remember_at(t: &mut [u32], watched: &[u16], a: u16, v: u32)
-    requires t_len { length t.old ≡ 17 }
-    requires watched_len { length watched.now ≡ 8 }
-    ensures { state_of t.new
-        ≡ remember_in watched.now a (value_of v) (state_of t.old) }
-{
-    let mut j = 0;
-    while j < 8 {
-        let w = wide_word(watched[j]);
-        let old = t[9 + j];
-        t[9 + j] = pick(w == wide_word(a), v, old);
-        j += 1;
+    // The word at a takes a value: what is known of it, where it is watched.
+    pub fn remember_at(&mut self, watched: &Watched, a: u16, v: Known)
+        ensures { known_state self.new ≡ remember_in watched.now a (known v) (known_state self.old) }
+    {
+        for (j, w) in watched.iter().enumerate() {
+            if *w == a {
+                self.words[j] = v;
+            }
+        }
     }
 }

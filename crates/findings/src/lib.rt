@@ -14,3 +14,15 @@ pub struct Certified {
     pub address: u32,
     pub state: u32,
 }
+
+// The same inside: what is wrong, with the word's address and the state's number where it has them.
+#[derive(Clone, Copy)]
+pub enum Fault {
+    NotEightWatched,
+    NoRoom,
+    NoEntry(u16),
+    NoReturn(u16),
+    NotFixed(usize, u32),
+    NotSound(u16, u32),
+    NotHarmless(u16, u32),
+}

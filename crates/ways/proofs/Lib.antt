@@ -1,3 +1,2 @@
--- Laws of what an instruction leads to.
+-- Laws of TRAP in a routine.
 pub mod JumpLaws
-pub mod BranchLaws

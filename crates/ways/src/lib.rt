@@ -1,6 +1,5 @@
 // Where an instruction of a monitor may lead besides the next address: a branch, a jump, TRAP and RTI, from what is
-// known before it (crates/sitting/specs/Test.antt). A function that answers an address answers 0 where the instruction
-// may not be obeyed: no table accepts anything there.
+// known before it (crates/sitting/specs/Test.antt). A function answers none where the instruction may not be obeyed.
 #![tactic(auto)]
 
 pub mod branch;

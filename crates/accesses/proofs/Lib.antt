@@ -1,3 +1,0 @@
--- Laws of loads and stores.
-pub mod AccessLaws
-pub mod DeviceLaws
