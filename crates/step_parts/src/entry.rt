@@ -79,12 +79,7 @@ pub fn interrupt_rule(vector: u16) -> Rule
 }
 
 // An interrupt pushes PC, and its priority replaces the PSR's.
-pub fn interrupt(
-    c: Control,
-    regs: &mut [u16; 8],
-    memory: &mut Memory,
-    i: Interrupt,
-) -> Control
+pub fn interrupt(c: Control, regs: &mut [u16; 8], memory: &mut Memory, i: Interrupt) -> Control
     ensures { (clock : ℕ) → no_output (whole regs.new clock result) memory.new
         ≡ effect (interrupted i.vector i.priority (whole regs.old clock c) memory.old) }
 {

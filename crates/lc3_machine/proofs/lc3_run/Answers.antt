@@ -39,7 +39,9 @@ pub returns-in-Err : goal.returns-in-Err
 unfolding call_by admitted_by
 returns-in-Err c =
     let a = c.args in
-    rw (← c.in-Some.ensures.cases.same, ← c.admission.ensures a.output.now,
+    rw (
+      ← c.in-Some.ensures.cases.same,
+      ← c.admission.ensures a.output.now,
       c.in-Err.is,
     )
     (c.refused-in-Err.ensures c.in-Some.whole.now a.times.now a.bytes.now a.output.now)

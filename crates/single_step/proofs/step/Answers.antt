@@ -29,7 +29,9 @@ pub returns-in-Ok : goal.returns-in-Ok
 unfolding call_by admitted_by
 returns-in-Ok c =
     let a = c.args in
-    rw (← c.in-Some.ensures.cases.same, ← c.admission.ensures
+    rw (
+      ← c.in-Some.ensures.cases.same,
+      ← c.admission.ensures
           a.output.now,
       c.in-Ok.is,
     )
@@ -39,7 +41,9 @@ pub returns-in-Err : goal.returns-in-Err
 unfolding call_by admitted_by
 returns-in-Err c =
     let a = c.args in
-    rw (← c.in-Some.ensures.cases.same, ← c.admission.ensures a.output.now,
+    rw (
+      ← c.in-Some.ensures.cases.same,
+      ← c.admission.ensures a.output.now,
       c.in-Err.is,
     )
     (c.refused-in-Err.ensures c.in-Some.whole.now a.times.now a.bytes.now a.output.now)
