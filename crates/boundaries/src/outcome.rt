@@ -11,10 +11,10 @@ pub(crate) struct Outcome {
 
 fn write_refusal<W: fmt::Write>(f: &mut fmt::Formatter<W>, refusal: Refusal) -> fmt::Result {
     write!(f, "refused {}", u32::from(refusal))?;
-    match refusal {
-        Refusal::TimeBelowClock(entry) | Refusal::TimesOutOfOrder(entry) => write!(f, " at entry {entry}"),
-        _ => Ok(()),
+    if let Refusal::TimeBelowClock(entry) | Refusal::TimesOutOfOrder(entry) = refusal {
+        write!(f, " at entry {entry}")?;
     }
+    Ok(())
 }
 
 impl fmt::Display for Outcome {

@@ -1,4 +1,5 @@
--- `lc3_run_logged` meets its contract, by that of `run_logged_by`, whose answer `Lc3LoggedAnswer::from` puts into numbers.
+-- `lc3_run_logged` meets its contract, by that of `run_logged_by`, whose answer `Lc3LoggedAnswer::from` puts into
+-- numbers.
 use mathlib.Core.Path.{ap, ◌∙◌}
 use borrow.Author.Rules.{rules}
 use Rattle.lc3_logging.specs.LoggedAnswer.{logged_answer_of}
