@@ -1,9 +1,9 @@
 // The sitting in calls of some steps and bytes, with a table of them.
-use crate::printing::{Shown, Word};
+use crate::printing::{Word, print_shown};
 use crate::sitting::{Mode, Sitting, is_over};
 use run::{Answer, Ending, Report};
 use std::alloc::Global;
-use std::{fmt, io};
+use std::io;
 
 // The most steps of one call.
 const STEPS: u64 = 200;
@@ -11,16 +11,11 @@ const STEPS: u64 = 200;
 // The most bytes of one call.
 const ROOM: usize = 4;
 
+// The bytes that the display holds.
+const DISPLAY: usize = 64;
+
 // The most calls.
 const CALLS: u64 = 20;
-
-// A line of the table: the number of the call, what it answered, and the bytes that it showed.
-#[derive(Clone, Copy)]
-struct Row<'a> {
-    call: u64,
-    answer: Answer,
-    shown: &'a [u8],
-}
 
 fn stop_text(ending: Ending) -> &'static str {
     match ending {
@@ -31,17 +26,17 @@ fn stop_text(ending: Ending) -> &'static str {
     }
 }
 
-impl fmt::Display for Row<'_> {
-    fn fmt<W: fmt::Write>(&self, f: &mut fmt::Formatter<W>) -> fmt::Result {
-        let m = self.answer.machine;
-        let r = self.answer.report;
-        let stop = stop_text(r.ending);
-        let pc = Word(m.pc);
-        let mode = Mode::from(m);
-        let shown = Shown(self.shown);
-        write!(f, "{:4}{:7}{:6}{:7}", self.call, r.steps, r.keys, r.shown)?;
-        write!(f, "  {stop:11}{:7}  {pc}  {mode:10}  {shown}", m.clock)
-    }
+// A line of the table: the number of the call, what it answered, and the bytes that it showed.
+fn print_row(rt: &impl Print, call: u64, answer: Answer, shown: &[u8]) -> io::Result<()> {
+    let m = answer.machine;
+    let r = answer.report;
+    let stop = stop_text(r.ending);
+    let pc = Word(m.pc);
+    let mode = Mode::from(m);
+    print!(rt; "{call:4}{:7}{:6}{:7}", r.steps, r.keys, r.shown)?;
+    print!(rt; "  {stop:11}{:7}  {pc}  {mode:10}  ", m.clock)?;
+    print_shown(rt, shown)?;
+    println!(rt)
 }
 
 // Makes the calls and prints the table. Answers what the display shows at the end.
@@ -49,16 +44,13 @@ pub(crate) fn sit(rt: &(impl AllocGlobal + Print), sitting: &mut Sitting) -> io:
     println!(rt; "call  steps  keys  shown  stop         clock  PC     mode        display")?;
     let mut display = Vec::new(rt.alloc());
     for call in 1..=CALLS {
+        let room = ROOM.min(DISPLAY.saturating_sub(display.len()));
         let mut output = [0; ROOM];
-        let answer = sitting.call(STEPS, &mut output);
+        let output = &mut output[..room];
+        let answer = sitting.call(STEPS, output);
         let Report { shown, ending, .. } = answer.report;
-        let shown = output.get(..shown).unwrap_or(&output);
-        let row = Row {
-            call,
-            answer,
-            shown,
-        };
-        println!(rt; "{row}")?;
+        let shown = output.get(..shown).unwrap_or(output);
+        print_row(rt, call, answer, shown)?;
         display.extend_from_slice(shown)?;
         if is_over(ending) {
             break;

@@ -4,7 +4,7 @@
 
 use beside::{count_different, sit_beside};
 use machine::Machine;
-use printing::Shown;
+use printing::print_shown;
 use sitting::{Keys, Sitting};
 use starting::{ObjectFile, Source};
 use std::alloc::Global;
@@ -39,7 +39,7 @@ struct Exam {
 }
 
 impl Exam {
-    fn read(rt: &(impl AllocGlobal + Files)) -> anyhow::Result<Exam> {
+    fn read(rt: &(impl AllocGlobal + Files)) -> io::Result<Exam> {
         Ok(Exam {
             candidate: ObjectFile::read(rt, "candidate.obj")?,
             answers: ObjectFile::read(rt, "answers.obj")?,
@@ -111,19 +111,17 @@ fn attack(rt: &(impl AllocGlobal + Print), exam: &Exam) -> anyhow::Result<()> {
     let alloc = rt.alloc();
     let mut sitting = exam.sitting(alloc, &exam.answers)?;
     let before = sitting.memory.clone()?;
-    match exam.attack.start(Source::Candidate, &mut sitting.memory) {
-        Ok(loaded) => println!(rt; "  {loaded}")?,
-        Err(refused) => println!(rt; "  {refused}")?,
-    }
+    let started = exam.attack.start(Source::Candidate, &mut sitting.memory);
+    println!(rt; "  {started}")?;
     let changed = count_different(&sitting.memory, &before);
     println!(rt; "Words of memory that it has changed: {changed}")?;
     let first = exam.stolen(alloc, &exam.answers)?;
     let second = exam.stolen(alloc, &exam.other_answers)?;
-    print!(rt;
-        "Loaded all the same it would show the first answer: {} in the one sitting, ",
-        Shown(&first)
-    )?;
-    println!(rt; "{} in the other.", Shown(&second))?;
+    print!(rt; "Loaded all the same it would show the first answer: ")?;
+    print_shown(rt, &first)?;
+    print!(rt; " in the one sitting, ")?;
+    print_shown(rt, &second)?;
+    println!(rt; " in the other.")?;
     Ok(())
 }
 

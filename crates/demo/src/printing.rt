@@ -1,5 +1,5 @@
 // How a word and bytes of the display are printed.
-use std::fmt;
+use std::{fmt, io};
 
 // A word as the book writes it: x and four hexadecimal digits.
 #[derive(Clone, Copy)]
@@ -11,12 +11,14 @@ impl fmt::Display for Word {
     }
 }
 
-// Bytes of the display between quotation marks, each that would not print made visible: a line ends in \n.
-#[derive(Clone, Copy)]
-pub(crate) struct Shown<'a>(pub &'a [u8]);
-
-impl fmt::Display for Shown<'_> {
-    fn fmt<W: fmt::Write>(&self, f: &mut fmt::Formatter<W>) -> fmt::Result {
-        write!(f, "\"{}\"", self.0.escape_ascii())
+// Bytes of the display between quotation marks, as they are but for the end of a line, which is made visible.
+pub(crate) fn print_shown(rt: &impl Print, bytes: &[u8]) -> io::Result<()> {
+    print!(rt; "\"")?;
+    for &byte in bytes {
+        match byte {
+            b'\n' => rt.write_all(b"\\n")?,
+            _ => rt.write_all(&[byte])?,
+        }
     }
+    print!(rt; "\"")
 }

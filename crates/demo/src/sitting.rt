@@ -1,6 +1,6 @@
 // A sitting: the ready-made monitor, an examiner's answers and a candidate's program in memory, and a run of them in
 // calls, each of which goes on from the one before.
-use crate::starting::{Loaded, ObjectFile, Source};
+use crate::starting::{ObjectFile, Source, Start};
 use machine::Machine;
 use run::{Answer, Ending};
 use std::alloc::Global;
@@ -25,9 +25,9 @@ impl Keys {
 
 #[derive(Drop)]
 pub(crate) struct Sitting {
-    // What was loaded above the monitor.
-    pub answers: Loaded,
-    pub program: Loaded,
+    // The files that were started above the monitor.
+    pub answers: Start,
+    pub program: Start,
     pub machine: Machine,
     pub memory: Vec<u16>,
     keys: Keys,
@@ -44,12 +44,12 @@ impl Sitting {
     ) -> anyhow::Result<Sitting> {
         let mut memory = vec![in alloc; 0; 65536]?;
         installer::install(&mut memory)?;
-        let answers = answers.start(Source::Examiner, &mut memory)?;
-        let program = program.start(source, &mut memory)?;
+        let answers = answers.start(Source::Examiner, &mut memory);
+        let program = program.start(source, &mut memory);
         Ok(Sitting {
             answers,
             program,
-            machine: program.started.machine,
+            machine: program.machine(),
             memory,
             keys,
         })

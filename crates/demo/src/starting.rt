@@ -1,14 +1,17 @@
 // Object files, read from the working folder, and started in memory.
 use crate::printing::Word;
-use anyhow::Context;
 use lent::Refusal;
+use machine::Machine;
 use start::Started;
-use std::error::Error;
+use std::io::Read;
 use std::rt::Files;
-use std::{fmt, fs};
+use std::{fmt, fs, io};
 
 // Where the candidate's stack begins.
 const USER_STACK: u16 = 0xFDFF;
+
+// The most bytes that are read of a file.
+const FILE_BYTES: usize = 2048;
 
 // Whose a file is: a candidate's may lie in x3000 to xFDFF alone, an examiner's is loaded wherever it lies.
 #[derive(Clone, Copy)]
@@ -23,51 +26,52 @@ pub(crate) struct ObjectFile {
     bytes: Vec<u8>,
 }
 
-// A file that was started.
+// What came of a start.
 #[derive(Clone, Copy)]
-pub(crate) struct Loaded {
+pub(crate) struct Start {
     name: &'static str,
-    pub started: Started,
-}
-
-// A file that was refused.
-#[derive(Clone, Copy, Debug)]
-pub(crate) struct Refused {
-    name: &'static str,
-    refusal: Refusal,
+    answer: Result<Started, Refusal>,
 }
 
 impl ObjectFile {
-    pub fn read(rt: &(impl AllocGlobal + Files), name: &'static str) -> anyhow::Result<ObjectFile> {
-        let bytes = fs::read(rt, name).context(name)?;
+    // By one read. A file that cannot be read is an empty one, which the start refuses.
+    pub fn read(rt: &(impl AllocGlobal + Files), name: &'static str) -> io::Result<ObjectFile> {
+        let mut bytes = vec![in rt.alloc(); 0; FILE_BYTES]?;
+        let count = fs::open(rt, name).and_then(|mut file| file.read(&mut bytes));
+        bytes.truncate(count.unwrap_or(0));
         Ok(ObjectFile { name, bytes })
     }
 
     // Loads the file into memory, and starts it in User mode.
-    pub fn start(&self, source: Source, memory: &mut [u16]) -> Result<Loaded, Refused> {
-        let name = self.name;
-        let started = match source {
+    pub fn start(&self, source: Source, memory: &mut [u16]) -> Start {
+        let answer = match source {
             Source::Candidate => starter::start_user(&self.bytes, memory, USER_STACK),
             Source::Examiner => starter::start(&self.bytes, memory, true, USER_STACK),
         };
-        match started {
-            Ok(started) => Ok(Loaded { name, started }),
-            Err(refusal) => Err(Refused { name, refusal }),
+        Start {
+            name: self.name,
+            answer,
         }
     }
 }
 
-impl fmt::Display for Loaded {
-    fn fmt<W: fmt::Write>(&self, f: &mut fmt::Formatter<W>) -> fmt::Result {
-        let Started { machine, words } = self.started;
-        write!(f, "{}: {words} words from {}", self.name, Word(machine.pc))
+impl Start {
+    // The record to run: that of zeros where the file was refused.
+    pub fn machine(self) -> Machine {
+        self.answer
+            .map(|started| started.machine)
+            .unwrap_or_default()
     }
 }
 
-impl fmt::Display for Refused {
+impl fmt::Display for Start {
     fn fmt<W: fmt::Write>(&self, f: &mut fmt::Formatter<W>) -> fmt::Result {
-        write!(f, "{}: {}", self.name, self.refusal)
+        let name = self.name;
+        match self.answer {
+            Ok(Started { machine, words }) => {
+                write!(f, "{name}: {words} words from {}", Word(machine.pc))
+            }
+            Err(refusal) => write!(f, "{name}: {refusal}"),
+        }
     }
 }
-
-impl Error for Refused {}
