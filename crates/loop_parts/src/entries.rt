@@ -1,23 +1,6 @@
 // The entry of a step: its three words in the log.
 ghost use Rattle.std.specs.Prelude.{◌≡◌, [], ◌∷◌, ◌+◌, ◌≤◌, length};
 ghost use Rattle.std.proofs.lemmas.List.Edits.{sets};
-ghost use Rattle.machine.specs.Rules.{rule_number};
-
-use machine::Rule;
-
-pub fn rule_number(rule: Rule) -> u16
-    ensures { result ≡ rule_number rule }
-{
-    match rule {
-        Rule::Instruction => 0,
-        Rule::Trap => 1,
-        Rule::Privilege => 2,
-        Rule::Illegal => 3,
-        Rule::Access => 4,
-        Rule::Keyboard => 5,
-        Rule::Timer => 6,
-    }
-}
 
 // PC before the step, the word fetched and the reason.
 pub fn write_entry(log: &mut [u16], at: usize, pc: u16, word: u16, reason: u16)

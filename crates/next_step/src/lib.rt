@@ -38,15 +38,7 @@ fn nothing(ending: Ending) -> Told
 fn is_interrupt(rule: Rule) -> bool
     ensures { result ≡ is_interrupt rule }
 {
-    match rule {
-        Rule::Instruction => false,
-        Rule::Trap => false,
-        Rule::Privilege => false,
-        Rule::Illegal => false,
-        Rule::Access => false,
-        Rule::Keyboard => true,
-        Rule::Timer => true,
-    }
+    matches!(rule, Rule::Keyboard | Rule::Timer)
 }
 
 // The word fetched by a step of this rule: 0 at an interrupt, and where the fetch is denied.

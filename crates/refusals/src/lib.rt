@@ -108,15 +108,11 @@ pub fn admission(
 }
 
 // The answer to a call that is turned down: the record as handed in, and zero counts.
+#[tactic(auto, unfolding(run::specs::Run::begin, run::specs::Run::ended_by))]
 pub fn refused(m: Machine, refusal: Refusal) -> Answer
     ensures { (memory times bytes output : List ℕ) → end_of result memory output
         ≡ ended_by (Refused refusal) (begin (start_of m memory times bytes output)) }
 {
-    let report = Report {
-        steps: 0,
-        keys: 0,
-        shown: 0,
-        ending: Ending::Refused(refusal),
-    };
+    let report = Report::stopped(Ending::Refused(refusal));
     Answer { machine: m, report }
 }

@@ -15,16 +15,12 @@ use machine::{Control, Machine, Memory};
 use run::{Answer, Ending, Refusal, Report};
 
 // A step that is stopped before it began: the record as handed in, and zero counts.
+#[tactic(auto, unfolding(run::specs::Run::begin, run::specs::Run::ended_by))]
 fn stopped(m: Machine, ending: Ending) -> Answer
     ensures { (memory times bytes output : List ℕ) → end_of result memory output
         ≡ ended_by ending (begin (start_of m memory times bytes output)) }
 {
-    let report = Report {
-        steps: 0,
-        keys: 0,
-        shown: 0,
-        ending,
-    };
+    let report = Report::stopped(ending);
     Answer { machine: m, report }
 }
 
@@ -109,6 +105,6 @@ pub fn one_step(
 {
     let a = step(second, m, memory, times, bytes, output);
     let machine = a.machine;
-    let report = answers::report_of(a.report);
+    let report = Lc3Report::from(a.report);
     Called { machine, report }
 }
