@@ -18,8 +18,6 @@ use Rattle.telling.specs.Told.{touched_in}
 use borrow.Author.Rules.{rules}
 use Rattle.next_step.proofs.tell_step.Goals as goal
 
--- ---- the places, by their types
-
 pub returns : goal.returns
 unfolding step_by ended
 returns c =

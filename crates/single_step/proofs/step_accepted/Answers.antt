@@ -12,8 +12,6 @@ use Rattle.single_step.proofs.SingleLaws.{single_halts, single_makes, single_fil
 use borrow.Author.Rules.{rules}
 use Rattle.single_step.proofs.step_accepted.Goals as goal
 
--- ---- the places, by their types
-
 pub returns-then-m-lt32768 : goal.returns-then-m-lt32768
 returns-then-m-lt32768 c =
     let handed : Start =
