@@ -10,13 +10,10 @@ pub(crate) struct Outcome {
 }
 
 fn write_refusal<W: fmt::Write>(f: &mut fmt::Formatter<W>, refusal: Refusal) -> fmt::Result {
+    write!(f, "refused {}", u32::from(refusal))?;
     match refusal {
-        Refusal::MemorySize => write!(f, "refused 11"),
-        Refusal::UndefinedRecord => write!(f, "refused 12"),
-        Refusal::TooManySteps => write!(f, "refused 13"),
-        Refusal::UnequalLists => write!(f, "refused 14"),
-        Refusal::TimeBelowClock(entry) => write!(f, "refused 15 at entry {entry}"),
-        Refusal::TimesOutOfOrder(entry) => write!(f, "refused 19 at entry {entry}"),
+        Refusal::TimeBelowClock(entry) | Refusal::TimesOutOfOrder(entry) => write!(f, " at entry {entry}"),
+        _ => Ok(()),
     }
 }
 

@@ -4,16 +4,14 @@
 
 ghost use Rattle.std.specs.Prelude.{◌≡◌, List, ℕ};
 ghost use Rattle.run.specs.Call.{start_of};
-ghost use Rattle.logging.specs.LoggedRun.{run_ending};
-ghost use Rattle.logging.specs.LoggedCall.{logged_end_of, logged_call_of, second_logged_call_of, logged_stop};
+ghost use Rattle.logging.specs.LoggedCall.{logged_end_of, logged_call_of, second_logged_call_of};
 ghost use Rattle.lc3_logging.specs.LoggedAnswer.{logged_answered, logged_answer_of};
 
-use answers::{ending_stop, report_of};
-use logger::refused;
-use logger::stepping::run_accepted;
-use logging::{LoggedAnswer, LoggedEnding};
+use answers::Lc3Report;
+use logger::run_logged_by;
+use logging::LoggedAnswer;
 use machine::Machine;
-use run::{Ending, Refusal, Report};
+use run::Report;
 
 // What a logged run answers, 96 bytes: what a run does, and `logged`, the words written to the log. `stop` may be log
 // full, 3.
@@ -30,49 +28,28 @@ pub struct Lc3LoggedAnswer {
     pub stop: u32,
 }
 
-// The ending of the run apart from its log.
-fn run_ending(ending: LoggedEnding) -> Ending
-    ensures { result ≡ run_ending ending }
-{
-    match ending {
-        LoggedEnding::Run(e) => e,
-        LoggedEnding::LogFull => Ending::Done,
-    }
-}
-
-// The stop's number: the run's, or log full.
-fn stop_number(ending: LoggedEnding) -> u32
-    ensures { result ≡ logged_stop ending }
-{
-    match ending {
-        LoggedEnding::Run(e) => ending_stop(e),
-        LoggedEnding::LogFull => 3,
-    }
-}
-
 // What a logged run answers, in numbers alone.
-pub fn in_numbers(a: LoggedAnswer) -> Lc3LoggedAnswer
-    ensures { (memory output log : List ℕ) → logged_answered result memory output log
-        ≡ logged_answer_of (logged_end_of a memory output log) }
-{
-    let machine = a.machine;
-    let logged = a.ending;
-    let ending = run_ending(logged);
-    let r = report_of(Report {
-        steps: a.steps,
-        keys: a.keys,
-        shown: a.shown,
-        ending,
-    });
-    Lc3LoggedAnswer {
-        machine,
-        steps: r.steps,
-        keys: r.keys,
-        shown: r.shown,
-        logged: a.words as u64,
-        index: r.index,
-        refusal: r.refusal,
-        stop: stop_number(logged),
+impl From<LoggedAnswer> for Lc3LoggedAnswer {
+    ghost from_gives = { λ a r. (memory output log : List ℕ) → logged_answered r memory output log
+        ≡ logged_answer_of (logged_end_of a memory output log) };
+
+    fn from(a: LoggedAnswer) -> Lc3LoggedAnswer {
+        let r = Lc3Report::from(Report {
+            steps: a.steps,
+            keys: a.keys,
+            shown: a.shown,
+            ending: a.ending.run(),
+        });
+        Lc3LoggedAnswer {
+            machine: a.machine,
+            steps: r.steps,
+            keys: r.keys,
+            shown: r.shown,
+            logged: a.words as u64,
+            index: r.index,
+            refusal: r.refusal,
+            stop: a.ending.stop(),
+        }
     }
 }
 
@@ -90,13 +67,8 @@ pub fn lc3_run_logged(
         ≡ logged_answer_of (logged_call_of (start_of m memory.old times.now bytes.now
         output.old) log.old n) }
 {
-    let Some(whole) = memory.as_mut_array() else {
-        return in_numbers(refused(m, Refusal::MemorySize));
-    };
-    match refusals::admission(m, whole, times, bytes, n) {
-        Ok(()) => in_numbers(run_accepted(false, m, whole, times, bytes, output, log, n)),
-        Err(refusal) => in_numbers(refused(m, refusal)),
-    }
+    let a = run_logged_by(false, m, memory, times, bytes, output, log, n);
+    Lc3LoggedAnswer::from(a)
 }
 
 // The same by the rules of the second edition.
@@ -113,11 +85,6 @@ pub fn lc3_run_logged_second(
         ≡ logged_answer_of (second_logged_call_of (start_of m memory.old times.now bytes.now
         output.old) log.old n) }
 {
-    let Some(whole) = memory.as_mut_array() else {
-        return in_numbers(refused(m, Refusal::MemorySize));
-    };
-    match refusals::admission(m, whole, times, bytes, n) {
-        Ok(()) => in_numbers(run_accepted(true, m, whole, times, bytes, output, log, n)),
-        Err(refusal) => in_numbers(refused(m, refusal)),
-    }
+    let a = run_logged_by(true, m, memory, times, bytes, output, log, n);
+    Lc3LoggedAnswer::from(a)
 }

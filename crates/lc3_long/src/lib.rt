@@ -22,5 +22,5 @@ pub fn lc3_run_long(
         ≡ answer_of (call_of (start_of m memory.old times.now bytes.now
         output.old) n) }
 {
-    answers::answer_of(long_run::run(m, memory, times, bytes, output, n))
+    Lc3Answer::from(long_run::run(m, memory, times, bytes, output, n))
 }

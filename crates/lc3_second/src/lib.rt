@@ -5,7 +5,7 @@ ghost use Rattle.std.specs.Prelude.{◌≡◌};
 ghost use Rattle.run.specs.Call.{start_of, second_call_of};
 ghost use Rattle.answers.specs.Answer.{answer_of, answered};
 
-use answers::{Lc3Answer, answer_of, refused};
+use answers::{Lc3Answer, refused};
 use machine::Machine;
 use run::Refusal;
 use run_call::run_accepted;
@@ -27,7 +27,7 @@ pub fn lc3_run_second(
         return refused(m, Refusal::MemorySize);
     };
     match refusals::admission(m, whole, times, bytes, n) {
-        Ok(()) => answer_of(run_accepted(true, m, whole, times, bytes, output, n)),
+        Ok(()) => Lc3Answer::from(run_accepted(true, m, whole, times, bytes, output, n)),
         Err(refusal) => refused(m, refusal),
     }
 }

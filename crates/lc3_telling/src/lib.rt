@@ -8,8 +8,7 @@ ghost use Rattle.run.specs.Call.{start_of};
 ghost use Rattle.telling.specs.Told.{told_by};
 ghost use Rattle.lc3_telling.specs.ToldAnswer.{told_answer};
 
-use answers::report_of;
-use loop_parts::entries::rule_number;
+use answers::Lc3Report;
 use machine::Machine;
 use run::Report;
 use telling::{Addresses, Told};
@@ -28,28 +27,24 @@ pub struct Lc3Told {
     pub writes: Addresses,
 }
 
-fn in_numbers(t: Told) -> Lc3Told
-    ensures { result ≡ told_answer t }
-{
-    let ending = t.ending;
-    let r = report_of(Report {
-        steps: 0,
-        keys: 0,
-        shown: 0,
-        ending,
-    });
-    let touched = t.touched;
-    let rule = touched.rule;
-    let reads = touched.reads;
-    let writes = touched.writes;
-    Lc3Told {
-        index: r.index,
-        refusal: r.refusal,
-        stop: r.stop,
-        word: t.word,
-        reason: rule_number(rule),
-        reads,
-        writes,
+impl From<Told> for Lc3Told {
+    ghost from_gives = { λ t r. r ≡ told_answer t };
+
+    fn from(t: Told) -> Lc3Told {
+        let r = Lc3Report::from(Report::stopped(t.ending));
+        let touched = t.touched;
+        let rule = touched.rule;
+        let reads = touched.reads;
+        let writes = touched.writes;
+        Lc3Told {
+            index: r.index,
+            refusal: r.refusal,
+            stop: r.stop,
+            word: t.word,
+            reason: u16::from(rule),
+            reads,
+            writes,
+        }
     }
 }
 
@@ -57,12 +52,12 @@ pub fn lc3_tell(m: Machine, memory: &[u16], times: &[u64], bytes: &[u8]) -> Lc3T
     ensures { (output : List ℕ) → result ≡ told_answer (told_by third
         (start_of m memory.now times.now bytes.now output)) }
 {
-    in_numbers(next_step::tell(false, m, memory, times, bytes))
+    Lc3Told::from(next_step::tell(false, m, memory, times, bytes))
 }
 
 pub fn lc3_tell_second(m: Machine, memory: &[u16], times: &[u64], bytes: &[u8]) -> Lc3Told
     ensures { (output : List ℕ) → result ≡ told_answer (told_by second
         (start_of m memory.now times.now bytes.now output)) }
 {
-    in_numbers(next_step::tell(true, m, memory, times, bytes))
+    Lc3Told::from(next_step::tell(true, m, memory, times, bytes))
 }

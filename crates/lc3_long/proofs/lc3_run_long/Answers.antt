@@ -1,4 +1,4 @@
--- `lc3_run_long` meets its contract, by that of `run`, whose answer `answer_of` puts into numbers.
+-- `lc3_run_long` meets its contract, by that of `run`, whose answer `Lc3Answer::from` puts into numbers.
 use mathlib.Core.Path.{ap, ◌∙◌}
 use borrow.Author.Rules.{rules}
 use Rattle.answers.specs.Answer.{answer_of}
@@ -7,4 +7,4 @@ use Rattle.lc3_long.proofs.lc3_run_long.Goals as goal
 pub returns : goal.returns
 returns c =
     let went = c.run in
-    c.answer_of.ensures went.new.memory went.new.output ∙ ap answer_of went.ensures.output_after_2
+    c.from.ensures went.new.memory went.new.output ∙ ap answer_of went.ensures.output_after_2

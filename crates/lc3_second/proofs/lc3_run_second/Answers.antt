@@ -33,7 +33,7 @@ returns-in-Ok c =
     let admission = c.admission in
     let a = c.args in
     rw (← c.in-Some.ensures.cases.same, ← admission.ensures a.output.now, c.in-Ok.is)
-    (c.answer_of.ensures went.new.memory went.new.output ∙ ap answer_of went.ensures)
+    (c.from.ensures went.new.memory went.new.output ∙ ap answer_of went.ensures)
 
 pub returns-in-Err : goal.returns-in-Err
 unfolding call_by admitted_by
