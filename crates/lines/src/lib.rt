@@ -22,6 +22,7 @@ pub fn line(word: u16, output: &mut [u8]) -> Result<usize, Refusal>
 }
 
 // Whether the line of a word fits so many bytes. No line is longer than 17, so most calls need not ask for its length.
+#[tactic(auto, using(line::proofs::LongestLine::longest_line))]
 fn fits(word: u16, room: usize) -> bool
     ensures { result ≡ leb (length (line_of word)) room }
 {
