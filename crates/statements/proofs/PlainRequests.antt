@@ -125,9 +125,9 @@ is_nothing : Option Interrupt → Bool
 is_nothing None = true
 is_nothing (Some q) = false
 
-interrupt_is_not_nothing : (vector priority : ℕ) → Some (record { vector = vector; priority = priority }) ≡ None → ⊥
+interrupt_is_not_nothing : (q : Interrupt) → ◌≡◌ {A = Option Interrupt} (Some q) None → ⊥
 unfolding is_nothing
-interrupt_is_not_nothing vector priority h = true≢false (sym (ap is_nothing h))
+interrupt_is_not_nothing q h = true≢false (sym (ap is_nothing h))
 
 common_meets_none : (s : Start) (e : End) → CommonNext s e → exclusions_of (arriving s e) e.machine e.memory ≡ []
 common_meets_none s e c = go (pending_interrupt (after_start (arriving s e) e.machine)) refl
@@ -140,7 +140,7 @@ common_meets_none s e c = go (pending_interrupt (after_start (arriving s e) e.ma
         (exclusions_are_named (arriving s e) e.machine e.memory).named
     go (Some q) z =
         (exclusions_are_named (arriving s e) e.machine e.memory).none_at_interrupt
-        (λ n. interrupt_is_not_nothing vector priority (sym z ∙ n))
+        (λ n. interrupt_is_not_nothing q (sym z ∙ n))
 
 pub plain_request_10 : PlainRequest10
 unfolding exclusions_at
