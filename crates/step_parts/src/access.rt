@@ -17,9 +17,7 @@ use crate::words::{next, set_register};
 use machine::addresses::ACCESS_VECTOR;
 use machine::{Control, Memory, Rule};
 
-// The record after an instruction. Every field is written out, here and wherever a `Control` is made anew: a copy that
-// is then altered lets the compiler pack neighbouring fields into one word, which costs a step a quarter more
-// instructions.
+// The record after an instruction.
 fn after_instruction(c: Control, pc: u16, psr: u16) -> Control
     ensures { (regs : List ℕ) (clock : ℕ) (codes : Codes) → psr ≡ recoded codes c.psr → whole regs clock result
         ≡ after_instruction regs pc codes (whole regs clock c) }
