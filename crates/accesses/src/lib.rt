@@ -35,7 +35,7 @@ fn loaded_from(t: &State, c: &Claim, a: u16) -> Known
     match c.cell_at(a) {
         Cell::Fixed(w) => Known::Is(w),
         Cell::Hidden if a == 0x2FFF => Known::High,
-        _ => t.watched_at(c.watched, a),
+        _ => t.watched_at(c.watched, usize::from(a)),
     }
 }
 

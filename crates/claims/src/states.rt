@@ -56,10 +56,10 @@ fn forgotten(values: [Known; 8]) -> [Known; 8]
 }
 
 // The first place at which the word at a is watched.
-fn place(watched: &Watched, a: u16) -> Option<usize>
+fn place(watched: &Watched, a: usize) -> Option<usize>
     ensures { result ≡ position (λ w. w == a) watched.now }
 {
-    watched.iter().position(|w| *w == a)
+    watched.iter().position(|w| usize::from(*w) == a)
 }
 
 impl State {
@@ -111,7 +111,7 @@ impl State {
     }
 
     // What is known of the word at a, where it is watched.
-    pub fn watched_at(&self, watched: &Watched, a: u16) -> Known
+    pub fn watched_at(&self, watched: &Watched, a: usize) -> Known
         ensures { known result ≡ held a watched.now (known_state self.now).words }
     {
         match place(watched, a) {

@@ -1,9 +1,10 @@
 // The vectors, and the room between the monitor's words and its stack.
 #![tactic(auto)]
 
-ghost use Rattle.std.specs.Prelude.{◌≡◌, true, ◌≤◌, length};
-ghost use Rattle.sitting.specs.Test.{Claim as Test, cell_at, accepts, on_entry, leads_in, leads_back, room_holds};
-ghost use Rattle.claims.specs.Decoded.{known_state, claim_in};
+ghost use Rattle.std.specs.Prelude.{◌≡◌, true, ◌≤◌, length, List, ℕ};
+ghost use Rattle.sitting.specs.Test.{Claim as Test, Row, cell_at, accepts, on_entry, leads_in, leads_back, room_holds};
+ghost use Rattle.claims.specs.Encoding.{claim_with};
+ghost use Rattle.claims.specs.Decoded.{known_state, claim_in, claim_watching};
 ghost use Rattle.findings.specs.Finding.{wrong_vector, wrong_interrupt, wrong_vectors};
 ghost use Rattle.findings.specs.Found.{certified};
 
@@ -16,7 +17,7 @@ use machine::addresses::{KEYBOARD_VECTOR, TIMER_VECTOR};
 
 // What is known on entry from User mode, beside these watched words.
 fn entry(watched: &Watched) -> State
-    ensures { (c : Test) → c.watched ≡ watched.now → known_state result ≡ on_entry c }
+    ensures { (c : Test) → length c.watched ≡ 8 → known_state result ≡ on_entry c }
 {
     let mut regs = [Known::Any; 8];
     regs[6] = Known::Is(0x2FFE);
@@ -29,7 +30,8 @@ fn entry(watched: &Watched) -> State
 
 // The table knows no more there than what is known on entry from User mode.
 fn accepts_entry(c: &Claim, w: u16) -> bool
-    ensures { result ≡ accepts (claim_in c.now) w (on_entry (claim_in c.now)) }
+    ensures { (lowest : ℕ) (watched : List ℕ) → length watched ≡ 8 → result
+        ≡ accepts (claim_watching c.now lowest watched) w (on_entry (claim_watching c.now lowest watched)) }
 {
     c.accepts(w, &entry(c.watched))
 }
@@ -37,7 +39,8 @@ fn accepts_entry(c: &Claim, w: u16) -> bool
 // A vector word leads to where the table knows the entry.
 #[tactic(auto, unfolding(sitting::specs::Test::leads_in))]
 fn leads_in(c: &Claim, a: u16) -> bool
-    ensures { result ≡ leads_in (claim_in c.now) (cell_at (claim_in c.now).cells a) }
+    ensures { (lowest : ℕ) (watched : List ℕ) → length watched ≡ 8 → result
+        ≡ leads_in (claim_watching c.now lowest watched) (cell_at (claim_in c.now).cells a) }
 {
     match c.cell_at(a) {
         Cell::Fixed(w) => accepts_entry(c, w),
@@ -47,7 +50,8 @@ fn leads_in(c: &Claim, a: u16) -> bool
 
 // The first of the vectors x0000 to x0102 that does not.
 fn wrong_vector(c: &Claim) -> Result<(), Fault>
-    ensures { certified result ≡ wrong_vector (claim_in c.now) 0x0103 }
+    ensures { (lowest : ℕ) (watched : List ℕ) → length watched ≡ 8 → certified result
+        ≡ wrong_vector (claim_watching c.now lowest watched) 0x0103 }
 {
     for a in 0..0x0103 {
         if !leads_in(c, a) {
@@ -60,7 +64,8 @@ fn wrong_vector(c: &Claim) -> Result<(), Fault>
 // An interrupt's vector word leads to a lone RTI.
 #[tactic(auto, unfolding(sitting::specs::Test::leads_back, sitting::specs::Test::is_return))]
 fn leads_back(c: &Claim, a: u16) -> bool
-    ensures { result ≡ leads_back (claim_in c.now) (cell_at (claim_in c.now).cells a) }
+    ensures { (lowest : ℕ) (watched : List ℕ) → length watched ≡ 8 → result
+        ≡ leads_back (claim_watching c.now lowest watched) (cell_at (claim_in c.now).cells a) }
 {
     match c.cell_at(a) {
         Cell::Fixed(w) => accepts_entry(c, w) && c.cell_at(w) == Cell::Fixed(0x8000),
@@ -70,7 +75,8 @@ fn leads_back(c: &Claim, a: u16) -> bool
 
 #[tactic(auto, unfolding(findings::specs::Finding::wrong_interrupt, findings::specs::Finding::unless,),)]
 fn wrong_interrupt(c: &Claim, a: u16) -> Result<(), Fault>
-    ensures { certified result ≡ wrong_interrupt (claim_in c.now) a }
+    ensures { (lowest : ℕ) (watched : List ℕ) → length watched ≡ 8 → certified result
+        ≡ wrong_interrupt (claim_watching c.now lowest watched) a }
 {
     if !leads_back(c, a) {
         return Err(Fault::NoReturn(a));
@@ -81,7 +87,8 @@ fn wrong_interrupt(c: &Claim, a: u16) -> Result<(), Fault>
 // The first vector with which something is wrong: of traps and exceptions, of the keyboard, of the timer.
 #[tactic(auto, using(findings::proofs::FindingLaws::found), unfolding(findings::specs::Finding::wrong_vectors))]
 pub fn wrong_vectors(c: &Claim) -> Result<(), Fault>
-    ensures { certified result ≡ wrong_vectors (claim_in c.now) }
+    ensures { (lowest : ℕ) (watched : List ℕ) → length watched ≡ 8 → certified result
+        ≡ wrong_vectors (claim_watching c.now lowest watched) }
 {
     wrong_vector(c)?;
     wrong_interrupt(c, KEYBOARD_VECTOR)?;
@@ -91,7 +98,8 @@ pub fn wrong_vectors(c: &Claim) -> Result<(), Fault>
 // Four words for interrupts lie between the monitor's words and its stack, which has room for a trap's two.
 #[tactic(auto, using(findings::proofs::Laws::length_cells,), unfolding(sitting::specs::Test::room_holds,),)]
 pub fn has_room(c: &Claim) -> bool
-    ensures by_index { result ≡ room_holds (claim_in c.now) }
+    ensures by_index { (watched : List ℕ) (rows : List Row) → result
+        ≡ room_holds (claim_with c.now.memory.now c.now.kinds.now c.now.lowest watched rows) }
     ensures memory_len_bound { result ≡ true → length (claim_in c.now).cells ≤ 0x3000 }
 {
     let words = c.kinds.len().min(c.memory.len());

@@ -1,10 +1,11 @@
 // BR: what it leads to by what is known of the codes.
-ghost use Rattle.std.specs.Prelude.{◌≡◌, cond, eqb, not};
+ghost use Rattle.std.specs.Prelude.{◌≡◌, cond, eqb, not, List, ℕ};
 ghost use Rattle.machine.specs.Words.{word_and};
 ghost use Rattle.machine.specs.Psr.{codes_of};
 ghost use Rattle.sitting.specs.Test.{is_above, is_below, where_taken, where_not_taken, refined_if, either_way};
 ghost use Rattle.sitting.specs.Test.{accepts, branches};
 ghost use Rattle.sitting.specs.Values.{low, sum};
+ghost use Rattle.claims.specs.Encoding.{claim_of};
 ghost use Rattle.claims.specs.Decoded.{known_state, claim_in};
 
 use claims::Claim;
@@ -112,9 +113,14 @@ fn leads_by(mask: u8, codes: u16, there: u16, here: u16) -> u16
 }
 
 // A branch with this mask: the addresses where it is taken and where it is not.
-#[tactic(auto, unfolding(sitting::specs::Test::branches))]
+#[tactic(
+    auto,
+    unfolding(sitting::specs::Test::branches, sitting::specs::Test::either_way, sitting::specs::Test::accepts),
+)]
 pub fn branches(s: &State, c: &Claim, mask: u8, there: u16, here: u16) -> bool
-    ensures { result ≡ branches (claim_in c.now) (known_state s.now).codes mask there here (known_state s.now) }
+    ensures { (memory kinds : List ℕ) (lowest : ℕ) (watched : List ℕ) → result ≡ branches
+        (claim_of memory kinds lowest watched c.now.ends.now c.now.table.now)
+        (known_state s.now).codes mask there here (known_state s.now) }
 {
     match s.codes {
         Known::Unset => c.accepts(there, s) && c.accepts(here, s),

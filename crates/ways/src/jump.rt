@@ -1,7 +1,8 @@
 // Jumps to known addresses, TRAP in a routine, and RTI.
-ghost use Rattle.std.specs.Prelude.{◌≡◌, ◌≤◌};
+ghost use Rattle.std.specs.Prelude.{◌≡◌, ◌≤◌, List, ℕ};
 ghost use Rattle.sitting.specs.Test.{State as Tested, Claim as Test, cell_at, value_in, jumps_by, calls_by, returns_by};
 ghost use Rattle.sitting.specs.Values.{number_of};
+ghost use Rattle.claims.specs.Encoding.{claim_with};
 ghost use Rattle.claims.specs.Decoded.{known, known_state, claim_by};
 ghost use Rattle.accesses.specs.Leads.{reaches, Leads};
 ghost use Rattle.ways.specs.Ways.{Goes};
@@ -57,7 +58,8 @@ pub fn calls_by(t: &mut State, c: &Claim, pc: u16, vector: u16) -> Option<u16>
 // RTI: to User mode, where R6 is x2FFE; or back to a routine, where the two words on the stack are known.
 pub fn returns_to(t: &mut State, c: &Claim) -> Option<Way>
     requires { number_of (value_in (known_state t.old).regs 6) ≤ 0x2FFE }
-    ensures { Goes (claim_by c.now) result (known_state t.new)
+    ensures { (memory kinds : List ℕ) (lowest : ℕ) →
+        Goes (claim_with memory kinds lowest c.now.watched.now) result (known_state t.new)
         (λ c. returns_by c (value_in (known_state t.old).regs 6) (known_state t.old)) }
 {
     let Known::Is(sp) = t.register(6) else {
@@ -66,10 +68,10 @@ pub fn returns_to(t: &mut State, c: &Claim) -> Option<Way>
     if sp == 0x2FFE {
         return Some(Way::Out);
     }
-    let Known::Low = t.watched_at(c.watched, sp + 1) else {
+    let Known::Low = t.watched_at(c.watched, usize::from(sp) + 1) else {
         return None;
     };
-    let to = target_of(t.watched_at(c.watched, sp))?;
+    let to = target_of(t.watched_at(c.watched, usize::from(sp)))?;
     t.codes = Known::Unset;
     t.put_in(6, Known::Is(sp + 2));
     Some(Way::To(to))

@@ -1,7 +1,9 @@
 -- `vectors::accepts_entry` meets its contract.
-use Rattle.std.proofs.Common.{refl}
-use Rattle.claims.specs.Decoded.{claim_in}
+use Rattle.sitting.specs.Test.{accepts}
+use Rattle.claims.specs.Decoded.{claim_watching}
 use Rattle.vectors.proofs.accepts_entry.Goals as goal
 
 pub returns : goal.returns
-returns c = rw (c.entry.ensures (claim_in c.args.c.now) refl) at c.accepts.ensures
+unfolding accepts
+returns c = λ lowest watched n.
+    rw (c.entry.ensures (claim_watching c.args.c.now lowest watched) n) at c.accepts.ensures

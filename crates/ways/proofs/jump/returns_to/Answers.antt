@@ -15,10 +15,6 @@ pub returns-then-sp-eq12286 : goal.returns-then-sp-eq12286
 unfolding returns_by way_holds
 returns-then-sp-eq12286 c = grind (arith, common_steps)
 
-pub overflow_add-sp : goal.overflow_add-sp
-unfolding number_of
-overflow_add-sp c = grind (arith, common_steps)
-
 pub returns-in_default-watched_at : goal.returns-in_default-watched_at
 unfolding returns_by same kind_of
 returns-in_default-watched_at c = grind (arith, common_steps)
@@ -27,9 +23,9 @@ pub returns-in_err-to : goal.returns-in_err-to
 unfolding returns_by same kind_of number_of
 returns-in_err-to c = grind (arith, common_steps)
 
-pub overflow_add-sp-2 : goal.overflow_add-sp-2
+pub overflow_add-sp : goal.overflow_add-sp
 unfolding number_of
-overflow_add-sp-2 c = grind (arith, common_steps)
+overflow_add-sp c = grind (arith, common_steps)
 
 pub returns : goal.returns
 unfolding returns_by returning same kind_of number_of way_holds
