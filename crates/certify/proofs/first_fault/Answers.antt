@@ -9,12 +9,17 @@ use Rattle.certify.proofs.first_fault.Goals as goal
 pub returns-then-not-has_room : goal.returns-then-not-has_room
 returns-then-not-has_room c =
     let a = c.args.c.now in
-    wrong_room (claim_in a) a.ends.now a.table.now (sym c.has_room.ensures.by_index ∙ c.if-not-has_room.true)
+    wrong_room (claim_in a) a.ends.now a.table.now
+    (sym (c.has_room.ensures.by_index a.watched.now (claim_in a).table) ∙ c.if-not-has_room.true)
 
 pub returns-in_err-wrong_vectors : goal.returns-in_err-wrong_vectors
 unfolding wrong_with unless
-returns-in_err-wrong_vectors c = grind (arith, common_steps, found)
+returns-in_err-wrong_vectors c =
+    let a = c.args.c.now in
+    grind (arith, common_steps, found, c.wrong_vectors.ensures a.lowest a.watched.now (omega arith))
 
 pub returns : goal.returns
 unfolding wrong_with unless
-returns c = grind (arith, common_steps, found)
+returns c =
+    let a = c.args.c.now in
+    grind (arith, common_steps, found, c.wrong_vectors.ensures a.lowest a.watched.now (omega arith))
