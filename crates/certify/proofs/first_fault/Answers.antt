@@ -1,5 +1,5 @@
 -- `certify::first_fault` meets its contract.
-use Rattle.std.proofs.Common.{refl, sym, ◌∙◌, arith}
+use Rattle.std.proofs.Common.{sym, ◌∙◌, arith}
 use Rattle.std.proofs.lemmas.Grind.{common_steps}
 use Rattle.claims.specs.Decoded.{claim_in}
 use Rattle.findings.specs.Finding.{wrong_with, unless}
@@ -14,12 +14,8 @@ returns-then-not-has_room c =
 
 pub returns-in_err-wrong_vectors : goal.returns-in_err-wrong_vectors
 unfolding wrong_with unless
-returns-in_err-wrong_vectors c =
-    let a = c.args.c.now in
-    grind (arith, common_steps, found, c.wrong_vectors.ensures a.lowest a.watched.now refl)
+returns-in_err-wrong_vectors c = grind (arith, common_steps, found)
 
 pub returns : goal.returns
 unfolding wrong_with unless
-returns c =
-    let a = c.args.c.now in
-    grind (arith, common_steps, found, c.wrong_vectors.ensures a.lowest a.watched.now refl)
+returns c = grind (arith, common_steps, found)
