@@ -15,7 +15,7 @@ use claims::{Claim, Watched};
 use findings::Fault;
 use machine::addresses::{KEYBOARD_VECTOR, TIMER_VECTOR};
 
-// What is known on entry from User mode, beside these watched words.
+// What is known on entry from User mode, beside as many watched words as these.
 fn entry(watched: &Watched) -> State
     ensures { (c : Test) → length c.watched ≡ length watched.now → known_state result ≡ on_entry c }
 {
