@@ -15,9 +15,9 @@ use claims::{Claim, Watched};
 use findings::Fault;
 use machine::addresses::{KEYBOARD_VECTOR, TIMER_VECTOR};
 
-// What is known on entry from User mode, beside these watched words.
+// What is known on entry from User mode, beside as many watched words as these.
 fn entry(watched: &Watched) -> State
-    ensures { (c : Test) → length c.watched ≡ 8 → known_state result ≡ on_entry c }
+    ensures { (c : Test) → length c.watched ≡ length watched.now → known_state result ≡ on_entry c }
 {
     let mut regs = [Known::Any; 8];
     regs[6] = Known::Is(0x2FFE);
@@ -30,7 +30,7 @@ fn entry(watched: &Watched) -> State
 
 // The table knows no more there than what is known on entry from User mode.
 fn accepts_entry(c: &Claim, w: u16) -> bool
-    ensures { (lowest : ℕ) (watched : List ℕ) → length watched ≡ 8 → result
+    ensures { (lowest : ℕ) (watched : List ℕ) → length watched ≡ length c.now.watched.now → result
         ≡ accepts (claim_watching c.now lowest watched) w (on_entry (claim_watching c.now lowest watched)) }
 {
     c.accepts(w, &entry(c.watched))
@@ -39,7 +39,7 @@ fn accepts_entry(c: &Claim, w: u16) -> bool
 // A vector word leads to where the table knows the entry.
 #[tactic(auto, unfolding(sitting::specs::Test::leads_in))]
 fn leads_in(c: &Claim, a: u16) -> bool
-    ensures { (lowest : ℕ) (watched : List ℕ) → length watched ≡ 8 → result
+    ensures { (lowest : ℕ) (watched : List ℕ) → length watched ≡ length c.now.watched.now → result
         ≡ leads_in (claim_watching c.now lowest watched) (cell_at (claim_in c.now).cells a) }
 {
     match c.cell_at(a) {
@@ -50,7 +50,7 @@ fn leads_in(c: &Claim, a: u16) -> bool
 
 // The first of the vectors x0000 to x0102 that does not.
 fn wrong_vector(c: &Claim) -> Result<(), Fault>
-    ensures { (lowest : ℕ) (watched : List ℕ) → length watched ≡ 8 → certified result
+    ensures { (lowest : ℕ) (watched : List ℕ) → length watched ≡ length c.now.watched.now → certified result
         ≡ wrong_vector (claim_watching c.now lowest watched) 0x0103 }
 {
     for a in 0..0x0103 {
@@ -64,7 +64,7 @@ fn wrong_vector(c: &Claim) -> Result<(), Fault>
 // An interrupt's vector word leads to a lone RTI.
 #[tactic(auto, unfolding(sitting::specs::Test::leads_back, sitting::specs::Test::is_return))]
 fn leads_back(c: &Claim, a: u16) -> bool
-    ensures { (lowest : ℕ) (watched : List ℕ) → length watched ≡ 8 → result
+    ensures { (lowest : ℕ) (watched : List ℕ) → length watched ≡ length c.now.watched.now → result
         ≡ leads_back (claim_watching c.now lowest watched) (cell_at (claim_in c.now).cells a) }
 {
     match c.cell_at(a) {
@@ -75,7 +75,7 @@ fn leads_back(c: &Claim, a: u16) -> bool
 
 #[tactic(auto, unfolding(findings::specs::Finding::wrong_interrupt, findings::specs::Finding::unless,),)]
 fn wrong_interrupt(c: &Claim, a: u16) -> Result<(), Fault>
-    ensures { (lowest : ℕ) (watched : List ℕ) → length watched ≡ 8 → certified result
+    ensures { (lowest : ℕ) (watched : List ℕ) → length watched ≡ length c.now.watched.now → certified result
         ≡ wrong_interrupt (claim_watching c.now lowest watched) a }
 {
     if !leads_back(c, a) {
@@ -87,7 +87,7 @@ fn wrong_interrupt(c: &Claim, a: u16) -> Result<(), Fault>
 // The first vector with which something is wrong: of traps and exceptions, of the keyboard, of the timer.
 #[tactic(auto, using(findings::proofs::FindingLaws::found), unfolding(findings::specs::Finding::wrong_vectors))]
 pub fn wrong_vectors(c: &Claim) -> Result<(), Fault>
-    ensures { (lowest : ℕ) (watched : List ℕ) → length watched ≡ 8 → certified result
+    ensures { (lowest : ℕ) (watched : List ℕ) → length watched ≡ length c.now.watched.now → certified result
         ≡ wrong_vectors (claim_watching c.now lowest watched) }
 {
     wrong_vector(c)?;

@@ -1,7 +1,7 @@
 -- TRAP in a routine, by what is known of the vector.
 use Prim.Native.Nat.{ℕ}
 use mathlib.Core.Path.{◌≡◌, refl}
-use mathlib.Core.Bool.{Bool, false}
+use mathlib.Core.Bool.{false}
 use Rattle.sitting.specs.Test.{Claim, State, fixed, own, hidden, value_in, calling, calls_from, calls_by}
 use Rattle.ways.specs.Pushed.{pushed}
 

@@ -1,5 +1,5 @@
 -- What an instruction leads to that may also branch, or return to User mode.
-use Rattle.std.specs.Prelude.{ℕ, ◌≡◌, Bool, true, false, List, Option, Some, None}
+use Rattle.std.specs.Prelude.{◌≡◌, Bool, true, false, List, Option, Some, None}
 use Rattle.sitting.specs.Test.{State, Row, Claim, accepts, branches}
 use Rattle.ways.specs.declared.Way.{Way}
 use Rattle.ways.specs.declared.Way.TheVariants.{To, Fork, Out}

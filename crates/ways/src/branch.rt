@@ -61,17 +61,19 @@ fn where_not_taken(mask: u8, n: u16) -> bool
     }
 }
 
-#[tactic(auto, unfolding(sitting::specs::Test::either_way))]
+#[tactic(auto, unfolding(sitting::specs::Test::either_way, sitting::specs::Test::accepts))]
 fn either_way(s: &State, c: &Claim, mask: u8, there: u16, here: u16) -> bool
-    ensures { result ≡ either_way (claim_in c.now) mask there here (known_state s.now) }
+    ensures { (memory kinds : List ℕ) (lowest : ℕ) (watched : List ℕ) → result ≡ either_way
+        (claim_of memory kinds lowest watched c.now.ends.now c.now.table.now) mask there here (known_state s.now) }
 {
     c.accepts(there, s) && (mask == 7 || c.accepts(here, s))
 }
 
 // On a value below x8000.
-#[tactic(auto, unfolding(sitting::specs::Test::branches))]
+#[tactic(auto, unfolding(sitting::specs::Test::branches, sitting::specs::Test::accepts))]
 fn branches_on_low(s: &State, c: &Claim, mask: u8, there: u16, here: u16) -> bool
-    ensures { result ≡ branches (claim_in c.now) low mask there here (known_state s.now) }
+    ensures { (memory kinds : List ℕ) (lowest : ℕ) (watched : List ℕ) → result ≡ branches
+        (claim_of memory kinds lowest watched c.now.ends.now c.now.table.now) low mask there here (known_state s.now) }
 {
     match mask {
         3 => c.accepts(there, s),
@@ -113,10 +115,7 @@ fn leads_by(mask: u8, codes: u16, there: u16, here: u16) -> u16
 }
 
 // A branch with this mask: the addresses where it is taken and where it is not.
-#[tactic(
-    auto,
-    unfolding(sitting::specs::Test::branches, sitting::specs::Test::either_way, sitting::specs::Test::accepts),
-)]
+#[tactic(auto, unfolding(sitting::specs::Test::branches, sitting::specs::Test::accepts))]
 pub fn branches(s: &State, c: &Claim, mask: u8, there: u16, here: u16) -> bool
     ensures { (memory kinds : List ℕ) (lowest : ℕ) (watched : List ℕ) → result ≡ branches
         (claim_of memory kinds lowest watched c.now.ends.now c.now.table.now)

@@ -9,7 +9,8 @@ use Rattle.certify.proofs.first_fault.Goals as goal
 pub returns-then-not-has_room : goal.returns-then-not-has_room
 returns-then-not-has_room c =
     let a = c.args.c.now in
-    wrong_room (claim_in a) a.ends.now a.table.now (sym c.has_room.ensures.by_index ∙ c.if-not-has_room.true)
+    wrong_room (claim_in a) a.ends.now a.table.now
+    (sym (c.has_room.ensures.by_index a.watched.now (claim_in a).table) ∙ c.if-not-has_room.true)
 
 pub returns-in_err-wrong_vectors : goal.returns-in_err-wrong_vectors
 unfolding wrong_with unless

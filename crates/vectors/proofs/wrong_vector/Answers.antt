@@ -1,6 +1,5 @@
 -- `vectors::wrong_vector` meets its contract.
 use Rattle.std.proofs.Common.{refl, sym, ◌∙◌, arith}
-use borrow.Author.Tests.{not-false, not-true}
 use Rattle.claims.specs.Decoded.{claim_watching}
 use Rattle.findings.specs.Finding.{wrong_vector}
 use Rattle.findings.proofs.FindingLaws.{vectors_more, vectors_first}

@@ -5,5 +5,5 @@ use Rattle.findings.specs.Finding.{nothing_wrong, wrong_vector}
 use Rattle.vectors.proofs.wrong_vector.Given as goal
 
 abbrev pub invariant-loop-a : goal.invariant-loop-a
-invariant-loop-a l = (lowest : ℕ) (watched : List ℕ) → length watched ≡ 8
+invariant-loop-a l = (lowest : ℕ) (watched : List ℕ) → length watched ≡ length l.c.watched.now
     → nothing_wrong ≡ wrong_vector (claim_watching l.c lowest watched) l.a
