@@ -37,6 +37,7 @@ others_in_place m = record {
   start_to_c = refl;
   reading_to_c = refl;
   writing_to_c = refl;
+  writing_refused_to_c = refl;
 }
 
 pub answers_in_place : AnswersInPlace

@@ -2,6 +2,7 @@
 -- numbers are the same, and the counts of runs have bits beyond the fifteenth.
 use Rattle.std.specs.Prelude.{ℕ, ◌≡◌, Ok, Err, List, [], ◌∷◌, pos}
 use Rattle.word.specs.declared.Instruction.TheVariants.{Rti}
+use Rattle.word.specs.declared.WriteRefusal.TheVariants.{Field}
 use Rattle.lent.specs.declared.Refusal.TheVariants.{BrokenFile, OutsideUserWords}
 use Rattle.lent.specs.Lent.{counted, host_counted}
 use Rattle.machine.specs.declared.Machine.{Machine}
@@ -158,7 +159,8 @@ pub record OthersInPlace (m : Machine) : Type 0 where
       ≡ record { machine = m; words = 1; refusal = 2; memory = 3 ∷ [] }
   pub reading_to_c : flat_read_of (record { instruction = Rti; mask = 5 })
       ≡ record { instruction = flat 11 0 0 0 (pos 0); mask = 5 }
-  pub writing_to_c : host_answer (record { word = 1; refusal = 2 }) ≡ record { word = 1; refusal = 2 }
+  pub writing_to_c : host_answer (Ok 1) ≡ record { word = 1; refusal = 0 }
+  pub writing_refused_to_c : host_answer (Err Field) ≡ record { word = 0; refusal = 2 }
 
 pub record InPlace (m : Machine) : Type 0 where
   pub runs : RunsInPlace m
