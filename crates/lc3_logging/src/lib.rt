@@ -1,5 +1,6 @@
 // The logged run for hosts in C and Rust, by the rules of either edition. The two calls share one loop, which is
-// told the edition: it is a function by itself then, and takes less than within a call whose edition is a constant.
+// told the edition: it is a function by itself then, and takes less than within a call whose edition is a constant, or
+// within the function that both would share with the tests of the call.
 #![tactic(auto)]
 
 ghost use Rattle.std.specs.Prelude.{◌≡◌, List, ℕ};
@@ -8,10 +9,11 @@ ghost use Rattle.logging.specs.LoggedCall.{logged_end_of, logged_call_of, second
 ghost use Rattle.lc3_logging.specs.LoggedAnswer.{logged_answered, logged_answer_of};
 
 use answers::Lc3Report;
-use logger::run_logged_by;
+use logger::refused;
+use logger::stepping::run_accepted;
 use logging::LoggedAnswer;
 use machine::Machine;
-use run::Report;
+use run::{Refusal, Report};
 
 // What a logged run answers, 96 bytes: what a run does, and `logged`, the words written to the log. `stop` may be log
 // full, 3.
@@ -67,8 +69,13 @@ pub fn lc3_run_logged(
         ≡ logged_answer_of (logged_call_of (start_of m memory.old times.now bytes.now
         output.old) log.old n) }
 {
-    let a = run_logged_by(false, m, memory, times, bytes, output, log, n);
-    Lc3LoggedAnswer::from(a)
+    let Some(whole) = memory.as_mut_array() else {
+        return refused(m, Refusal::MemorySize).into();
+    };
+    match refusals::admission(m, whole, times, bytes, n) {
+        Ok(()) => run_accepted(false, m, whole, times, bytes, output, log, n).into(),
+        Err(refusal) => refused(m, refusal).into(),
+    }
 }
 
 // The same by the rules of the second edition.
@@ -85,6 +92,11 @@ pub fn lc3_run_logged_second(
         ≡ logged_answer_of (second_logged_call_of (start_of m memory.old times.now bytes.now
         output.old) log.old n) }
 {
-    let a = run_logged_by(true, m, memory, times, bytes, output, log, n);
-    Lc3LoggedAnswer::from(a)
+    let Some(whole) = memory.as_mut_array() else {
+        return refused(m, Refusal::MemorySize).into();
+    };
+    match refusals::admission(m, whole, times, bytes, n) {
+        Ok(()) => run_accepted(true, m, whole, times, bytes, output, log, n).into(),
+        Err(refusal) => refused(m, refusal).into(),
+    }
 }
