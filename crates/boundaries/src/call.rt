@@ -3,12 +3,15 @@ ghost use Rattle.std.specs.Prelude.{◌≡◌, ◌+◌, ◌%◌};
 
 use crate::outcome::Outcome;
 use machine::Machine;
-use std::io;
+use std::{array, io};
 
 // The output as it is lent.
 const BLANK: [u8; 16] = [0xAA; 16];
 
-// What a call is handed: the record, how many words of memory, the keys, and how many steps.
+// The most words of memory that a call is lent.
+const MOST_WORDS: usize = 65537;
+
+// What a call is handed: the record, how many words of memory, at most `MOST_WORDS`, the keys, and how many steps.
 #[derive(Clone, Copy)]
 pub(crate) struct Call<'a> {
     pub machine: Machine,
@@ -23,6 +26,13 @@ fn lent_word(address: usize) -> u16
     ensures { result ≡ 0x0E00 + address % 512 }
 {
     0x0E00 + (address % 512) as u16
+}
+
+fn is_as_lent(memory: &[u16]) -> bool {
+    memory
+        .iter()
+        .enumerate()
+        .all(|(address, word)| *word == lent_word(address))
 }
 
 impl<'a> Call<'a> {
@@ -55,19 +65,19 @@ impl<'a> Call<'a> {
     }
 
     // Makes the call, and prints its line.
-    pub fn print(self, rt: &(impl AllocGlobal + Print), text: &str) -> io::Result<()> {
-        let lent: Vec<u16> = (0..self.size).map(lent_word).collect(rt.alloc())?;
-        let mut memory = lent.clone()?;
+    pub fn print(self, rt: &impl Print, text: &str) -> io::Result<()> {
+        let mut words: [u16; MOST_WORDS] = array::from_fn(lent_word);
+        let memory = &mut words[..self.size.min(MOST_WORDS)];
         let mut output = BLANK;
         let answer = run_call::run(
             self.machine,
-            &mut memory,
+            memory,
             self.times,
             self.bytes,
             &mut output,
             self.steps,
         );
-        let unaltered = answer.machine == self.machine && memory == lent && output == BLANK;
+        let unaltered = answer.machine == self.machine && is_as_lent(memory) && output == BLANK;
         let outcome = Outcome {
             report: answer.report,
             unaltered,

@@ -1,8 +1,8 @@
 // The sitting in calls of some steps and bytes, with a table of them.
 use crate::printing::{Word, print_shown};
 use crate::sitting::{Mode, Sitting, is_over};
+use arrayvec::ArrayVec;
 use run::{Answer, Ending, Report};
-use std::alloc::Global;
 use std::io;
 
 // The most steps of one call.
@@ -40,18 +40,19 @@ fn print_row(rt: &impl Print, call: u64, answer: Answer, shown: &[u8]) -> io::Re
 }
 
 // Makes the calls and prints the table. Answers what the display shows at the end.
-pub(crate) fn sit(rt: &(impl AllocGlobal + Print), sitting: &mut Sitting) -> io::Result<Vec<u8>> {
+pub(crate) fn sit(rt: &impl Print, sitting: &mut Sitting) -> io::Result<ArrayVec<u8, DISPLAY>> {
     println!(rt; "call  steps  keys  shown  stop         clock  PC     mode        display")?;
-    let mut display = Vec::new(rt.alloc());
+    let mut display = ArrayVec::new();
     for call in 1..=CALLS {
-        let room = ROOM.min(DISPLAY.saturating_sub(display.len()));
+        let room = ROOM.min(display.remaining_capacity());
         let mut output = [0; ROOM];
         let output = &mut output[..room];
         let answer = sitting.call(STEPS, output);
         let Report { shown, ending, .. } = answer.report;
         let shown = output.get(..shown).unwrap_or(output);
         print_row(rt, call, answer, shown)?;
-        display.extend_from_slice(shown)?;
+        // A call shows no more than there is room for.
+        let _ = display.try_extend_from_slice(shown);
         if is_over(ending) {
             break;
         }

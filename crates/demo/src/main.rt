@@ -4,10 +4,9 @@
 
 use beside::{count_different, sit_beside};
 use machine::Machine;
-use printing::print_shown;
+use printing::{BestEffort, print_shown};
 use sitting::{Keys, Sitting};
 use starting::{ObjectFile, Source};
-use std::alloc::Global;
 use std::io;
 use std::rt::Files;
 
@@ -39,26 +38,26 @@ struct Exam {
 }
 
 impl Exam {
-    fn read(rt: &(impl AllocGlobal + Files)) -> io::Result<Exam> {
-        Ok(Exam {
-            candidate: ObjectFile::read(rt, "candidate.obj")?,
-            answers: ObjectFile::read(rt, "answers.obj")?,
-            other_answers: ObjectFile::read(rt, "other_answers.obj")?,
-            attack: ObjectFile::read(rt, "attack.obj")?,
-        })
+    fn read(rt: &impl Files) -> Exam {
+        Exam {
+            candidate: ObjectFile::read(rt, "candidate.obj"),
+            answers: ObjectFile::read(rt, "answers.obj"),
+            other_answers: ObjectFile::read(rt, "other_answers.obj"),
+            attack: ObjectFile::read(rt, "attack.obj"),
+        }
     }
 
     // The candidate's sitting with these answers.
-    fn sitting(&self, alloc: Global, answers: &ObjectFile) -> anyhow::Result<Sitting> {
-        Sitting::new(alloc, answers, &self.candidate, Source::Candidate, KEYS)
+    fn sitting(&self, answers: &ObjectFile) -> Sitting {
+        Sitting::new(answers, &self.candidate, Source::Candidate, KEYS)
     }
 
     // What the attack shows where it is loaded all the same, beside these answers.
-    fn stolen(&self, alloc: Global, answers: &ObjectFile) -> anyhow::Result<[u8; 1]> {
-        let mut sitting = Sitting::new(alloc, answers, &self.attack, Source::Examiner, NO_KEYS)?;
+    fn stolen(&self, answers: &ObjectFile) -> [u8; 1] {
+        let mut sitting = Sitting::new(answers, &self.attack, Source::Examiner, NO_KEYS);
         let mut shown = [0];
         sitting.call(100, &mut shown);
-        Ok(shown)
+        shown
     }
 }
 
@@ -77,8 +76,8 @@ fn introduce(rt: &impl Print) -> io::Result<()> {
 }
 
 // The sitting in calls, and its display. Answers the last record.
-fn in_calls(rt: &(impl AllocGlobal + Print), exam: &Exam) -> anyhow::Result<Machine> {
-    let mut sitting = exam.sitting(rt.alloc(), &exam.answers)?;
+fn in_calls(rt: &impl Print, exam: &Exam) -> io::Result<Machine> {
+    let mut sitting = exam.sitting(&exam.answers);
     println!(rt; "Object files, of which the last is run:")?;
     println!(rt; "  {}", sitting.answers)?;
     println!(rt; "  {}", sitting.program)?;
@@ -92,9 +91,9 @@ fn in_calls(rt: &(impl AllocGlobal + Print), exam: &Exam) -> anyhow::Result<Mach
 }
 
 // The sitting one step a call, beside one with other answers. Answers the last record of the first.
-fn in_steps(rt: &(impl AllocGlobal + Print), exam: &Exam) -> anyhow::Result<Machine> {
-    let mut sitting = exam.sitting(rt.alloc(), &exam.answers)?;
-    let mut other = exam.sitting(rt.alloc(), &exam.other_answers)?;
+fn in_steps(rt: &impl Print, exam: &Exam) -> io::Result<Machine> {
+    let mut sitting = exam.sitting(&exam.answers);
+    let mut other = exam.sitting(&exam.other_answers);
     println!(rt; "\nThe same in single steps, beside a sitting whose answers are other words.")?;
     println!(rt; "The candidate's program leaves User mode at these steps:\n")?;
     sit_beside(rt, &mut sitting, &mut other)?;
@@ -104,31 +103,26 @@ fn in_steps(rt: &(impl AllocGlobal + Print), exam: &Exam) -> anyhow::Result<Mach
 }
 
 // A file that would replace the vector of the access exception, and what comes of it.
-fn attack(rt: &(impl AllocGlobal + Print), exam: &Exam) -> anyhow::Result<()> {
+fn attack(rt: &impl Print, exam: &Exam) -> io::Result<()> {
     println!(rt;
         "\nAnother candidate hands in a file for x0102, the vector of the access exception:"
     )?;
-    let alloc = rt.alloc();
-    let mut sitting = exam.sitting(alloc, &exam.answers)?;
-    let before = sitting.memory.clone()?;
+    let mut sitting = exam.sitting(&exam.answers);
+    let before = sitting.memory;
     let started = exam.attack.start(Source::Candidate, &mut sitting.memory);
     println!(rt; "  {started}")?;
     let changed = count_different(&sitting.memory, &before);
     println!(rt; "Words of memory that it has changed: {changed}")?;
-    let first = exam.stolen(alloc, &exam.answers)?;
-    let second = exam.stolen(alloc, &exam.other_answers)?;
     print!(rt; "Loaded all the same it would show the first answer: ")?;
-    print_shown(rt, &first)?;
+    print_shown(rt, &exam.stolen(&exam.answers))?;
     print!(rt; " in the one sitting, ")?;
-    print_shown(rt, &second)?;
-    println!(rt; " in the other.")?;
-    Ok(())
+    print_shown(rt, &exam.stolen(&exam.other_answers))?;
+    println!(rt; " in the other.")
 }
 
-fn main(rt: HostRuntime) -> anyhow::Result<()> {
-    let rt = &rt;
+fn demonstrate(rt: &impl Print, files: &impl Files) -> io::Result<()> {
     introduce(rt)?;
-    let exam = Exam::read(rt)?;
+    let exam = Exam::read(files);
     let calls = in_calls(rt, &exam)?;
     let steps = in_steps(rt, &exam)?;
     if calls == steps {
@@ -139,4 +133,9 @@ fn main(rt: HostRuntime) -> anyhow::Result<()> {
         println!(rt; "In calls and in single steps the sitting ends with DIFFERENT records.")?;
     }
     attack(rt, &exam)
+}
+
+fn main(rt: HostRuntime) {
+    // By best effort no print answers an error.
+    let _ = demonstrate(&BestEffort(&rt), &rt);
 }

@@ -1,9 +1,8 @@
 // A sitting: the ready-made monitor, an examiner's answers and a candidate's program in memory, and a run of them in
 // calls, each of which goes on from the one before.
 use crate::starting::{ObjectFile, Source, Start};
-use machine::Machine;
+use machine::{Machine, Memory};
 use run::{Answer, Ending};
-use std::alloc::Global;
 use std::fmt;
 
 // Keys that have not arrived: when each will, and its byte.
@@ -29,30 +28,25 @@ pub(crate) struct Sitting {
     pub answers: Start,
     pub program: Start,
     pub machine: Machine,
-    pub memory: Vec<u16>,
+    pub memory: Memory,
     keys: Keys,
 }
 
 impl Sitting {
     // The answers and then the program are loaded, and the program's record is the one to run.
-    pub fn new(
-        alloc: Global,
-        answers: &ObjectFile,
-        program: &ObjectFile,
-        source: Source,
-        keys: Keys,
-    ) -> anyhow::Result<Sitting> {
-        let mut memory = vec![in alloc; 0; 65536]?;
-        installer::install(&mut memory)?;
+    pub fn new(answers: &ObjectFile, program: &ObjectFile, source: Source, keys: Keys) -> Sitting {
+        let mut memory = [0; 65536];
+        // 65,536 words are not refused.
+        let _ = installer::install(&mut memory);
         let answers = answers.start(Source::Examiner, &mut memory);
         let program = program.start(source, &mut memory);
-        Ok(Sitting {
+        Sitting {
             answers,
             program,
             machine: program.machine(),
             memory,
             keys,
-        })
+        }
     }
 
     // A call of at most so many steps, on what is left of the keys.

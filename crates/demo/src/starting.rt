@@ -1,11 +1,12 @@
 // Object files, read from the working folder, and started in memory.
 use crate::printing::Word;
+use arrayvec::ArrayVec;
 use lent::Refusal;
 use machine::Machine;
 use start::Started;
 use std::io::Read;
 use std::rt::Files;
-use std::{fmt, fs, io};
+use std::{fmt, fs};
 
 // Where the candidate's stack begins.
 const USER_STACK: u16 = 0xFDFF;
@@ -23,7 +24,7 @@ pub(crate) enum Source {
 #[derive(Drop)]
 pub(crate) struct ObjectFile {
     name: &'static str,
-    bytes: Vec<u8>,
+    bytes: ArrayVec<u8, FILE_BYTES>,
 }
 
 // What came of a start.
@@ -35,11 +36,12 @@ pub(crate) struct Start {
 
 impl ObjectFile {
     // By one read. A file that cannot be read is an empty one, which the start refuses.
-    pub fn read(rt: &(impl AllocGlobal + Files), name: &'static str) -> io::Result<ObjectFile> {
-        let mut bytes = vec![in rt.alloc(); 0; FILE_BYTES]?;
-        let count = fs::open(rt, name).and_then(|mut file| file.read(&mut bytes));
+    pub fn read(rt: &impl Files, name: &'static str) -> ObjectFile {
+        let mut buffer = [0; FILE_BYTES];
+        let count = fs::open(rt, name).and_then(|mut file| file.read(&mut buffer));
+        let mut bytes = ArrayVec::from_array_in((), buffer);
         bytes.truncate(count.unwrap_or(0));
-        Ok(ObjectFile { name, bytes })
+        ObjectFile { name, bytes }
     }
 
     // Loads the file into memory, and starts it in User mode.
