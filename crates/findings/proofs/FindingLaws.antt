@@ -26,21 +26,30 @@ use Rattle.findings.specs.Finding.{wrong_in_row, wrong_at, wrong_in_rows, wrong_
 
 -- ---- two answers
 
-pub found_first : (w : Fault) (f : Certified) → or_else (finding_of w) f ≡ finding_of w
-unfolding or_else wrong
-found_first NotEightWatched f = refl
-found_first NoRoom f = refl
-found_first (NoEntry a) f = refl
-found_first (NoReturn a) f = refl
-found_first (NotFixed a k) f = refl
-found_first (NotSound a k) f = refl
-found_first (NotHarmless a k) f = refl
-
-pub found_second : (f : Certified) → or_else nothing_wrong f ≡ f
+pub found_first : (f g : Certified) → (f.finding ≡ 0 → ⊥) → f ≡ or_else f g
 unfolding or_else
-found_second f = refl
+found_first f g n = rw (ne_eqb f.finding 0 n) refl
 
-pub ruleset found = (found_first, found_second)
+pub found_second : (f g : Certified) → f.finding ≡ 0 → g ≡ or_else f g
+unfolding or_else
+found_second f g e = rw (eq-eqb f.finding 0 e) refl
+
+-- The same of a fault, and of none.
+pub fault_first : (w : Fault) (f : Certified) → or_else (finding_of w) f ≡ finding_of w
+unfolding or_else wrong
+fault_first NotEightWatched f = refl
+fault_first NoRoom f = refl
+fault_first (NoEntry a) f = refl
+fault_first (NoReturn a) f = refl
+fault_first (NotFixed a k) f = refl
+fault_first (NotSound a k) f = refl
+fault_first (NotHarmless a k) f = refl
+
+pub nothing_first : (f : Certified) → or_else nothing_wrong f ≡ f
+unfolding or_else
+nothing_first f = refl
+
+pub ruleset found = (fault_first, nothing_first)
 
 -- ---- vectors
 
@@ -96,7 +105,7 @@ module _ (c : Claim) (pc : ℕ) (i : Instruction) (k : ℕ) (σ : State) where
 
 pub ruleset in_state = (wrong_stack, wrong_instruction, state_holds)
 
-pub ruleset in_row = (states_step, states_end, found_first, found_second)
+pub ruleset in_row = (states_step, states_end, fault_first, nothing_first)
 
 has_states : (n : ℕ) (ns : List ℕ) → 0 < n → is_empty (states_of n ns) ≡ false
 unfolding is_empty states_of
@@ -133,7 +142,7 @@ rows_end c table ends pc start j l = rw (past ends j l) refl
     past (x ∷ xs) zero h = absurd (omega arith)
     past (x ∷ xs) (suc n) h = past xs n (omega arith)
 
-pub ruleset in_rows = (rows_step, rows_end, found_first, found_second)
+pub ruleset in_rows = (rows_step, rows_end, fault_first, nothing_first)
 
 -- A word that is not fixed, with states and without.
 module _ (c : Claim) (pc start n : ℕ) (ns : List ℕ) where

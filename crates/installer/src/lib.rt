@@ -49,6 +49,7 @@ pub fn install(memory: &mut [u16]) -> Result<(), Refusal>
         return Err(Refusal::MemorySize);
     }
     memory[..512].copy_from_slice(&table::our_table());
-    memory[512..677].copy_from_slice(&listing::our_routines());
+    let routines = listing::our_routines();
+    memory[512..512 + routines.len()].copy_from_slice(&routines);
     Ok(())
 }

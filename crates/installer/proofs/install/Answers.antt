@@ -17,7 +17,7 @@ pub returns : goal.returns
 returns c =
     rw (
       c.copy_from_slice-2.ensures.after,
-      c.our_routines.ensures,
+      c.our_routines-routines.ensures,
       c.copy_from_slice.ensures.after,
       c.our_table.ensures,
     )
