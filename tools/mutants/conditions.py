@@ -2,7 +2,7 @@
 else of the record does. They find rows that are too much alike."""
 from __future__ import annotations
 
-from typing import Dict, Iterator, List, Optional
+from typing import Iterator, List, Optional
 
 from .alterations import Alteration
 from .modules import Definition, Equation, Primitive, Repository
@@ -69,7 +69,7 @@ class Conditions:
             return name
         if result == 'Outcome' and kind == 'Machine' and 'mem' in types:
             return f'(plain_outcome {name} mem)'
-        simple: Dict[str, str] = {'Bool': 'false', 'ℕ': '0', 'List ℕ': '[]', 'Pending': 'Nothing'}
+        simple = {'Bool': 'false', 'ℕ': '0', 'List ℕ': '[]', 'Option Interrupt': 'None'}
         return simple.get(result)
 
     def narrowed(self, definition: Definition, node: Node, types: Types) -> Iterator[Alteration]:

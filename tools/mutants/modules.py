@@ -64,6 +64,10 @@ class Primitive:
 
 
 Meaning = Union[Definition, RecordType, Constructor, Primitive]
+# The library's types that have constructors. A and E stand for any type.
+LIBRARY = {case.name: case for case in (
+    Constructor('None', 'Option A', []), Constructor('Some', 'Option A', ['A']),
+    Constructor('Ok', 'Result A E', ['A']), Constructor('Err', 'Result A E', ['E']))}
 
 
 @dataclass
@@ -201,7 +205,7 @@ class Repository:
         self.root = root
         self.modules: Dict[Tuple[str, str], Module] = {}
         self.fields: Dict[Tuple[str, str], List[Tuple[str, str]]] = {}
-        self.enums: Dict[str, List[Constructor]] = {}
+        self.enums: Dict[Tuple[str, str], List[Constructor]] = {}
         lines = (root / 'crates.txt').read_text().splitlines()
         self.crates = [re.split('[ :]', line)[0] for line in lines if line and line[0] != '#']
         for crate in self.crates:
@@ -235,7 +239,7 @@ class Repository:
                                         for field, kind in parts]
         for name, body in re.findall(r'pub enum (\w+)\s*\{([^}]*)\}', code):
             cases = re.findall(r'(\w+)(?:\(([^)]*)\))?\s*,', body)
-            self.enums[name] = [
+            self.enums[crate, name] = [
                 Constructor(case, name, [rust_type(kind) for kind in given.split(',') if kind])
                 for case, given in cases]
 
@@ -247,7 +251,7 @@ class Repository:
         for path, names in module.uses:
             match = PATH.match(path)
             for name, alias in names:
-                meaning: Optional[Meaning] = Primitive(name)
+                meaning: Optional[Meaning] = LIBRARY.get(name) or Primitive(name)
                 if match and match.group(1) in self.crates:
                     meaning = self.imported(match.group(1), match.group(2), name)
                 if meaning:
@@ -260,7 +264,7 @@ class Repository:
 
     def imported(self, crate: str, path: str, name: str) -> Optional[Meaning]:
         if path.startswith('declared.'):
-            cases = self.enums.get(path.split('.')[-2], []) if path.endswith('TheVariants') else []
+            cases = self.enums.get((crate, path.split('.')[-2]), [])
             return next((case for case in cases if case.name == name), None)
         source = self.modules[crate, path.split('.')[-1]]
         found = source.definitions.get(name) or source.constructors.get(name)

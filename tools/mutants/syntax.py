@@ -115,6 +115,11 @@ class Parser:
             return self.abstraction()
         if self.at_binder():
             return self.quantified()
+        if self.peek() == '{':                 # an implicit argument: no pattern stands for it
+            self.skip_braces()
+            if self.peek() == '→':
+                self.take()
+            return self.expression(least)
         left = self.application()
         while self.peek() in OPERATORS:
             binding, side = OPERATORS[str(self.peek())]

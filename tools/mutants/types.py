@@ -3,8 +3,8 @@ from __future__ import annotations
 
 from typing import Dict, List, Optional
 
-from .modules import Constructor, Definition, Equation, Module, Primitive, Repository
-from .syntax import Node, bare
+from .modules import LIBRARY, Constructor, Definition, Equation, Module, Primitive, Repository
+from .syntax import Node, Parser, bare, tokens, type_text
 from .values import BUILTINS
 
 Types = Dict[str, Optional[str]]
@@ -13,6 +13,12 @@ Types = Dict[str, Optional[str]]
 def plain(kind: str) -> str:
     """A type without its outer parentheses."""
     return kind[1:-1] if kind.startswith('(') and kind.endswith(')') else kind
+
+
+def parts(kind: str) -> List[str]:
+    """The name of a type and what it is applied to."""
+    node = Parser(tokens(kind, 0, len(kind))).expression()
+    return list(map(type_text, node.parts)) if node.kind == 'app' else [kind]
 
 
 class Typing:
@@ -24,7 +30,7 @@ class Typing:
         meaning = module.scope.get(name)
         if isinstance(meaning, Definition) and meaning.type is not None:
             return meaning.types()
-        if isinstance(meaning, Constructor):
+        if isinstance(meaning, Constructor) and meaning.name not in LIBRARY:
             return meaning.arguments + [meaning.type]
         if isinstance(meaning, Primitive) and meaning.name in BUILTINS:
             return BUILTINS[meaning.name].types()
@@ -99,10 +105,22 @@ class Typing:
             self.bind(module, pattern.parts[1], kind, types)
             return
         head = str(bare(pattern.parts[0]).value if pattern.kind == 'app' else pattern.value)
-        parts = pattern.parts[1:] if pattern.kind == 'app' else []
+        given = pattern.parts[1:] if pattern.kind == 'app' else []
         case = module.constructor(head, pattern.start)
         if head in ('suc', 'pos', 'negsuc') or case:
-            for part, inner in zip(parts, case.arguments if case else ['ℕ']):
+            held: List[Optional[str]] = self.held(module, case, kind) if case else ['ℕ']
+            for part, inner in zip(given, held):
                 self.bind(module, part, inner, types)
         elif head not in ('[]', 'true', 'false', 'zero', '_'):
             types[head] = kind
+
+    @staticmethod
+    def held(module: Module, case: Constructor, kind: Optional[str]) -> List[Optional[str]]:
+        """The types of what a constructor holds in a value of this type, which may be the name of
+        another one."""
+        meaning = module.scope.get(kind or '')
+        if isinstance(meaning, Definition) and meaning.is_statement() and meaning.equations:
+            kind = type_text(meaning.equations[0].body)
+        variables = parts(case.type)[1:]
+        known = dict(zip(variables, parts(kind)[1:])) if kind else {}
+        return [known.get(each) if each in variables else each for each in case.arguments]

@@ -163,6 +163,10 @@ def below(a: Case, b: Case) -> bool:
     return integer(a) < integer(b)
 
 
+def ok_and(result: Case, claim: Function) -> Value:
+    return result.name == 'Ok' and apply(claim, result.parts[0])
+
+
 @dataclass(frozen=True)
 class Builtin:
     arity: int
@@ -205,5 +209,8 @@ BUILTINS: Dict[str, Builtin] = {
     'neg_ℤ': Builtin(1, lambda a: signed(-integer(a)), 'ℤ → ℤ'),
     'pos': Builtin(1, lambda n: Case('pos', (n,)), 'ℕ → ℤ'),
     'negsuc': Builtin(1, lambda n: Case('negsuc', (n,)), 'ℕ → ℤ'),
+    'IsOk': Builtin(1, lambda result: result.name == 'Ok'),
+    'IsOkAnd': Builtin(2, ok_and),
+    'IsErrOf': Builtin(2, lambda result, error: result == Case('Err', (error,))),
     'are_bytes': Builtin(1, lambda values: all(v < 256 for v in elements(values)), 'List ℕ → Bool'),
 }
