@@ -8,8 +8,8 @@
   case (with `_lem` where a definition has that name), or is among the parts of others that
   PROOFS.md lists.
 
-Landing notes, the changelog, decisions, the port and the design pass tell of what stood in their
-time: they are left out, but for what stands before the first decision.
+Landing notes, the changelog, decisions, the port, the design pass and the look back at it tell of
+what stood in their time: they are left out, but for what stands before the first decision.
 """
 
 import os
@@ -163,7 +163,7 @@ def unknown(root: Path, documents: list[Path]) -> list[str]:
     told = [
         path
         for path in documents
-        if path.name not in ("CHANGELOG.md", "PORT.md", "DESIGN-PASS.md")
+        if path.name not in ("CHANGELOG.md", "PORT.md", "DESIGN-PASS.md", "LOOK-BACK.md")
         and path.parent.name != "landings"
     ]
     return names(root, told) + files(root, told) + places(root, told) + statements(root)
