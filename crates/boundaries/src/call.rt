@@ -3,7 +3,7 @@ ghost use Rattle.std.specs.Prelude.{◌≡◌, ◌+◌, ◌%◌};
 
 use crate::outcome::Outcome;
 use machine::Machine;
-use std::{array, io};
+use std::io;
 
 // The output as it is lent.
 const BLANK: [u8; 16] = [0xAA; 16];
@@ -66,7 +66,10 @@ impl<'a> Call<'a> {
 
     // Makes the call, and prints its line.
     pub fn print(self, rt: &impl Print, text: &str) -> io::Result<()> {
-        let mut words: [u16; MOST_WORDS] = array::from_fn(lent_word);
+        let mut words = [0u16; MOST_WORDS];
+        for (address, word) in words.iter_mut().enumerate() {
+            *word = lent_word(address);
+        }
         let memory = &mut words[..self.size.min(MOST_WORDS)];
         let mut output = BLANK;
         let answer = run_call::run(

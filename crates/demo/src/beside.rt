@@ -2,7 +2,7 @@
 // compared.
 use crate::printing::Word;
 use crate::sitting::{Mode, Sitting, is_over};
-use machine::Machine;
+use machine::{Machine, Memory};
 use std::{fmt, io};
 
 // The most steps of the sitting.
@@ -108,15 +108,17 @@ impl fmt::Display for Step {
 pub(crate) fn sit_beside(
     rt: &impl Print,
     first: &mut Sitting,
+    memory: &mut Memory,
     second: &mut Sitting,
+    other: &mut Memory,
 ) -> io::Result<()> {
     println!(rt; "clock  PC     R0 before  R0 after  to")?;
     let mut same = 0;
     for steps in 0..STEPS {
         let before = first.machine;
-        let word = first.next_word();
-        let a = first.step();
-        let b = second.step();
+        let word = first.next_word(memory);
+        let a = first.step(memory);
+        let b = second.step(other);
         let step = Step {
             before,
             after: a.machine,

@@ -2,6 +2,7 @@
 use crate::printing::{Word, print_shown};
 use crate::sitting::{Mode, Sitting, is_over};
 use arrayvec::ArrayVec;
+use machine::Memory;
 use run::{Answer, Ending, Report};
 use std::io;
 
@@ -40,14 +41,18 @@ fn print_row(rt: &impl Print, call: u64, answer: Answer, shown: &[u8]) -> io::Re
 }
 
 // Makes the calls and prints the table. Answers what the display shows at the end.
-pub(crate) fn sit(rt: &impl Print, sitting: &mut Sitting) -> io::Result<ArrayVec<u8, DISPLAY>> {
+pub(crate) fn sit(
+    rt: &impl Print,
+    sitting: &mut Sitting,
+    memory: &mut Memory,
+) -> io::Result<ArrayVec<u8, DISPLAY>> {
     println!(rt; "call  steps  keys  shown  stop         clock  PC     mode        display")?;
     let mut display = ArrayVec::new();
     for call in 1..=CALLS {
         let room = ROOM.min(display.remaining_capacity());
         let mut output = [0; ROOM];
         let output = &mut output[..room];
-        let answer = sitting.call(STEPS, output);
+        let answer = sitting.call(memory, STEPS, output);
         let Report { shown, ending, .. } = answer.report;
         let shown = output.get(..shown).unwrap_or(output);
         print_row(rt, call, answer, shown)?;

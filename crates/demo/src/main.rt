@@ -3,7 +3,7 @@
 #![tactic(auto)]
 
 use beside::{count_different, sit_beside};
-use machine::Machine;
+use machine::{Machine, Memory};
 use printing::{BestEffort, print_shown};
 use sitting::{Keys, Sitting};
 use starting::{ObjectFile, Source};
@@ -48,15 +48,22 @@ impl Exam {
     }
 
     // The candidate's sitting with these answers.
-    fn sitting(&self, answers: &ObjectFile) -> Sitting {
-        Sitting::new(answers, &self.candidate, Source::Candidate, KEYS)
+    fn sitting(&self, memory: &mut Memory, answers: &ObjectFile) -> Sitting {
+        Sitting::new(memory, answers, &self.candidate, Source::Candidate, KEYS)
     }
 
     // What the attack shows where it is loaded all the same, beside these answers.
     fn stolen(&self, answers: &ObjectFile) -> [u8; 1] {
-        let mut sitting = Sitting::new(answers, &self.attack, Source::Examiner, NO_KEYS);
+        let mut memory = [0; 65536];
+        let mut sitting = Sitting::new(
+            &mut memory,
+            answers,
+            &self.attack,
+            Source::Examiner,
+            NO_KEYS,
+        );
         let mut shown = [0];
-        sitting.call(100, &mut shown);
+        sitting.call(&mut memory, 100, &mut shown);
         shown
     }
 }
@@ -77,14 +84,15 @@ fn introduce(rt: &impl Print) -> io::Result<()> {
 
 // The sitting in calls, and its display. Answers the last record.
 fn in_calls(rt: &impl Print, exam: &Exam) -> io::Result<Machine> {
-    let mut sitting = exam.sitting(&exam.answers);
+    let mut memory = [0; 65536];
+    let mut sitting = exam.sitting(&mut memory, &exam.answers);
     println!(rt; "Object files, of which the last is run:")?;
     println!(rt; "  {}", sitting.answers)?;
     println!(rt; "  {}", sitting.program)?;
     println!(rt;
         "\nIn calls of at most 200 steps and 4 bytes, each going on from the one before:\n"
     )?;
-    let display = calls::sit(rt, &mut sitting)?;
+    let display = calls::sit(rt, &mut sitting, &mut memory)?;
     println!(rt; "\nThe display:\n")?;
     rt.write_all(&display)?;
     Ok(sitting.machine)
@@ -92,12 +100,14 @@ fn in_calls(rt: &impl Print, exam: &Exam) -> io::Result<Machine> {
 
 // The sitting one step a call, beside one with other answers. Answers the last record of the first.
 fn in_steps(rt: &impl Print, exam: &Exam) -> io::Result<Machine> {
-    let mut sitting = exam.sitting(&exam.answers);
-    let mut other = exam.sitting(&exam.other_answers);
+    let mut memory = [0; 65536];
+    let mut sitting = exam.sitting(&mut memory, &exam.answers);
+    let mut other_memory = [0; 65536];
+    let mut other = exam.sitting(&mut other_memory, &exam.other_answers);
     println!(rt; "\nThe same in single steps, beside a sitting whose answers are other words.")?;
     println!(rt; "The candidate's program leaves User mode at these steps:\n")?;
-    sit_beside(rt, &mut sitting, &mut other)?;
-    let different = count_different(&sitting.memory, &other.memory);
+    sit_beside(rt, &mut sitting, &mut memory, &mut other, &mut other_memory)?;
+    let different = count_different(&memory, &other_memory);
     println!(rt; "Words of memory that differ at the end: {different}")?;
     Ok(sitting.machine)
 }
@@ -107,11 +117,12 @@ fn attack(rt: &impl Print, exam: &Exam) -> io::Result<()> {
     println!(rt;
         "\nAnother candidate hands in a file for x0102, the vector of the access exception:"
     )?;
-    let mut sitting = exam.sitting(&exam.answers);
-    let before = sitting.memory;
-    let started = exam.attack.start(Source::Candidate, &mut sitting.memory);
+    let mut memory = [0; 65536];
+    exam.sitting(&mut memory, &exam.answers);
+    let before = memory;
+    let started = exam.attack.start(Source::Candidate, &mut memory);
     println!(rt; "  {started}")?;
-    let changed = count_different(&sitting.memory, &before);
+    let changed = count_different(&memory, &before);
     println!(rt; "Words of memory that it has changed: {changed}")?;
     print!(rt; "Loaded all the same it would show the first answer: ")?;
     print_shown(rt, &exam.stolen(&exam.answers))?;

@@ -22,51 +22,55 @@ impl Keys {
     }
 }
 
-#[derive(Drop)]
+// Its memory is lent to each call.
+#[derive(Clone, Copy)]
 pub(crate) struct Sitting {
     // The files that were started above the monitor.
     pub answers: Start,
     pub program: Start,
     pub machine: Machine,
-    pub memory: Memory,
     keys: Keys,
 }
 
 impl Sitting {
     // The answers and then the program are loaded, and the program's record is the one to run.
-    pub fn new(answers: &ObjectFile, program: &ObjectFile, source: Source, keys: Keys) -> Sitting {
-        let mut memory = [0; 65536];
+    pub fn new(
+        memory: &mut Memory,
+        answers: &ObjectFile,
+        program: &ObjectFile,
+        source: Source,
+        keys: Keys,
+    ) -> Sitting {
         // 65,536 words are not refused.
-        let _ = installer::install(&mut memory);
-        let answers = answers.start(Source::Examiner, &mut memory);
-        let program = program.start(source, &mut memory);
+        let _ = installer::install(memory);
+        let answers = answers.start(Source::Examiner, memory);
+        let program = program.start(source, memory);
         Sitting {
             answers,
             program,
             machine: program.machine(),
-            memory,
             keys,
         }
     }
 
     // A call of at most so many steps, on what is left of the keys.
-    pub fn call(&mut self, steps: u64, output: &mut [u8]) -> Answer {
+    pub fn call(&mut self, memory: &mut Memory, steps: u64, output: &mut [u8]) -> Answer {
         let Keys { times, bytes } = self.keys;
-        let answer = run_call::run(self.machine, &mut self.memory, times, bytes, output, steps);
+        let answer = run_call::run(self.machine, memory, times, bytes, output, steps);
         self.machine = answer.machine;
         self.keys = self.keys.after(answer.report.keys);
         answer
     }
 
     // A call of one step. What it shows is not kept.
-    pub fn step(&mut self) -> Answer {
-        self.call(1, &mut [0; 1])
+    pub fn step(&mut self, memory: &mut Memory) -> Answer {
+        self.call(memory, 1, &mut [0; 1])
     }
 
     // The word at the PC.
-    pub fn next_word(&self) -> u16 {
+    pub fn next_word(&self, memory: &Memory) -> u16 {
         let pc = usize::from(self.machine.pc);
-        self.memory.get(pc).copied().unwrap_or(0)
+        memory.get(pc).copied().unwrap_or(0)
     }
 }
 
