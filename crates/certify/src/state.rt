@@ -3,7 +3,7 @@ ghost use Rattle.std.specs.Prelude.{◌≡◌, true, ◌+◌, ◌*◌, ◌≤◌
 ghost use Rattle.std.specs.List.{list_all, zip};
 ghost use Rattle.sitting.specs.Values.{number_of};
 ghost use Rattle.sitting.specs.Test.{is_kept, sound, value_in};
-ghost use Rattle.claims.specs.Encoding.{state_of};
+ghost use Rattle.claims.specs.Encoding.{value_of, state_of};
 ghost use Rattle.claims.specs.Decoded.{known, known_state, claim_in};
 ghost use Rattle.findings.specs.Finding.{wrong_in};
 ghost use Rattle.findings.specs.Found.{certified};
@@ -28,13 +28,13 @@ fn is_kept(c: &Claim, sp: u16, w: u16, v: Known) -> bool
 fn all_kept(s: &State, c: &Claim, sp: u16) -> bool
     ensures same_len { length c.now.watched.now ≡ length s.now.words }
     ensures value { result
-        ≡ list_all (λ p. is_kept (claim_in c.now) sp p.0 (known p.1)) (zip c.now.watched.now s.now.words) }
+        ≡ list_all (λ p. is_kept (claim_in c.now) sp p.0 (value_of p.1)) (zip c.now.watched.now s.now.words) }
 {
     let watched = c.watched;
     watched
         .iter()
         .zip(&s.words)
-        .all(|(w, v)| is_kept(c, sp, *w, *v))
+        .all(|(w, v)| is_kept(c, sp, *w, Known::from(*v)))
 }
 
 // R6 is a known address of the stack, with the trap's two words above it.

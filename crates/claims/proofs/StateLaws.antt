@@ -14,48 +14,53 @@ use Rattle.std.specs.Prelude.{Some, None, nat_eq}
 use Rattle.std.specs.List.{list_all, zip, position, position_from}
 use Rattle.std.proofs.lemmas.List.Quantifiers.{position-Some}
 use Rattle.std.proofs.lemmas.Iterator.Adapters.{position_from-zero}
-use Rattle.sitting.specs.Values.{Value, any, forget, implies, all_imply, taking, besides, all_besides}
+use Rattle.sitting.specs.Values.{Value, unset, any, is, high, low, sum, allowed, kind_of, number_of, same}
+use Rattle.sitting.specs.Values.{forget, implies, all_imply, taking, besides, all_besides}
 use Rattle.sitting.specs.Test.{State, Claim, put, hidden, cell_at, covers, one_covers, held, stored_in, accepts}
 use Rattle.claims.specs.Encoding.{cell_of, cells_of, value_of, values_of, state_of, states_of, row_of, rows_of}
 use Rattle.claims.specs.Encoding.{start_of}
-use Rattle.claims.specs.Decoded.{known, known_state}
+use Rattle.claims.specs.Decoded.{known_state}
 use Rattle.claims.specs.declared.states.State.{State as Values}
-use Rattle.claims.specs.declared.values.Known.{Known}
-use Rattle.claims.specs.declared.values.Known.TheVariants.{Unset}
 
 -- ---- values
 
-pub values_decoded : (ns : List ℕ) (vs : List Known) → length vs ≡ length ns
-    → ((i : ℕ) → i < length ns → known (get_or vs i Unset) ≡ value_of (get_or ns i 0)) → map known vs ≡ values_of ns
-unfolding values_of
-values_decoded [] [] e h = refl
-values_decoded [] (v ∷ vs) e h = absurd (omega arith)
-values_decoded (n ∷ ns) [] e h = absurd (omega arith)
-values_decoded (n ∷ ns) (v ∷ vs) e h =
-    rw (h 0 (omega arith), values_decoded ns vs (omega arith) (λ i l. h (suc i) (omega arith)))
+pub says_itself : (v : Value) → implies v v ≡ true
+unfolding implies same kind_of number_of
+says_itself unset = refl
+says_itself any = refl
+says_itself (is n) = eq-eqb n n refl
+says_itself high = refl
+says_itself low = refl
+says_itself (sum n) = eq-eqb n n refl
+says_itself allowed = refl
 
-pub values_forgotten : (xs ys : List Known) → length ys ≡ length xs
-    → ((i : ℕ) → i < length xs → known (get_or ys i Unset) ≡ forget (known (get_or xs i Unset)))
-    → map known ys ≡ map forget (map known xs)
+pub values_mapped : (ns : List ℕ) → map value_of ns ≡ values_of ns
+unfolding values_of
+values_mapped [] = refl
+values_mapped (n ∷ ns) = rw (values_mapped ns) refl
+
+pub values_forgotten : (xs ys : List ℕ) → length ys ≡ length xs
+    → ((i : ℕ) → i < length xs → value_of (get_or ys i 0) ≡ forget (value_of (get_or xs i 0)))
+    → map value_of ys ≡ map forget (map value_of xs)
 values_forgotten [] [] e h = refl
 values_forgotten [] (y ∷ ys) e h = absurd (omega arith)
 values_forgotten (x ∷ xs) [] e h = absurd (omega arith)
 values_forgotten (x ∷ xs) (y ∷ ys) e h =
     rw (h 0 (omega arith), values_forgotten xs ys (omega arith) (λ i l. h (suc i) (omega arith)))
 
-pub all_said : (vs : List Known) (ns : List ℕ) → length vs ≡ length ns
-    → list_all (λ (p : Known × ℕ). implies (known p.0) (value_of p.1)) (zip vs ns)
-    ≡ all_imply (map known vs) (values_of ns)
+pub all_said : (vs : List ℕ) (ns : List ℕ) → length vs ≡ length ns
+    → list_all (λ (p : ℕ × ℕ). implies (value_of p.0) (value_of p.1)) (zip vs ns)
+    ≡ all_imply (map value_of vs) (values_of ns)
 unfolding values_of all_imply
 all_said [] [] e = refl
 all_said [] (n ∷ ns) e = absurd (omega arith)
 all_said (v ∷ vs) [] e = absurd (omega arith)
 all_said (v ∷ vs) (n ∷ ns) e = rw (all_said vs ns (omega arith)) refl
 
-pub known_set : (vs : List Known) (i : ℕ) (v : Known) → map known (set vs i v) ≡ set (map known vs) i (known v)
-known_set [] i v = refl
-known_set (x ∷ vs) zero v = refl
-known_set (x ∷ vs) (suc i) v = rw (known_set vs i v) refl
+pub known_set : (ns : List ℕ) (i n : ℕ) → map value_of (set ns i n) ≡ set (map value_of ns) i (value_of n)
+known_set [] i n = refl
+known_set (m ∷ ns) zero n = refl
+known_set (m ∷ ns) (suc i) n = rw (known_set ns i n) refl
 
 -- ---- a state says all that another says
 
@@ -67,9 +72,9 @@ last_words ns e =
 
 pub covers_by : (s : Values) (ns : List ℕ) → length s.regs ≡ 8 → length s.words ≡ 8 → length ns ≡ 17
     → covers (known_state s) (state_of ns)
-    ≡ (list_all (λ (p : Known × ℕ). implies (known p.0) (value_of p.1)) (zip s.regs (take 8 ns))
-    && (implies (known s.codes) (value_of (get_or ns 8 0))
-    && list_all (λ (p : Known × ℕ). implies (known p.0) (value_of p.1)) (zip s.words (take 8 (drop 9 ns)))))
+    ≡ (list_all (λ (p : ℕ × ℕ). implies (value_of p.0) (value_of p.1)) (zip s.regs (take 8 ns))
+    && (implies (value_of s.codes) (value_of (get_or ns 8 0))
+    && list_all (λ (p : ℕ × ℕ). implies (value_of p.0) (value_of p.1)) (zip s.words (take 8 (drop 9 ns)))))
 unfolding covers state_of
 covers_by s ns e f g =
     let n : length (take 8 ns) ≡ 8 = simp length-take (omega arith) in
@@ -78,9 +83,9 @@ covers_by s ns e f g =
 
 -- ---- watched words
 
-held_in : (a : ℕ) (ws : List ℕ) (vs : List Known) (j : ℕ) → length ws ≡ length vs → j < length ws
+held_in : (a : ℕ) (ws : List ℕ) (vs : List ℕ) (j : ℕ) → length ws ≡ length vs → j < length ws
     → nat_eq (get_or ws j 0) a ≡ true → ((k : ℕ) → k < j → nat_eq (get_or ws k 0) a ≡ false)
-    → known (get_or vs j Unset) ≡ held a ws (map known vs)
+    → value_of (get_or vs j 0) ≡ held a ws (map value_of vs)
 unfolding held
 held_in a [] vs j e l h n = absurd (omega arith)
 held_in a (w ∷ ws) [] j e l h n = absurd (omega arith)
@@ -89,52 +94,52 @@ held_in a (w ∷ ws) (v ∷ vs) (suc j) e l h n =
     rw (ne_eqb a w (λ z. eqb-false w a (n 0 (omega arith)) (sym z)))
     (held_in a ws vs j (omega arith) (omega arith) h (λ k b. n (suc k) (omega arith)))
 
-pub held_there : (a : ℕ) (ws : List ℕ) (vs : List Known) (j : ℕ) → length ws ≡ length vs
-    → position (λ (w : ℕ). nat_eq w a) ws ≡ Some j → known (get_or vs j Unset) ≡ held a ws (map known vs)
+pub held_there : (a : ℕ) (ws : List ℕ) (vs : List ℕ) (j : ℕ) → length ws ≡ length vs
+    → position (λ (w : ℕ). nat_eq w a) ws ≡ Some j → value_of (get_or vs j 0) ≡ held a ws (map value_of vs)
 held_there a ws vs j e h =
     let p = position-Some (λ (w : ℕ). nat_eq w a) ws j 0 h in
     held_in a ws vs j e p.0 p.1 p.2
 
-held_past : (a : ℕ) (ws : List ℕ) (vs : List Known) (i : ℕ) → position_from (λ (w : ℕ). nat_eq w a) i ws ≡ None
-    → any ≡ held a ws (map known vs)
+held_past : (a : ℕ) (ws : List ℕ) (vs : List ℕ) (i : ℕ) → position_from (λ (w : ℕ). nat_eq w a) i ws ≡ None
+    → any ≡ held a ws (map value_of vs)
 unfolding held
 held_past a [] vs i h = refl
 held_past a (w ∷ ws) [] i h = refl
 held_past a (w ∷ ws) (v ∷ vs) i h = go (eqb w a) refl (held_past a ws vs (i + 1))
   where
     go : (b : Bool) → eqb w a ≡ b
-        → (position_from (λ (w : ℕ). nat_eq w a) (i + 1) ws ≡ None → any ≡ held a ws (map known vs))
-        → any ≡ cond (eqb a w) (known v) (held a ws (map known vs))
+        → (position_from (λ (w : ℕ). nat_eq w a) (i + 1) ws ≡ None → any ≡ held a ws (map value_of vs))
+        → any ≡ cond (eqb a w) (value_of v) (held a ws (map value_of vs))
     go true e k = let z = rw e at h in cc
     go false e k = rw (ne_eqb a w (λ z. eqb-false w a e (sym z))) (k (rw e at h))
 
-pub held_nowhere : (a : ℕ) (ws : List ℕ) (vs : List Known)
-    → position (λ (w : ℕ). nat_eq w a) ws ≡ None → any ≡ held a ws (map known vs)
+pub held_nowhere : (a : ℕ) (ws : List ℕ) (vs : List ℕ)
+    → position (λ (w : ℕ). nat_eq w a) ws ≡ None → any ≡ held a ws (map value_of vs)
 held_nowhere a ws vs h = held_past a ws vs 0 (sym (position_from-zero (λ (w : ℕ). nat_eq w a) ws) ∙ h)
 
 -- A state after each of the first j watched words took the value, where it is the one at a.
-pub record Remembered (ws : List ℕ) (a : ℕ) (v : Known) (xs ys : List Known) (j : ℕ) : Type 0 where
+pub record Remembered (ws : List ℕ) (a : ℕ) (v : ℕ) (xs ys : List ℕ) (j : ℕ) : Type 0 where
   pub size : length ys ≡ length xs
-  pub done : (k : ℕ) → k < j → get_or ys k Unset ≡ cond (eqb (get_or ws k 0) a) v (get_or xs k Unset)
-  pub rest : (k : ℕ) → j ≤ k → get_or ys k Unset ≡ get_or xs k Unset
+  pub done : (k : ℕ) → k < j → get_or ys k 0 ≡ cond (eqb (get_or ws k 0) a) v (get_or xs k 0)
+  pub rest : (k : ℕ) → j ≤ k → get_or ys k 0 ≡ get_or xs k 0
 
-pub none_remembered : (ws : List ℕ) (a : ℕ) (v : Known) (xs : List Known) → Remembered ws a v xs xs 0
+pub none_remembered : (ws : List ℕ) (a : ℕ) (v : ℕ) (xs : List ℕ) → Remembered ws a v xs xs 0
 none_remembered ws a v xs = record { size = refl; done = λ k l. absurd (omega arith); rest = λ k l. refl }
 
-pub one_remembered : (ws : List ℕ) (a : ℕ) (v : Known) (xs ys : List Known) (j : ℕ) → Remembered ws a v xs ys j
+pub one_remembered : (ws : List ℕ) (a : ℕ) (v : ℕ) (xs ys : List ℕ) (j : ℕ) → Remembered ws a v xs ys j
     → j < length xs → get_or ws j 0 ≡ a → Remembered ws a v xs (set ys j v) (j + 1)
 one_remembered ws a v xs ys j f l e = record {
   size = length-set ys j v ∙ f.size;
   done = λ k h. elim (dec_le (suc k) j) [
-    | yes b ↦ get_or-set_other ys j k v Unset (λ z. absurd (omega arith)) ∙ f.done k b
+    | yes b ↦ get_or-set_other ys j k v 0 (λ z. absurd (omega arith)) ∙ f.done k b
     | no b ↦
         let z : k ≡ j = omega arith in
-        rw (z, get_or-set_same ys j v Unset (omega (arith, f.size)), eq-eqb (get_or ws j 0) a e) refl
+        rw (z, get_or-set_same ys j v 0 (omega (arith, f.size)), eq-eqb (get_or ws j 0) a e) refl
   ];
-  rest = λ k h. get_or-set_other ys j k v Unset (λ z. absurd (omega arith)) ∙ f.rest k (omega arith);
+  rest = λ k h. get_or-set_other ys j k v 0 (λ z. absurd (omega arith)) ∙ f.rest k (omega arith);
 }
 
-pub same_remembered : (ws : List ℕ) (a : ℕ) (v : Known) (xs ys : List Known) (j : ℕ) → Remembered ws a v xs ys j
+pub same_remembered : (ws : List ℕ) (a : ℕ) (v : ℕ) (xs ys : List ℕ) (j : ℕ) → Remembered ws a v xs ys j
     → (get_or ws j 0 ≡ a → ⊥) → Remembered ws a v xs ys (j + 1)
 same_remembered ws a v xs ys j f n = record {
   size = f.size;
@@ -147,9 +152,9 @@ same_remembered ws a v xs ys j f n = record {
   rest = λ k h. f.rest k (omega arith);
 }
 
-stored_of : (ws : List ℕ) (xs ys : List Known) (a : ℕ) (v : Known) → length xs ≡ length ws → length ys ≡ length ws
-    → ((k : ℕ) → k < length ws → get_or ys k Unset ≡ cond (eqb (get_or ws k 0) a) v (get_or xs k Unset))
-    → map known ys ≡ stored_in a (known v) ws (map known xs)
+stored_of : (ws : List ℕ) (xs ys : List ℕ) (a : ℕ) (v : ℕ) → length xs ≡ length ws → length ys ≡ length ws
+    → ((k : ℕ) → k < length ws → get_or ys k 0 ≡ cond (eqb (get_or ws k 0) a) v (get_or xs k 0))
+    → map value_of ys ≡ stored_in a (value_of v) ws (map value_of xs)
 unfolding stored_in
 stored_of [] [] [] a v e f h = refl
 stored_of [] [] (y ∷ ys) a v e f h = absurd (omega arith)
@@ -160,13 +165,13 @@ stored_of (w ∷ ws) (x ∷ xs) (y ∷ ys) a v e f h =
     rw (h 0 (omega arith), stored_of ws xs ys a v (omega arith) (omega arith) (λ k l. h (suc k) (omega arith)))
     (go (eqb w a))
   where
-    go : (b : Bool) → (known (cond b v x) ∷ stored_in a (known v) ws (map known xs))
-        ≡ (cond b (known v) (known x) ∷ stored_in a (known v) ws (map known xs))
+    go : (b : Bool) → (value_of (cond b v x) ∷ stored_in a (value_of v) ws (map value_of xs))
+        ≡ (cond b (value_of v) (value_of x) ∷ stored_in a (value_of v) ws (map value_of xs))
     go true = refl
     go false = refl
 
-pub all_remembered : (ws : List ℕ) (a : ℕ) (v : Known) (xs ys : List Known) → length xs ≡ length ws
-    → Remembered ws a v xs ys (length ws) → map known ys ≡ stored_in a (known v) ws (map known xs)
+pub all_remembered : (ws : List ℕ) (a : ℕ) (v : ℕ) (xs ys : List ℕ) → length xs ≡ length ws
+    → Remembered ws a v xs ys (length ws) → map value_of ys ≡ stored_in a (value_of v) ws (map value_of xs)
 all_remembered ws a v xs ys e r = stored_of ws xs ys a v e (r.size ∙ e) r.done
 
 -- ---- the rows of a table

@@ -2,7 +2,7 @@
 use Rattle.std.specs.Prelude.{ℕ, List, map}
 use Rattle.sitting.specs.Values.{Value, unset, any, is, high, low, sum, allowed}
 use Rattle.sitting.specs.Test.{Cell, fixed, own, hidden, State, Row, Claim}
-use Rattle.claims.specs.Encoding.{rows_of, claim_with, claim_of}
+use Rattle.claims.specs.Encoding.{value_of, rows_of, claim_with, claim_of}
 use Rattle.claims.specs.declared.Claim.{Claim as Numbers}
 use Rattle.claims.specs.declared.values.Known.{Known}
 use Rattle.claims.specs.declared.values.Known.TheVariants.{Unset, Any, Is, High, Low, Sum, Allowed}
@@ -20,7 +20,7 @@ known (Sum n) = sum n
 known Allowed = allowed
 
 abbrev pub known_state : Values → State
-known_state s = record { regs = map known s.regs; codes = known s.codes; words = map known s.words }
+known_state s = record { regs = map value_of s.regs; codes = value_of s.codes; words = map value_of s.words }
 
 abbrev pub known_cell : Word → Cell
 known_cell (Fixed w) = fixed w

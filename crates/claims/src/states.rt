@@ -8,21 +8,14 @@ ghost use Rattle.claims.specs.Changes.{forget_state, remember_in};
 ghost use Rattle.claims.specs.Decoded.{known, known_state};
 
 use crate::Watched;
-use crate::values::Known;
+use crate::values::{Known, says_as_much};
 
+// As in the table, a value is a number, which is decoded where it is looked at: most are only compared.
 #[derive(Clone, Copy)]
 pub struct State {
-    pub regs: [Known; 8],
-    pub codes: Known,
-    pub words: [Known; 8],
-}
-
-fn decoded(numbers: &[u32]) -> [Known; 8]
-    requires { length numbers.now ≡ 8 }
-    ensures { map known result ≡ values_of numbers.now }
-{
-    let numbers: [u32; 8] = numbers.try_into().unwrap();
-    numbers.map(Known::from)
+    pub regs: [u32; 8],
+    pub codes: u32,
+    pub words: [u32; 8],
 }
 
 // A state of the table: 17 numbers.
@@ -31,28 +24,35 @@ impl From<&[u32; 17]> for State {
 
     fn from(numbers: &[u32; 17]) -> State {
         State {
-            regs: decoded(&numbers[..8]),
-            codes: Known::from(numbers[8]),
-            words: decoded(&numbers[9..]),
+            regs: numbers[..8].try_into().unwrap(),
+            codes: numbers[8],
+            words: numbers[9..].try_into().unwrap(),
         }
     }
 }
 
-// Each of these values says all that the number in its place says.
-fn say_all(values: &[Known; 8], numbers: &[u32]) -> bool
+// Each of these values says all that the one in its place says.
+fn say_all(values: &[u32; 8], numbers: &[u32]) -> bool
     requires { length numbers.now ≡ 8 }
-    ensures { result ≡ list_all (λ p. implies (known p.0) (value_of p.1)) (zip values.now numbers.now) }
+    ensures { result ≡ list_all (λ p. implies (value_of p.0) (value_of p.1)) (zip values.now numbers.now) }
 {
     values
         .iter()
         .zip(numbers)
-        .all(|(v, n)| v.says_all(Known::from(*n)))
+        .all(|(v, n)| says_as_much(*v, *n))
 }
 
-fn forgotten(values: [Known; 8]) -> [Known; 8]
-    ensures { map known result ≡ map forget (map known values) }
+// What is left of a value where R0 changes.
+fn forgotten_in(n: u32) -> u32
+    ensures { value_of result ≡ forget (value_of n) }
 {
-    values.map(Known::forgotten)
+    u32::from(Known::from(n).forgotten())
+}
+
+fn forgotten(values: [u32; 8]) -> [u32; 8]
+    ensures { map value_of result ≡ map forget (map value_of values) }
+{
+    values.map(forgotten_in)
 }
 
 // The first place at which the word at a is watched.
@@ -69,14 +69,14 @@ impl State {
         ensures { result ≡ covers (known_state self.now) (state_of numbers.now) }
     {
         say_all(&self.regs, &numbers[..8])
-            && self.codes.says_all(Known::from(numbers[8]))
+            && says_as_much(self.codes, numbers[8])
             && say_all(&self.words, &numbers[9..])
     }
 
     pub fn register(&self, r: u8) -> Known
         ensures { known result ≡ value_in (known_state self.now).regs r }
     {
-        self.regs[usize::from(r % 8)]
+        Known::from(self.regs[usize::from(r % 8)])
     }
 
     // R0 changes.
@@ -84,7 +84,7 @@ impl State {
         ensures { known_state self.new ≡ forget_state (known_state self.old) }
     {
         self.regs = forgotten(self.regs);
-        self.codes = self.codes.forgotten();
+        self.codes = forgotten_in(self.codes);
         self.words = forgotten(self.words);
     }
 
@@ -95,9 +95,9 @@ impl State {
         let r = usize::from(r % 8);
         if r == 0 {
             self.forget();
-            self.regs[0] = v.forgotten();
+            self.regs[0] = u32::from(v.forgotten());
         } else {
-            self.regs[r] = v;
+            self.regs[r] = u32::from(v);
         }
     }
 
@@ -106,7 +106,7 @@ impl State {
     pub fn move_to(&mut self, r: u8, v: Known)
         ensures { known_state self.new ≡ moved r (known v) (known_state self.old) }
     {
-        self.codes = v;
+        self.codes = u32::from(v);
         self.put_in(r, v);
     }
 
@@ -115,7 +115,7 @@ impl State {
         ensures { known result ≡ held a watched.now (known_state self.now).words }
     {
         match place(watched, a) {
-            Some(j) => self.words[j],
+            Some(j) => Known::from(self.words[j]),
             None => Known::Any,
         }
     }
@@ -124,9 +124,10 @@ impl State {
     pub fn remember_at(&mut self, watched: &Watched, a: u16, v: Known)
         ensures { known_state self.new ≡ remember_in watched.now a (known v) (known_state self.old) }
     {
+        let n = u32::from(v);
         for (j, w) in watched.iter().enumerate() {
             if *w == a {
-                self.words[j] = v;
+                self.words[j] = n;
             }
         }
     }

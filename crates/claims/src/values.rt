@@ -36,6 +36,36 @@ impl From<u32> for Known {
     }
 }
 
+// And back.
+impl From<Known> for u32 {
+    ghost from_gives = { λ v n. value_of n ≡ known v };
+
+    #[tactic(auto, unfolding(crate::specs::Encoding::value_of, sitting::specs::Values::value_by))]
+    fn from(v: Known) -> u32 {
+        match v {
+            Known::Unset => 0,
+            Known::Any => 65536,
+            Known::Is(number) => 2 * 65536 + u32::from(number),
+            Known::High => 3 * 65536,
+            Known::Low => 4 * 65536,
+            Known::Sum(number) => 5 * 65536 + u32::from(number),
+            Known::Allowed => 6 * 65536,
+        }
+    }
+}
+
+// The value of the first number says all that the value of the second says: of a known word, or R0 plus one, only the
+// same number does.
+pub fn says_as_much(v: u32, w: u32) -> bool
+    ensures { result ≡ implies (value_of v) (value_of w) }
+{
+    v == w
+        || match Known::from(w) {
+            Known::Is(_) | Known::Sum(_) => false,
+            value => Known::from(v).says_all(value),
+        }
+}
+
 impl Known {
     // The first value says all that the second says.
     pub fn says_all(self, w: Known) -> bool

@@ -8,15 +8,13 @@ use lib.ListN.{length}
 use Rattle.sitting.specs.Values.{Value, is}
 use Rattle.sitting.specs.Test.{Claim, Cell, cell_at, is_kept, all_kept}
 use Rattle.sitting.specs.Test.{sound}
-use Rattle.claims.specs.Encoding.{cell_of, cells_of}
-use Rattle.claims.specs.Decoded.{known}
-use Rattle.claims.specs.declared.values.Known.{Known}
+use Rattle.claims.specs.Encoding.{value_of, cell_of, cells_of}
 use Rattle.std.specs.List.{list_all, zip}
 
 -- ---- watched words
 
-pub kept_by : (c : Claim) (sp : ℕ) (ws : List ℕ) (vs : List Known) → length ws ≡ length vs
-    → list_all (λ (p : ℕ × Known). is_kept c sp p.0 (known p.1)) (zip ws vs) ≡ all_kept c sp ws (map known vs)
+pub kept_by : (c : Claim) (sp : ℕ) (ws vs : List ℕ) → length ws ≡ length vs
+    → list_all (λ (p : ℕ × ℕ). is_kept c sp p.0 (value_of p.1)) (zip ws vs) ≡ all_kept c sp ws (map value_of vs)
 unfolding all_kept
 kept_by c sp [] [] e = refl
 kept_by c sp [] (v ∷ vs) e = absurd (omega arith)

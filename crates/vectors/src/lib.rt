@@ -19,12 +19,13 @@ use machine::addresses::{KEYBOARD_VECTOR, TIMER_VECTOR};
 fn entry(watched: &Watched) -> State
     ensures { (c : Test) → length c.watched ≡ length watched.now → known_state result ≡ on_entry c }
 {
-    let mut regs = [Known::Any; 8];
-    regs[6] = Known::Is(0x2FFE);
+    let any = u32::from(Known::Any);
+    let mut regs = [any; 8];
+    regs[6] = u32::from(Known::Is(0x2FFE));
     State {
         regs,
-        codes: Known::Unset,
-        words: [Known::Any; 8],
+        codes: u32::from(Known::Unset),
+        words: [any; 8],
     }
 }
 

@@ -91,7 +91,7 @@ fn accepts_refined(s: &State, c: &Claim, b: bool, pc: u16) -> bool
         return c.accepts(pc, s);
     }
     let mut refined = *s;
-    refined.regs[0] = Known::Allowed;
+    refined.regs[0] = u32::from(Known::Allowed);
     c.accepts(pc, &refined)
 }
 
@@ -121,7 +121,7 @@ pub fn branches(s: &State, c: &Claim, mask: u8, there: u16, here: u16) -> bool
         (claim_of memory kinds lowest watched c.now.ends.now c.now.table.now)
         (known_state s.now).codes mask there here (known_state s.now) }
 {
-    match s.codes {
+    match Known::from(s.codes) {
         Known::Unset => c.accepts(there, s) && c.accepts(here, s),
         Known::Is(n) => c.accepts(leads_by(mask, codes_of(n), there, here), s),
         Known::High => c.accepts(leads_by(mask, 4, there, here), s),

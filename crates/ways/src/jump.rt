@@ -72,7 +72,7 @@ pub fn returns_to(t: &mut State, c: &Claim) -> Option<Way>
         return None;
     };
     let to = target_of(t.watched_at(c.watched, usize::from(sp)))?;
-    t.codes = Known::Unset;
+    t.codes = u32::from(Known::Unset);
     t.put_in(6, Known::Is(sp + 2));
     Some(Way::To(to))
 }

@@ -11,7 +11,8 @@ unfolding put taking besides all_besides
 returns-then-r-eq0 c =
     let a = c.args in
     rw (
-      known_set c.forget.new.self.regs 0 c.forgotten.result,
+      known_set c.forget.new.self.regs 0 c.from.result,
+      c.from.ensures,
       c.forgotten.ensures,
       ap (λ (s : State). s.regs) c.forget.ensures,
       ap (λ (s : State). s.codes) c.forget.ensures,
@@ -24,4 +25,9 @@ unfolding put taking besides all_besides
 returns-else-r-eq0 c =
     let a = c.args in
     let e : c.from-r.result ≡ a.r % 8 = omega arith in
-    rw (known_set a.self.now.regs c.from-r.result a.v, e, ne_eqb (a.r % 8) 0 (λ z. omega arith)) refl
+    rw (
+      known_set a.self.now.regs c.from-r.result c.from-else-r-eq0.result,
+      c.from-else-r-eq0.ensures,
+      e,
+      ne_eqb (a.r % 8) 0 (λ z. omega arith),
+    ) refl

@@ -13,14 +13,14 @@ loop-j-preserved c =
           rw w.self-is (
             i.0,
             i.1,
-            one_remembered a.watched.now a.a a.v a.self.now.words c.loop-j.self.words c.loop-j.j
+            one_remembered a.watched.now a.a c.from-n.result a.self.now.words c.loop-j.self.words c.loop-j.j
                 i.2 (omega arith) (omega arith),
           )
       | else-w-a w ↦
           rw w.self-is (
             i.0,
             i.1,
-            same_remembered a.watched.now a.a a.v a.self.now.words c.loop-j.self.words c.loop-j.j
+            same_remembered a.watched.now a.a c.from-n.result a.self.now.words c.loop-j.self.words c.loop-j.j
                 i.2 (λ e. omega arith),
           )
     ]
@@ -33,6 +33,7 @@ returns c =
     rw (
       i.0,
       i.1,
-      all_remembered a.watched.now a.a a.v a.self.now.words c.loop-j.self.words (omega arith)
+      all_remembered a.watched.now a.a c.from-n.result a.self.now.words c.loop-j.self.words (omega arith)
           (rw e at i.2),
+      c.from-n.ensures,
     ) refl

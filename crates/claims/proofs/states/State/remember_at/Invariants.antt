@@ -7,4 +7,4 @@ use Rattle.claims.proofs.states.State.remember_at.Given as goal
 abbrev pub invariant-loop-j : goal.invariant-loop-j
 invariant-loop-j l =
     (l.self.regs ≡ l.fn.self.regs) × (l.self.codes ≡ l.fn.self.codes)
-    × Remembered l.watched l.a l.v l.fn.self.words l.self.words l.j
+    × Remembered l.watched l.a l.n l.fn.self.words l.self.words l.j

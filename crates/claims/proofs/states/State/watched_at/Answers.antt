@@ -6,7 +6,8 @@ use Rattle.claims.proofs.states.State.watched_at.Goals as goal
 pub returns-in-Some : goal.returns-in-Some
 returns-in-Some c =
     let a = c.args in
-    held_there a.a a.watched.now a.self.now.words c.in-Some.j (omega arith) (sym c.place.ensures ∙ c.in-Some.is)
+    c.from.ensures
+    ∙ held_there a.a a.watched.now a.self.now.words c.in-Some.j (omega arith) (sym c.place.ensures ∙ c.in-Some.is)
 
 pub returns-in-None : goal.returns-in-None
 returns-in-None c =
