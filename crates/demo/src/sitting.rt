@@ -4,6 +4,7 @@ use crate::starting::{ObjectFile, Source, Start};
 use machine::{Machine, Memory};
 use run::{Answer, Ending};
 use std::fmt;
+use std::rt::Files;
 
 // Keys that have not arrived: when each will, and its byte.
 #[derive(Clone, Copy)]
@@ -25,32 +26,32 @@ impl Keys {
 // Its memory is lent to each call.
 #[derive(Clone, Copy)]
 pub(crate) struct Sitting {
-    // The files that were started above the monitor.
-    pub answers: Start,
-    pub program: Start,
     pub machine: Machine,
     keys: Keys,
 }
 
 impl Sitting {
+    // Of a program that was started in memory.
+    pub fn of(program: Start, keys: Keys) -> Sitting {
+        Sitting {
+            machine: program.machine(),
+            keys,
+        }
+    }
+
     // The answers and then the program are loaded, and the program's record is the one to run.
     pub fn new(
+        rt: &impl Files,
         memory: &mut Memory,
-        answers: &ObjectFile,
-        program: &ObjectFile,
+        answers: ObjectFile,
+        program: ObjectFile,
         source: Source,
         keys: Keys,
     ) -> Sitting {
         // 65,536 words are not refused.
         let _ = installer::install(memory);
-        let answers = answers.start(Source::Examiner, memory);
-        let program = program.start(source, memory);
-        Sitting {
-            answers,
-            program,
-            machine: program.machine(),
-            keys,
-        }
+        answers.start(rt, Source::Examiner, memory);
+        Sitting::of(program.start(rt, source, memory), keys)
     }
 
     // A call of at most so many steps, on what is left of the keys.

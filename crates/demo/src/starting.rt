@@ -1,6 +1,5 @@
 // Object files, read from the working folder, and started in memory.
 use crate::printing::Word;
-use arrayvec::ArrayVec;
 use lent::Refusal;
 use machine::Machine;
 use start::Started;
@@ -21,11 +20,9 @@ pub(crate) enum Source {
     Examiner,
 }
 
-#[derive(Drop)]
-pub(crate) struct ObjectFile {
-    name: &'static str,
-    bytes: ArrayVec<u8, FILE_BYTES>,
-}
+// An object file in the working folder, by its name.
+#[derive(Clone, Copy)]
+pub(crate) struct ObjectFile(pub &'static str);
 
 // What came of a start.
 #[derive(Clone, Copy)]
@@ -35,25 +32,18 @@ pub(crate) struct Start {
 }
 
 impl ObjectFile {
-    // By one read. A file that cannot be read is an empty one, which the start refuses.
-    pub fn read(rt: &impl Files, name: &'static str) -> ObjectFile {
-        let mut buffer = [0; FILE_BYTES];
-        let count = fs::open(rt, name).and_then(|mut file| file.read(&mut buffer));
-        let mut bytes = ArrayVec::from_array_in((), buffer);
-        bytes.truncate(count.unwrap_or(0));
-        ObjectFile { name, bytes }
-    }
-
-    // Loads the file into memory, and starts it in User mode.
-    pub fn start(&self, source: Source, memory: &mut [u16]) -> Start {
+    // Loads the file into memory, and starts it in User mode. It is read at each start, by one read: one that cannot be
+    // read is an empty one, which the start refuses.
+    pub fn start(self, rt: &impl Files, source: Source, memory: &mut [u16]) -> Start {
+        let name = self.0;
+        let mut bytes = [0; FILE_BYTES];
+        let count = fs::open(rt, name).and_then(|mut file| file.read(&mut bytes));
+        let file = bytes.get(..count.unwrap_or(0)).unwrap_or(&[]);
         let answer = match source {
-            Source::Candidate => starter::start_user(&self.bytes, memory, USER_STACK),
-            Source::Examiner => starter::start(&self.bytes, memory, true, USER_STACK),
+            Source::Candidate => starter::start_user(file, memory, USER_STACK),
+            Source::Examiner => starter::start(file, memory, true, USER_STACK),
         };
-        Start {
-            name: self.name,
-            answer,
-        }
+        Start { name, answer }
     }
 }
 
